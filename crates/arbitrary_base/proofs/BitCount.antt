@@ -1,0 +1,96 @@
+-- Counts of bit lists, against std's counts of a number's digits.
+use Rattle.std.proofs.Common.{◌≡◌, ℕ, zero, suc, ◌+◌, ◌*◌, ◌^◌, ◌<◌, ◌≤◌, min, Bool, true, false, not, List, [], ◌∷◌, ◌++◌, reverse, length, refl, sym, ap, ◌∙◌, subst, arith, lt_of_lt_of_le}
+use Rattle.std.proofs.lemmas.List.{length-reverse, reverse-reverse, map-append}
+use Rattle.std.proofs.Math.Pow.{pow_mono}
+use Rattle.std.proofs.Math.Nat.{pow-suc}
+use Rattle.std.specs.Int.Count.{ones as set_digits, ones_step, count_leading_zeros, count_trailing_zeros, leading_of_zero, leading_length, leading_unique}
+use Rattle.arbitrary_base.specs.BitList.{digit, num, bits_not, ones, front, tail}
+use Rattle.arbitrary_base.proofs.BitNumber.{num-lt_of, num-append, cons-mod, cons-div}
+use Rattle.arbitrary_base.proofs.BitShift.{reverse-cons}
+
+pub ones-num : (l : List Bool) → set_digits (num l) ≡ ones l
+unfolding set_digits
+ones-num [] = refl
+ones-num (b ∷ l) = ones_step (num (b ∷ l)) ∙ rw (cons-mod b (num l), cons-div b (num l), ones-num l) refl
+
+pub ones-not : (l : List Bool) → ones l + ones (bits_not l) ≡ length l
+ones-not [] = refl
+ones-not (true ∷ l) = omega (arith, ones-not l)
+ones-not (false ∷ l) = omega (arith, ones-not l)
+
+pub front-le : (b : Bool) (l : List Bool) → front b l ≤ length l
+front-le b [] = omega arith
+front-le true (true ∷ l) = omega (arith, front-le true l)
+front-le true (false ∷ l) = omega arith
+front-le false (false ∷ l) = omega (arith, front-le false l)
+front-le false (true ∷ l) = omega arith
+
+pub tail-le : (b : Bool) (l : List Bool) → tail b l ≤ length l
+tail-le b l = omega (arith, front-le b (reverse l), length-reverse l)
+
+-- ---- ones, by the zeros of what is turned over
+
+pub front-not : (l : List Bool) → front true l ≡ front false (bits_not l)
+front-not [] = refl
+front-not (true ∷ l) = ap suc (front-not l)
+front-not (false ∷ l) = refl
+
+reverse-not : (l : List Bool) → reverse (bits_not l) ≡ bits_not (reverse l)
+reverse-not [] = refl
+reverse-not (b ∷ l) =
+    reverse-cons (not b) (bits_not l) ∙ rw (reverse-not l, reverse-cons b l, map-append not (reverse l) (b ∷ [])) refl
+
+pub tail-not : (l : List Bool) → tail true l ≡ tail false (bits_not l)
+tail-not l = front-not (reverse l) ∙ ap (front false) (sym (reverse-not l))
+
+-- ---- trailing zeros
+
+pub trailing-num : (l : List Bool) → count_trailing_zeros (length l) (num l) ≡ front false l
+unfolding count_trailing_zeros
+trailing-num [] = refl
+trailing-num (true ∷ l) = rw (cons-mod true (num l)) refl
+trailing-num (false ∷ l) = rw (cons-mod false (num l), cons-div false (num l), trailing-num l) refl
+
+-- a run that the list bounds
+pub front-append : (l m : List Bool) → min (front false (l ++ m)) (length l) ≡ front false l
+front-append [] m = omega arith
+front-append (true ∷ l) m = omega arith
+front-append (false ∷ l) m = omega (arith, front-append l m)
+
+-- ---- leading zeros
+
+-- one more place at the top: a zero, or a one
+leading-more : (k n : ℕ) → n < 2 ^ k → count_leading_zeros (suc k) n ≡ suc (count_leading_zeros k n)
+leading-more k n h =
+    let t = leading_length k n h in
+    sym (leading_unique (suc k) n (suc (count_leading_zeros k n)) t.0 (omega (arith, t.1)) t.2 t.3)
+
+leading-none : (k n : ℕ) → 2 ^ k ≤ n → n < 2 ^ suc k → count_leading_zeros (suc k) n ≡ 0
+leading-none k n l h = sym (leading_unique (suc k) n 0 (suc k) (omega arith) h (omega (arith, pow-suc 2 k)))
+
+num-reverse_cons : (b : Bool) (r : List Bool) → num (reverse (b ∷ r)) ≡ num (reverse r) + 2 ^ length r * digit b
+num-reverse_cons b r = rw (reverse-cons b r, num-append (reverse r) (b ∷ []), length-reverse r) (omega arith)
+
+num-reverse_lt : (r : List Bool) → num (reverse r) < 2 ^ length r
+num-reverse_lt r = num-lt_of (length r) (reverse r) (length-reverse r)
+
+leading-reverse : (r : List Bool) → count_leading_zeros (length r) (num (reverse r)) ≡ front false r
+leading-reverse [] = leading_of_zero 0
+leading-reverse (true ∷ r) =
+    leading-none (length r) (num (reverse (true ∷ r))) (omega (arith, num-reverse_cons true r)) (num-reverse_lt (true ∷ r))
+leading-reverse (false ∷ r) =
+    ap (count_leading_zeros (suc (length r))) (let e : num (reverse (false ∷ r)) ≡ num (reverse r) = omega (arith, num-reverse_cons false r) in e)
+    ∙ leading-more (length r) (num (reverse r)) (num-reverse_lt r) ∙ ap suc (leading-reverse r)
+
+pub leading-num : (l : List Bool) → count_leading_zeros (length l) (num l) ≡ tail false l
+leading-num l =
+    ap (λ (n : ℕ). count_leading_zeros n (num l)) (sym (length-reverse l))
+    ∙ subst (λ (m : List Bool). count_leading_zeros (length (reverse l)) (num m) ≡ tail false l) (reverse-reverse l) (leading-reverse (reverse l))
+
+-- the zeros above, in a wider pattern
+pub leading-wide : (d k n : ℕ) → n < 2 ^ k → count_leading_zeros (d + k) n ≡ d + count_leading_zeros k n
+leading-wide zero k n h = ap (λ (x : ℕ). count_leading_zeros x n) (let e : 0 + k ≡ k = omega arith in e) ∙ omega arith
+leading-wide (suc d) k n h =
+    ap (λ (x : ℕ). count_leading_zeros x n) (let e : suc d + k ≡ suc (d + k) = omega arith in e)
+    ∙ leading-more (d + k) n (lt_of_lt_of_le h (pow_mono (let e : k ≤ d + k = omega arith in e)))
+    ∙ omega (arith, leading-wide d k n h)

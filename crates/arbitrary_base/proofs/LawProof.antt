@@ -1,0 +1,86 @@
+-- The laws of specs/Laws: those that no other proof needs are proved here, and `laws` cites all by these names.
+use Rattle.std.specs.Prelude.{◌≡◌, ◌≢◌, ◌↔◌, ℕ, ℤ, Bool, true, false, pos, Option, Some, None, int_div, IsTrue, if◌then◌else◌, ◌||◌, ◌+ℤ◌, ◌*ℤ◌, ◌≤◌}
+use Rattle.std.specs.Ordering.{int_eq}
+use Rattle.std.proofs.Common.{arith, refl, ap, sym, ◌∙◌}
+use Rattle.std.proofs.lemmas.Int.{ints}
+use Rattle.std.proofs.lemmas.List.{reverse-reverse}
+use Rattle.std.proofs.Math.IntN.{*ℤ_comm}
+use Rattle.arbitrary_base.specs.Range.{InRange}
+use Rattle.arbitrary_base.specs.Residue.{Congruent, wrap}
+use Rattle.arbitrary_base.specs.Exact.{ExactOrNone, QuotientOrNone}
+use Rattle.arbitrary_base.proofs.Ring.{add-mul_z, mul_assoc_z}
+use Rattle.arbitrary_base.proofs.Congruence.{Congruent-refl, Congruent-add, Congruent-mul}
+use Rattle.arbitrary_base.proofs.Wrap.{wrap-of_in_range, wrap-in_range, wrap-congruent, wrap-unique, wrap-same}
+use Rattle.arbitrary_base.proofs.BitShift.{rotr-rotl, items-items}
+use Rattle.arbitrary_base.proofs.BitCount.{ones-not, front-le, tail-le}
+use Rattle.arbitrary_base.proofs.BitValue.{val-bits_in_range, bits-val}
+
+pub is-wrap : (s : Bool) (B : ℕ) (x y : ℤ) → 1 ≤ B → InRange s B y → Congruent B y x → y ≡ wrap s B x
+is-wrap s B x y h f c = sym (wrap-unique s B x y h f c)
+
+pub ruleset wrap_rules = (wrap-congruent, is-wrap)
+
+-- what is added, or multiplied by, may wrap first
+sum-left : (s : Bool) (B : ℕ) (x y : ℤ) → 1 ≤ B → wrap s B (wrap s B x +ℤ y) ≡ wrap s B (x +ℤ y)
+sum-left s B x y h = wrap-same s B _ _ h (Congruent-add B _ x y y (wrap-congruent s B x) (Congruent-refl B y))
+
+sum-right : (s : Bool) (B : ℕ) (x y : ℤ) → 1 ≤ B → wrap s B (x +ℤ wrap s B y) ≡ wrap s B (x +ℤ y)
+sum-right s B x y h = wrap-same s B _ _ h (Congruent-add B x x _ y (Congruent-refl B x) (wrap-congruent s B y))
+
+product-left : (s : Bool) (B : ℕ) (x y : ℤ) → 1 ≤ B → wrap s B (wrap s B x *ℤ y) ≡ wrap s B (x *ℤ y)
+product-left s B x y h = wrap-same s B _ _ h (Congruent-mul B _ x y y (wrap-congruent s B x) (Congruent-refl B y))
+
+product-right : (s : Bool) (B : ℕ) (x y : ℤ) → 1 ≤ B → wrap s B (x *ℤ wrap s B y) ≡ wrap s B (x *ℤ y)
+product-right s B x y h = wrap-same s B _ _ h (Congruent-mul B x x _ y (Congruent-refl B x) (wrap-congruent s B y))
+
+pub sums-commute : (s : Bool) (B : ℕ) (x y : ℤ) → wrap s B (x +ℤ y) ≡ wrap s B (y +ℤ x)
+sums-commute s B x y = ap (wrap s B) (omega (arith, ints))
+
+pub sums-associate : (s : Bool) (B : ℕ) (x y z : ℤ) → 1 ≤ B → wrap s B (wrap s B (x +ℤ y) +ℤ z) ≡ wrap s B (x +ℤ wrap s B (y +ℤ z))
+sums-associate s B x y z h = sum-left s B (x +ℤ y) z h ∙ ap (wrap s B) (omega (arith, ints)) ∙ sym (sum-right s B x (y +ℤ z) h)
+
+pub products-commute : (s : Bool) (B : ℕ) (x y : ℤ) → wrap s B (x *ℤ y) ≡ wrap s B (y *ℤ x)
+products-commute s B x y = ap (wrap s B) (*ℤ_comm x y)
+
+pub products-associate : (s : Bool) (B : ℕ) (x y z : ℤ) → 1 ≤ B → wrap s B (wrap s B (x *ℤ y) *ℤ z) ≡ wrap s B (x *ℤ wrap s B (y *ℤ z))
+products-associate s B x y z h = product-left s B (x *ℤ y) z h ∙ ap (wrap s B) (mul_assoc_z x y z) ∙ sym (product-right s B x (y *ℤ z) h)
+
+pub products-distribute : (s : Bool) (B : ℕ) (x y z : ℤ) → 1 ≤ B
+    → wrap s B (x *ℤ wrap s B (y +ℤ z)) ≡ wrap s B (wrap s B (x *ℤ y) +ℤ wrap s B (x *ℤ z))
+products-distribute s B x y z h =
+    let e : x *ℤ (y +ℤ z) ≡ x *ℤ y +ℤ x *ℤ z = *ℤ_comm x (y +ℤ z) ∙ add-mul_z y z x ∙ (λ i. *ℤ_comm y x i +ℤ *ℤ_comm z x i) in
+    product-right s B x (y +ℤ z) h ∙ ap (wrap s B) e
+    ∙ sym (sum-left s B (x *ℤ y) (wrap s B (x *ℤ z)) h ∙ sum-right s B (x *ℤ y) (x *ℤ z) h)
+
+pub ruleset wrapped_arithmetic_rules = (sums-commute, sums-associate, products-commute, products-associate, products-distribute)
+
+pub checked-tells : (s : Bool) (B : ℕ) (x : ℤ) (checked : Option ℤ) (wrapped : ℤ) (overflow : Bool) → 1 ≤ B
+    → ExactOrNone (λ y. y) s B x checked → wrapped ≡ wrap s B x → (IsTrue overflow ↔ ¬ (InRange s B x))
+    → checked ≡ (if overflow then None else Some wrapped)
+checked-tells s B x None w true h e q f = refl
+checked-tells s B x None w false h e q f = let t = f.1 e in cc
+checked-tells s B x (Some y) w true h e q f = absurd (f.0 refl e.0)
+checked-tells s B x (Some y) w false h e q f = ap Some (e.1 ∙ sym (wrap-of_in_range s B x h e.0) ∙ sym q)
+
+pub checked-quotient_tells : (s : Bool) (B : ℕ) (x y : ℤ) (checked : Option ℤ) (wrapped : ℤ) (overflow : Bool) → 1 ≤ B
+    → QuotientOrNone (λ q. q) s B x y checked
+    → (y ≢ pos 0 → (wrapped ≡ wrap s B (int_div x y)) × (IsTrue overflow ↔ ¬ (InRange s B (int_div x y))))
+    → checked ≡ (if int_eq y (pos 0) || overflow then None else Some wrapped)
+checked-quotient_tells s B x y checked w overflow h e f = by_divisor (int_eq y (pos 0)) refl checked e
+  where
+    zero-is : int_eq y (pos 0) ≡ true → y ≡ pos 0
+    zero-is p = grind (arith, ints)
+
+    other-is : int_eq y (pos 0) ≡ false → y ≢ pos 0
+    other-is p z = let t : int_eq y (pos 0) ≡ true = rw z refl in cc
+
+    by_divisor : (t : Bool) → int_eq y (pos 0) ≡ t → (checked : Option ℤ) → QuotientOrNone (λ q. q) s B x y checked
+        → checked ≡ (if int_eq y (pos 0) || overflow then None else Some w)
+    by_divisor true p None e = rw p refl
+    by_divisor true p (Some q) e = absurd (e.0 (zero-is p))
+    by_divisor false p None e = let n = other-is p in rw p (checked-tells s B (int_div x y) None w overflow h (e n) (f n).0 (f n).1)
+    by_divisor false p (Some q) e = let n = other-is p in rw p (checked-tells s B (int_div x y) (Some q) w overflow h (e.1, e.2) (f n).0 (f n).1)
+
+pub ruleset checked_rules = (checked-tells, checked-quotient_tells)
+
+pub ruleset bit_list_rules = (val-bits_in_range, bits-val, rotr-rotl, reverse-reverse, ones-not, front-le, tail-le, items-items)

@@ -1,0 +1,45 @@
+-- The laws of a ring that std's ℤ lacks.
+use Rattle.std.specs.Prelude.{◌≡◌, ℕ, ℤ, pos, negsuc, neg_ℤ, ◌+ℤ◌, ◌-ℤ◌, ◌*ℤ◌, ◌≤ℤ◌, ◌*◌, unsigned_abs}
+use Rattle.std.proofs.Common.{arith, refl, ap, sym, ◌∙◌}
+use Rattle.std.proofs.lemmas.Int.{ints}
+use borrow.Author.Differences.{up, down, sum_is_lem, product_is}
+
+pub add-mul_z : (a b c : ℤ) → (a +ℤ b) *ℤ c ≡ a *ℤ c +ℤ b *ℤ c
+add-mul_z a b c =
+    let s = sum_is_lem a b in
+    let u = ap (λ (n : ℕ). n * up c) s in
+    let d = ap (λ (n : ℕ). n * down c) s in
+    omega (arith, ints)
+
+pub mul_assoc_z : (a b c : ℤ) → (a *ℤ b) *ℤ c ≡ a *ℤ (b *ℤ c)
+mul_assoc_z a b c =
+    let p = product_is a b in
+    let q = product_is b c in
+    let p0 = ap (λ (n : ℕ). n * up c) p.0 in
+    let p1 = ap (λ (n : ℕ). n * down c) p.0 in
+    let p2 = ap (λ (n : ℕ). n * up c) p.1 in
+    let p3 = ap (λ (n : ℕ). n * down c) p.1 in
+    let q0 = ap (λ (n : ℕ). up a * n) q.0 in
+    let q1 = ap (λ (n : ℕ). down a * n) q.0 in
+    let q2 = ap (λ (n : ℕ). up a * n) q.1 in
+    let q3 = ap (λ (n : ℕ). down a * n) q.1 in
+    omega (arith, ints)
+
+zero-mul_z : (b : ℤ) → pos 0 *ℤ b ≡ pos 0
+zero-mul_z b = omega (arith, ints)
+
+neg-add_z : (a : ℤ) → neg_ℤ a +ℤ a ≡ pos 0
+neg-add_z a = omega (arith, ints)
+
+pub neg-mul_z : (a b : ℤ) → neg_ℤ a *ℤ b ≡ neg_ℤ (a *ℤ b)
+neg-mul_z a b =
+    let n : neg_ℤ a *ℤ b +ℤ a *ℤ b ≡ pos 0 = sym (add-mul_z (neg_ℤ a) a b) ∙ ap (λ (z : ℤ). z *ℤ b) (neg-add_z a) ∙ zero-mul_z b in
+    omega (arith, ints)
+
+pub sub-mul_z : (a b c : ℤ) → (a -ℤ b) *ℤ c ≡ a *ℤ c -ℤ b *ℤ c
+sub-mul_z a b c = add-mul_z a (neg_ℤ b) c ∙ ap (λ (z : ℤ). a *ℤ c +ℤ z) (neg-mul_z b c)
+
+-- a number from 0 up is its size
+pub pos-unsigned_abs : (z : ℤ) → pos 0 ≤ℤ z → pos (unsigned_abs z) ≡ z
+pos-unsigned_abs (pos n) h = refl
+pos-unsigned_abs (negsuc n) h = absurd (omega (arith, ints))

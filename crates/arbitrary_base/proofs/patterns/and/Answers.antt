@@ -1,0 +1,5 @@
+use Rattle.arbitrary_base.proofs.BitPattern.{and_pattern}
+use Rattle.arbitrary_base.proofs.patterns.and.Goals as goal
+
+pub returns : goal.returns
+returns c = and_pattern _ _ _ c.requires.left_fits c.requires.right_fits

@@ -1,0 +1,5 @@
+use Rattle.arbitrary_base.proofs.BitPattern.{xor_pattern}
+use Rattle.arbitrary_base.proofs.patterns.xor.Goals as goal
+
+pub returns : goal.returns
+returns c = xor_pattern _ _ _ c.requires.left_fits c.requires.right_fits

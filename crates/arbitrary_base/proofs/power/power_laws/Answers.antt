@@ -1,0 +1,8 @@
+use Rattle.arbitrary_base.proofs.Powers.{power-add, power-mul}
+use Rattle.arbitrary_base.proofs.power.power_laws.Goals as goal
+
+pub returns-clause-sums : goal.returns-clause-sums
+returns-clause-sums c = power-add
+
+pub returns-clause-products : goal.returns-clause-products
+returns-clause-products c = power-mul

@@ -1,0 +1,25 @@
+use Rattle.std.proofs.Common.{◌∙◌, ap}
+use Rattle.arbitrary_base.specs.Saturation.{clamp}
+use Rattle.arbitrary_base.proofs.Narrow.{InRange-wider}
+use Rattle.arbitrary_base.proofs.Clamp.{clamp-InRange}
+use Rattle.arbitrary_base.proofs.Squaring.{count-bound, far-end}
+use Rattle.arbitrary_base.proofs.power.saturating_pow_counted.Goals as goal
+use Rattle.arbitrary_base.proofs.power.saturating_pow_counted.Goals.{in-Some, in-None}
+
+pub exact_power-requires-clause-range : goal.exact_power-requires-clause-range
+exact_power-requires-clause-range g c = InRange-wider _ _ _ _ c.requires.width c.requires.storage c.requires.x_in
+
+pub returns-clause-value : goal.returns-clause-value
+returns-clause-value g c =
+    let n = g.T.Storage.number in
+    let s = g.T.Storage.SIGNED in
+    elim c.match-exact_power.branch [
+      | in-Some w ↦ ap n w.power-is ∙ w.clamped-power.ensures ∙ ap (clamp s c.args.bits) w.in-Some.ensures.value
+      | in-None w ↦ ap n w.power-is ∙ far-end s _ _ _ _ _ c.requires.width c.requires.storage w.in-None.ensures.value w.is_power_below_zero.ensures w.end-power.ensures
+    ]
+
+pub returns-clause-range : goal.returns-clause-range
+returns-clause-range g c = clamp-InRange _ _ _ _ c.requires.width (returns-clause-value g c)
+
+pub returns-clause-bound : goal.returns-clause-bound
+returns-clause-bound g c = count-bound _ _ c.ranges.exp.fits c.exact_power.ensures.counted

@@ -1,0 +1,9 @@
+pub mod Range
+pub mod Residue
+pub mod Saturation
+pub mod Exact
+pub mod BitList
+pub mod Power
+pub mod Order
+pub mod Watching
+pub mod Laws

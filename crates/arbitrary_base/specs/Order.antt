@@ -1,0 +1,8 @@
+-- The order of numbers that have no sign is that of whole numbers.
+use Rattle.std.specs.Prelude.{◌≡◌, ℕ, pos}
+use Rattle.std.specs.Ordering.{int_cmp, nat_cmp}
+use Rattle.std.proofs.Common.{arith}
+use Rattle.std.proofs.lemmas.Int.{ints}
+
+pub nat_cmp-pos : (a b : ℕ) → nat_cmp a b ≡ int_cmp (pos a) (pos b)
+nat_cmp-pos a b = grind (arith, ints)

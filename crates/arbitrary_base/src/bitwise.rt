@@ -1,0 +1,62 @@
+//! The bitwise operators at `bits` bits.
+
+ghost use Rattle.std.specs.Prelude.{◌≡◌, ◌≤◌};
+ghost use Rattle.arbitrary_base.specs.Range.{InRange};
+ghost use Rattle.arbitrary_base.specs.BitList.{bits as bit_list, val, bits_and, bits_or, bits_xor, bits_not};
+
+use crate::narrowing::{from_low_bits, low_bits};
+use crate::patterns;
+use crate::storage::Storage;
+
+/// The bits that are one in both numbers.
+#[tactic(auto, using(crate::proofs::BitResult::item_laws))]
+pub fn and<T: Storage>(x: T, y: T, bits: usize) -> T
+    requires width { 1 ≤ bits }
+    requires storage { bits ≤ T.WIDTH }
+    ensures value { T.number result ≡ val T.SIGNED (bits_and (bit_list bits (T.number x)) (bit_list bits (T.number y))) }
+    ensures range { InRange T.SIGNED bits (T.number result) }
+{
+    from_low_bits(
+        patterns::and(low_bits(x, bits), low_bits(y, bits), bits),
+        bits,
+    )
+}
+
+/// The bits that are one in at least one of the numbers.
+#[tactic(auto, using(crate::proofs::BitResult::item_laws))]
+pub fn or<T: Storage>(x: T, y: T, bits: usize) -> T
+    requires width { 1 ≤ bits }
+    requires storage { bits ≤ T.WIDTH }
+    ensures value { T.number result ≡ val T.SIGNED (bits_or (bit_list bits (T.number x)) (bit_list bits (T.number y))) }
+    ensures range { InRange T.SIGNED bits (T.number result) }
+{
+    from_low_bits(
+        patterns::or(low_bits(x, bits), low_bits(y, bits), bits),
+        bits,
+    )
+}
+
+/// The bits in which the numbers differ.
+#[tactic(auto, using(crate::proofs::BitResult::item_laws))]
+pub fn xor<T: Storage>(x: T, y: T, bits: usize) -> T
+    requires width { 1 ≤ bits }
+    requires storage { bits ≤ T.WIDTH }
+    ensures value { T.number result ≡ val T.SIGNED (bits_xor (bit_list bits (T.number x)) (bit_list bits (T.number y))) }
+    ensures range { InRange T.SIGNED bits (T.number result) }
+{
+    from_low_bits(
+        patterns::xor(low_bits(x, bits), low_bits(y, bits), bits),
+        bits,
+    )
+}
+
+/// Each of the `bits` bits turned over.
+#[tactic(auto, using(crate::proofs::BitResult::item_laws))]
+pub fn not<T: Storage>(x: T, bits: usize) -> T
+    requires width { 1 ≤ bits }
+    requires storage { bits ≤ T.WIDTH }
+    ensures value { T.number result ≡ val T.SIGNED (bits_not (bit_list bits (T.number x))) }
+    ensures range { InRange T.SIGNED bits (T.number result) }
+{
+    from_low_bits(patterns::not(low_bits(x, bits), bits), bits)
+}

@@ -1,0 +1,115 @@
+//! Arithmetic at `bits` bits that refuses: the exact result where the type has it, else `None`.
+
+ghost use Rattle.std.specs.Prelude.{◌≢◌, ◌≡◌, ◌≤◌, ◌+ℤ◌, ◌-ℤ◌, ◌*ℤ◌, neg_ℤ, pos, int_div};
+ghost use Rattle.arbitrary_base.specs.Range.{InRange};
+ghost use Rattle.arbitrary_base.specs.Exact.{ExactOrNone, QuotientOrNone, turned};
+
+use crate::ends::{is_below, is_below_zero, is_zero, zero};
+use crate::narrowing::is_in_range;
+use crate::storage::Storage;
+use crate::wrapping;
+
+/// The sum where the type has it.
+// The wrapped sum lies below `x` exactly where `y` is below 0, but for an overflow.
+#[tactic(auto, using(crate::proofs::Sum::arithmetic))]
+pub fn add<T: Storage>(x: T, y: T, bits: usize) -> Option<T>
+    requires width { 1 ≤ bits }
+    requires storage { bits ≤ T.WIDTH }
+    requires x_in { InRange T.SIGNED bits (T.number x) }
+    requires y_in { InRange T.SIGNED bits (T.number y) }
+    ensures { ExactOrNone T.number T.SIGNED bits (T.number x +ℤ T.number y) result }
+{
+    let sum = wrapping::add(x, y, bits);
+    if is_below(&sum, &x) == is_below_zero(&y) {
+        Some(sum)
+    } else {
+        None
+    }
+}
+
+/// The difference where the type has it.
+#[tactic(auto, using(crate::proofs::Sum::arithmetic))]
+pub fn sub<T: Storage>(x: T, y: T, bits: usize) -> Option<T>
+    requires width { 1 ≤ bits }
+    requires storage { bits ≤ T.WIDTH }
+    requires x_in { InRange T.SIGNED bits (T.number x) }
+    requires y_in { InRange T.SIGNED bits (T.number y) }
+    ensures { ExactOrNone T.number T.SIGNED bits (T.number x -ℤ T.number y) result }
+{
+    let difference = wrapping::sub(x, y, bits);
+    if is_below(&x, &difference) == is_below_zero(&y) {
+        Some(difference)
+    } else {
+        None
+    }
+}
+
+/// The product where the type has it.
+#[tactic(auto, using(crate::proofs::Sum::arithmetic))]
+pub fn mul<T: Storage>(x: T, y: T, bits: usize) -> Option<T>
+    requires width { 1 ≤ bits }
+    requires storage { bits ≤ T.WIDTH }
+    ensures { ExactOrNone T.number T.SIGNED bits (T.number x *ℤ T.number y) result }
+{
+    match x.checked_mul(y) {
+        Some(product) => {
+            if is_in_range(product, bits) {
+                Some(product)
+            } else {
+                None
+            }
+        }
+        None => None,
+    }
+}
+
+/// Whether a quotient of two numbers below 0 came out below 0.
+fn is_turned<T: Storage>(x: &T, y: &T, quotient: &T) -> bool
+    ensures { result ≡ turned (T.number x.now) (T.number y.now) (T.number quotient.now) }
+{
+    is_below_zero(x) && (is_below_zero(y) && is_below_zero(quotient))
+}
+
+/// The quotient where the type has it. The divisor is not zero.
+// Only the least number divided by -1 is out of range, and its wrapped quotient keeps the sign.
+#[tactic(auto, using(crate::proofs::Quotient::quotients))]
+pub(crate) fn div_by_nonzero<T: Storage>(x: T, y: T, bits: usize) -> Option<T>
+    requires width { 1 ≤ bits }
+    requires storage { bits ≤ T.WIDTH }
+    requires x_in { InRange T.SIGNED bits (T.number x) }
+    requires y_in { InRange T.SIGNED bits (T.number y) }
+    requires divisor { T.number y ≢ pos 0 }
+    ensures { ExactOrNone T.number T.SIGNED bits (int_div (T.number x) (T.number y)) result }
+{
+    let quotient = wrapping::div(x, y, bits);
+    if is_turned(&x, &y, &quotient) {
+        None
+    } else {
+        Some(quotient)
+    }
+}
+
+/// The quotient where there is one and the type has it: `None` also for a divisor of zero.
+pub fn div<T: Storage>(x: T, y: T, bits: usize) -> Option<T>
+    requires width { 1 ≤ bits }
+    requires storage { bits ≤ T.WIDTH }
+    requires x_in { InRange T.SIGNED bits (T.number x) }
+    requires y_in { InRange T.SIGNED bits (T.number y) }
+    ensures { QuotientOrNone T.number T.SIGNED bits (T.number x) (T.number y) result }
+{
+    if is_zero(&y) {
+        None
+    } else {
+        div_by_nonzero(x, y, bits)
+    }
+}
+
+/// The negated number where the type has it: on a signed type everywhere but at the least number.
+pub fn neg<T: Storage>(x: T, bits: usize) -> Option<T>
+    requires width { 1 ≤ bits }
+    requires storage { bits ≤ T.WIDTH }
+    requires x_in { InRange T.SIGNED bits (T.number x) }
+    ensures { ExactOrNone T.number T.SIGNED bits (neg_ℤ (T.number x)) result }
+{
+    sub(zero(), x, bits)
+}

@@ -1,0 +1,69 @@
+//! The ends of a range, and zero.
+
+ghost use Rattle.std.specs.Prelude.{◌≡◌, ◌≤◌, pos, int_lt};
+ghost use Rattle.std.specs.Ordering.{int_eq};
+ghost use Rattle.arbitrary_base.specs.Range.{lo, hi, range_end, InRange};
+
+use crate::narrowing::{compare, equal, from_low_bits, reach_below_zero};
+use crate::storage::Storage;
+use std::cmp::Ordering;
+
+/// The least number of the type of `bits` bits.
+// What the range lacks to reach 0 is congruent to its low end.
+pub fn lowest<T: Storage>(bits: usize) -> T
+    requires width { 1 ≤ bits }
+    requires storage { bits ≤ T.WIDTH }
+    ensures value { T.number result ≡ lo T.SIGNED bits }
+    ensures range { InRange T.SIGNED bits (T.number result) }
+{
+    from_low_bits(reach_below_zero(T::SIGNED, bits), bits)
+}
+
+/// The greatest number of the type of `bits` bits.
+// One below the low end, modulo `2 ^ bits`.
+pub fn highest<T: Storage>(bits: usize) -> T
+    requires width { 1 ≤ bits }
+    requires storage { bits ≤ T.WIDTH }
+    ensures value { T.number result ≡ hi T.SIGNED bits }
+    ensures range { InRange T.SIGNED bits (T.number result) }
+{
+    from_low_bits(reach_below_zero(T::SIGNED, bits).wrapping_sub(1), bits)
+}
+
+/// An end of the range: the low one where the flag is set.
+pub(crate) fn end<T: Storage>(low: bool, bits: usize) -> T
+    requires width { 1 ≤ bits }
+    requires storage { bits ≤ T.WIDTH }
+    ensures { T.number result ≡ range_end T.SIGNED bits low }
+{
+    if low { lowest(bits) } else { highest(bits) }
+}
+
+/// Zero.
+#[tactic(auto, using(crate::proofs::Sum::zeros))]
+pub fn zero<T: Storage>() -> T
+    ensures { T.number result ≡ pos 0 }
+{
+    T::from_pattern(0)
+}
+
+/// Whether the number is zero.
+pub fn is_zero<T: Storage>(x: &T) -> bool
+    ensures { result ≡ int_eq (T.number x.now) (pos 0) }
+{
+    equal(x, &zero())
+}
+
+/// Whether the first number is below the second.
+pub(crate) fn is_below<T: Storage>(x: &T, y: &T) -> bool
+    ensures { result ≡ int_lt (T.number x.now) (T.number y.now) }
+{
+    compare(x, y) == Ordering::Less
+}
+
+/// Whether the number is below zero.
+pub fn is_below_zero<T: Storage>(x: &T) -> bool
+    ensures { result ≡ int_lt (T.number x.now) (pos 0) }
+{
+    is_below(x, &zero())
+}

@@ -1,0 +1,21 @@
+//! The refusal of a number that a type does not have.
+
+ghost use Rattle.std.specs.Prelude.{Some, codes};
+
+use std::error::Error;
+use std::fmt;
+
+/// A number or a pattern is outside the range of the type that was asked for.
+#[derive(Debug, Clone, PartialEq, Eq, Drop)]
+pub struct TryNewError;
+
+impl fmt::Display for TryNewError {
+    // Numbers below the range get the same text.
+    ghost output = { λ _. Some (codes "Value too large to fit within this integer type") };
+
+    fn fmt<W: fmt::Write>(&self, f: &mut fmt::Formatter<W>) -> fmt::Result {
+        f.write_str("Value too large to fit within this integer type")
+    }
+}
+
+impl Error for TryNewError {}

@@ -1,0 +1,21 @@
+//! A number out of the middle of another's bits.
+
+ghost use Rattle.std.specs.Prelude.{◌≡◌, ◌≤◌, ◌+◌};
+ghost use Rattle.arbitrary_base.specs.Range.{InRange};
+ghost use Rattle.arbitrary_base.specs.BitList.{bits as bit_list, val, items};
+
+use crate::narrowing::from_low_bits;
+use crate::storage::Storage;
+
+/// The number whose bits are the `bits` bits of `source` from place `start_bit` on, the lowest being
+/// place 0. All of them must be bits of `source`.
+#[tactic(auto, using(crate::proofs::BitResult::extraction_laws))]
+pub fn extract<S: Storage, T: Storage>(source: S, start_bit: usize, bits: usize) -> T
+    requires width { 1 ≤ bits }
+    requires storage { bits ≤ T.WIDTH }
+    requires within { start_bit + bits ≤ S.WIDTH }
+    ensures value { T.number result ≡ val T.SIGNED (items start_bit bits (bit_list S.WIDTH (S.number source))) }
+    ensures range { InRange T.SIGNED bits (T.number result) }
+{
+    from_low_bits(source.pattern() >> start_bit, bits)
+}

@@ -1,0 +1,43 @@
+//! The laws of the definitions that the contracts cite. Each function proves its clauses, and does nothing.
+
+ghost use Rattle.arbitrary_base.specs.Laws.{WrapIsInRange, WrapIsCongruent, WrapIsUnique, WrappedSumsCommute, WrappedSumsAssociate, WrappedProductsCommute, WrappedProductsAssociate, WrappedProductsDistribute, CheckedTellsOverflow, CheckedQuotientTellsOverflow, ValueOfBits, BitsOfValue, RotationsUndo, ReversalUndoesItself, OnesAddUp, FrontRunsFit, EndRunsFit, ExtractionComposes};
+
+/// What `wrap` is: the one number of the type that is congruent modulo `2 ^ bits`.
+#[tactic(auto, using(crate::proofs::LawProof::wrap_rules))]
+pub fn wrap_laws()
+    ensures in_range { WrapIsInRange }
+    ensures congruent { WrapIsCongruent }
+    ensures unique { WrapIsUnique }
+{}
+
+/// Sums and products that wrap commute and associate, and the products distribute over the sums.
+#[tactic(auto, using(crate::proofs::LawProof::wrapped_arithmetic_rules))]
+pub fn wrapped_arithmetic_laws()
+    ensures sums_commute { WrappedSumsCommute }
+    ensures sums_associate { WrappedSumsAssociate }
+    ensures products_commute { WrappedProductsCommute }
+    ensures products_associate { WrappedProductsAssociate }
+    ensures products_distribute { WrappedProductsDistribute }
+{}
+
+/// A checked call has an answer exactly where no divisor is zero and its overflowing call has no flag,
+/// and it is the same number.
+#[tactic(auto, using(crate::proofs::LawProof::checked_rules))]
+pub fn checked_laws()
+    ensures results { CheckedTellsOverflow }
+    ensures quotients { CheckedQuotientTellsOverflow }
+{}
+
+/// A number in range and its bits tell each other; rotations and reversals undo each other; the counts
+/// fit the list; a part of a part is a part.
+#[tactic(auto, using(crate::proofs::LawProof::bit_list_rules))]
+pub fn bit_list_laws()
+    ensures value_of_bits { ValueOfBits }
+    ensures bits_of_value { BitsOfValue }
+    ensures rotations { RotationsUndo }
+    ensures reversal { ReversalUndoesItself }
+    ensures ones { OnesAddUp }
+    ensures front_runs { FrontRunsFit }
+    ensures end_runs { EndRunsFit }
+    ensures extraction { ExtractionComposes }
+{}

@@ -1,0 +1,24 @@
+//! The ground that the integer types stand on: the primitive integers as storages, what is left of a
+//! number at fewer bits, and the arithmetic and the operations on bits at a width, written once for every
+//! storage.
+#![tactic(auto)]
+
+pub mod bitwise;
+pub mod checked;
+pub mod counts;
+pub mod ends;
+pub mod error;
+pub mod extraction;
+pub mod laws;
+pub mod narrowing;
+pub mod overflowing;
+pub mod patterns;
+pub mod power;
+pub mod rotations;
+pub mod saturating;
+pub mod shifts;
+pub mod storage;
+pub mod watched;
+#[cfg(test)]
+mod worked_bits;
+pub mod wrapping;

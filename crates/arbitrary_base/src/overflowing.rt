@@ -1,0 +1,81 @@
+//! Arithmetic at `bits` bits that tells an overflow: the wrapped result, and whether the exact one is
+//! out of range.
+
+ghost use Rattle.std.specs.Prelude.{◌≡◌, ◌≢◌, ◌↔◌, ◌≤◌, ◌+ℤ◌, ◌-ℤ◌, ◌*ℤ◌, neg_ℤ, pos, int_div, IsTrue};
+ghost use Rattle.arbitrary_base.specs.Range.{InRange};
+ghost use Rattle.arbitrary_base.specs.Residue.{wrap};
+
+use crate::ends::zero;
+use crate::storage::Storage;
+use crate::{checked, wrapping};
+
+/// The sum, wrapped, and whether the exact one is out of range.
+#[tactic(auto, using(crate::proofs::Clamp::overflow_laws))]
+pub fn add<T: Storage>(x: T, y: T, bits: usize) -> (T, bool)
+    requires width { 1 ≤ bits }
+    requires storage { bits ≤ T.WIDTH }
+    requires x_in { InRange T.SIGNED bits (T.number x) }
+    requires y_in { InRange T.SIGNED bits (T.number y) }
+    ensures value { T.number result.0 ≡ wrap T.SIGNED bits (T.number x +ℤ T.number y) }
+    ensures range { InRange T.SIGNED bits (T.number result.0) }
+    ensures overflow { IsTrue result.1 ↔ ¬ (InRange T.SIGNED bits (T.number x +ℤ T.number y)) }
+{
+    let exact = checked::add(x, y, bits);
+    (wrapping::add(x, y, bits), exact.is_none())
+}
+
+/// The difference, wrapped, and whether the exact one is out of range.
+#[tactic(auto, using(crate::proofs::Clamp::overflow_laws))]
+pub fn sub<T: Storage>(x: T, y: T, bits: usize) -> (T, bool)
+    requires width { 1 ≤ bits }
+    requires storage { bits ≤ T.WIDTH }
+    requires x_in { InRange T.SIGNED bits (T.number x) }
+    requires y_in { InRange T.SIGNED bits (T.number y) }
+    ensures value { T.number result.0 ≡ wrap T.SIGNED bits (T.number x -ℤ T.number y) }
+    ensures range { InRange T.SIGNED bits (T.number result.0) }
+    ensures overflow { IsTrue result.1 ↔ ¬ (InRange T.SIGNED bits (T.number x -ℤ T.number y)) }
+{
+    let exact = checked::sub(x, y, bits);
+    (wrapping::sub(x, y, bits), exact.is_none())
+}
+
+/// The product, wrapped, and whether the exact one is out of range.
+#[tactic(auto, using(crate::proofs::Clamp::overflow_laws))]
+pub fn mul<T: Storage>(x: T, y: T, bits: usize) -> (T, bool)
+    requires width { 1 ≤ bits }
+    requires storage { bits ≤ T.WIDTH }
+    ensures value { T.number result.0 ≡ wrap T.SIGNED bits (T.number x *ℤ T.number y) }
+    ensures range { InRange T.SIGNED bits (T.number result.0) }
+    ensures overflow { IsTrue result.1 ↔ ¬ (InRange T.SIGNED bits (T.number x *ℤ T.number y)) }
+{
+    let exact = checked::mul(x, y, bits);
+    (wrapping::mul(x, y, bits), exact.is_none())
+}
+
+/// The quotient, wrapped, and whether the exact one is out of range. The divisor is not zero.
+#[tactic(auto, using(crate::proofs::Clamp::overflow_laws))]
+pub fn div<T: Storage>(x: T, y: T, bits: usize) -> (T, bool)
+    requires width { 1 ≤ bits }
+    requires storage { bits ≤ T.WIDTH }
+    requires x_in { InRange T.SIGNED bits (T.number x) }
+    requires y_in { InRange T.SIGNED bits (T.number y) }
+    requires divisor { T.number y ≢ pos 0 }
+    ensures value { T.number result.0 ≡ wrap T.SIGNED bits (int_div (T.number x) (T.number y)) }
+    ensures range { InRange T.SIGNED bits (T.number result.0) }
+    ensures overflow { IsTrue result.1 ↔ ¬ (InRange T.SIGNED bits (int_div (T.number x) (T.number y))) }
+{
+    let exact = checked::div_by_nonzero(x, y, bits);
+    (wrapping::div(x, y, bits), exact.is_none())
+}
+
+/// The negated number, wrapped, and whether the exact one is out of range.
+pub fn neg<T: Storage>(x: T, bits: usize) -> (T, bool)
+    requires width { 1 ≤ bits }
+    requires storage { bits ≤ T.WIDTH }
+    requires x_in { InRange T.SIGNED bits (T.number x) }
+    ensures value { T.number result.0 ≡ wrap T.SIGNED bits (neg_ℤ (T.number x)) }
+    ensures range { InRange T.SIGNED bits (T.number result.0) }
+    ensures overflow { IsTrue result.1 ↔ ¬ (InRange T.SIGNED bits (neg_ℤ (T.number x))) }
+{
+    sub(zero(), x, bits)
+}

@@ -1,0 +1,147 @@
+//! The operations of bit lists on patterns. The pattern of a list of `width` bits is the number that it
+//! spells, the lowest bit first: a number below `2 ^ width`.
+
+ghost use Rattle.std.specs.Prelude.{◌≡◌, ◌≤◌, ◌<◌, ◌%◌, ◌^◌, pos, false, true, reverse};
+ghost use Rattle.std.specs.Int.{w64, w128, reverse_bits as reversed};
+ghost use Rattle.arbitrary_base.specs.BitList.{bits, num, bits_and, bits_or, bits_xor, bits_not, rotl, rotr, ones as ones_in, front, tail};
+
+use crate::narrowing::ones;
+
+/// The bits that are one in both patterns.
+pub fn and(left: u128, right: u128, width: usize) -> u128
+    requires left_fits { left < 2 ^ width }
+    requires right_fits { right < 2 ^ width }
+    ensures { result ≡ num (bits_and (bits width (pos left)) (bits width (pos right))) }
+{
+    left & right
+}
+
+/// The bits that are one in at least one of the patterns.
+pub fn or(left: u128, right: u128, width: usize) -> u128
+    requires left_fits { left < 2 ^ width }
+    requires right_fits { right < 2 ^ width }
+    ensures { result ≡ num (bits_or (bits width (pos left)) (bits width (pos right))) }
+{
+    left | right
+}
+
+/// The bits in which the patterns differ.
+pub fn xor(left: u128, right: u128, width: usize) -> u128
+    requires left_fits { left < 2 ^ width }
+    requires right_fits { right < 2 ^ width }
+    ensures { result ≡ num (bits_xor (bits width (pos left)) (bits width (pos right))) }
+{
+    left ^ right
+}
+
+/// Each of the `width` bits turned over.
+pub fn not(pattern: u128, width: usize) -> u128
+    requires high { width ≤ 128 }
+    requires fits { pattern < 2 ^ width }
+    ensures { result ≡ num (bits_not (bits width (pos pattern))) }
+{
+    pattern ^ ones(width)
+}
+
+/// The bits moved toward the high end by the amount modulo `width`. What passes the end comes back below.
+pub fn rotate_left(pattern: u128, width: usize, amount: u32) -> u128
+    requires low { 1 ≤ width }
+    requires high { width ≤ 128 }
+    requires fits { pattern < 2 ^ width }
+    ensures { result ≡ num (rotl (bits width (pos pattern)) (amount % width)) }
+{
+    let places = amount as usize % width;
+    if places == 0 {
+        pattern
+    } else {
+        ((pattern << places) & ones(width)) | (pattern >> (width - places))
+    }
+}
+
+/// The bits moved toward the low end by the amount modulo `width`. What passes the end comes back above.
+pub fn rotate_right(pattern: u128, width: usize, amount: u32) -> u128
+    requires low { 1 ≤ width }
+    requires high { width ≤ 128 }
+    requires fits { pattern < 2 ^ width }
+    ensures { result ≡ num (rotr (bits width (pos pattern)) (amount % width)) }
+{
+    let places = amount as usize % width;
+    if places == 0 {
+        pattern
+    } else {
+        (pattern >> places) | ((pattern << (width - places)) & ones(width))
+    }
+}
+
+/// What `u64::reverse_bits` gives, from the two halves: std's body for 32 bits compiles to a byte swap and a
+/// few masks, and its body for 64 bits to a loop over the bits.
+fn reverse_u64(x: u64) -> u64
+    ensures { result ≡ reversed w64 x }
+{
+    let low = (x & 0xffff_ffff) as u32;
+    let high = (x >> 32) as u32;
+    ((low.reverse_bits() as u64) << 32) | high.reverse_bits() as u64
+}
+
+/// What `u128::reverse_bits` gives, from the two halves.
+fn reverse_u128(x: u128) -> u128
+    ensures { result ≡ reversed w128 x }
+{
+    let low = (x & 0xffff_ffff_ffff_ffff) as u64;
+    let high = (x >> 64) as u64;
+    ((reverse_u64(low) as u128) << 64) | reverse_u64(high) as u128
+}
+
+/// The bits from the high end to the low one.
+pub fn reverse_bits(pattern: u128, width: usize) -> u128
+    requires low { 1 ≤ width }
+    requires high { width ≤ 128 }
+    requires fits { pattern < 2 ^ width }
+    ensures { result ≡ num (reverse (bits width (pos pattern))) }
+{
+    reverse_u128(pattern) >> (128 - width)
+}
+
+/// How many bits are one.
+pub fn count_ones(pattern: u128, width: usize) -> u32
+    requires fits { pattern < 2 ^ width }
+    ensures { result ≡ ones_in (bits width (pos pattern)) }
+{
+    pattern.count_ones()
+}
+
+/// How many bits at the low end are zero before the first that is one: `width` of them where none is.
+pub fn trailing_zeros(pattern: u128, width: usize) -> u32
+    requires high { width ≤ 128 }
+    requires fits { pattern < 2 ^ width }
+    ensures { result ≡ front false (bits width (pos pattern)) }
+{
+    pattern.trailing_zeros().min(width as u32)
+}
+
+/// How many bits at the low end are one before the first that is zero: `width` of them where none is.
+pub fn trailing_ones(pattern: u128, width: usize) -> u32
+    requires high { width ≤ 128 }
+    requires fits { pattern < 2 ^ width }
+    ensures { result ≡ front true (bits width (pos pattern)) }
+{
+    trailing_zeros(not(pattern, width), width)
+}
+
+/// How many of the `width` bits at the high end are zero before the first that is one.
+pub fn leading_zeros(pattern: u128, width: usize) -> u32
+    requires high { width ≤ 128 }
+    requires fits { pattern < 2 ^ width }
+    ensures { result ≡ tail false (bits width (pos pattern)) }
+{
+    pattern.leading_zeros() - (128 - width as u32)
+}
+
+/// How many of the `width` bits at the high end are one before the first that is zero.
+pub fn leading_ones(pattern: u128, width: usize) -> u32
+    requires high { width ≤ 128 }
+    requires fits { pattern < 2 ^ width }
+    ensures { result ≡ tail true (bits width (pos pattern)) }
+{
+    leading_zeros(not(pattern, width), width)
+}

@@ -1,0 +1,149 @@
+//! Powers that stop at the ends of a range.
+
+ghost use Rattle.std.specs.Prelude.{◌≡◌, ◌≤◌, ◌<◌, ◌+◌, ◌*◌, ◌*ℤ◌, ◌<ℤ◌, pos, unsigned_abs, int_lt, MatchOption};
+ghost use Rattle.arbitrary_base.specs.Range.{InRange, hi};
+ghost use Rattle.arbitrary_base.specs.Saturation.{clamp};
+ghost use Rattle.arbitrary_base.specs.Exact.{ExactOrNone};
+ghost use Rattle.arbitrary_base.specs.Power.{power, binary_digits, PowersOfSums, PowersOfProducts};
+
+use crate::ends::{end, is_below_zero};
+use crate::narrowing::{equal, is_in_range};
+use crate::storage::Storage;
+
+/// The laws of powers, for callers' proofs. It does nothing.
+pub fn power_laws()
+    ensures sums { PowersOfSums }
+    ensures products { PowersOfProducts }
+{}
+
+/// One.
+#[tactic(auto, using(crate::proofs::Squaring::ones))]
+fn one<T: Storage>() -> T
+    ensures { T.number result ≡ pos 1 }
+{
+    T::from_pattern(1)
+}
+
+/// The product, where the storage has it. Nothing else here multiplies.
+fn multiply<T: Storage>(x: T, y: T, count: &mut u32) -> Option<T>
+    requires { count.old < 64 }
+    ensures counted { count.new ≡ count.old + 1 }
+    ensures product { ExactOrNone T.number T.SIGNED T.WIDTH (T.number x *ℤ T.number y) result }
+{
+    *count += 1;
+    x.checked_mul(y)
+}
+
+/// The power, by squaring, and `None` only where it is further from 0 than the storage's greatest
+/// number.
+fn exact_power<T: Storage>(x: T, exp: u32, count: &mut u32) -> Option<T>
+    requires started { count.old ≡ 0 }
+    requires range { InRange T.SIGNED T.WIDTH (T.number x) }
+    ensures value { MatchOption result (hi T.SIGNED T.WIDTH <ℤ pos (unsigned_abs (power (T.number x) exp))) (λ y. T.number y ≡ power (T.number x) exp) }
+    ensures counted { count.new ≤ 2 * binary_digits exp }
+{
+    let mut product = one::<T>();
+    if exp == 0 {
+        return Some(product);
+    }
+    let mut base = x;
+    let mut left = exp;
+    while 1 < left {
+        let square = multiply(base, base, count)?;
+        if equal(&square, &base) {
+            // 0 and 1 are all their powers.
+            return multiply(product, base, count);
+        }
+        if left % 2 == 1 {
+            product = multiply(product, base, count)?;
+        }
+        base = square;
+        left /= 2;
+    }
+    multiply(product, base, count)
+}
+
+/// Whether the power is below zero: an odd one has the base's sign.
+#[tactic(auto, using(crate::proofs::Powers::signs))]
+fn is_power_below_zero<T: Storage>(x: &T, exp: u32) -> bool
+    ensures { result ≡ int_lt (power (T.number x.now) exp) (pos 0) }
+{
+    exp % 2 == 1 && is_below_zero(x)
+}
+
+/// The number, or the end of the range of `bits` bits that is nearest.
+#[tactic(auto, using(crate::proofs::Squaring::ends))]
+fn clamped<T: Storage>(x: T, bits: usize) -> T
+    requires width { 1 ≤ bits }
+    requires storage { bits ≤ T.WIDTH }
+    ensures { T.number result ≡ clamp T.SIGNED bits (T.number x) }
+{
+    if is_in_range(x, bits) {
+        x
+    } else {
+        end(is_below_zero(&x), bits)
+    }
+}
+
+/// `x` to the power `exp`, or the end of the range of `bits` bits that is nearest, and how many
+/// multiplications that took. 0 to the power 0 is 1.
+///
+/// The caller shows that the width is valid and that `x` is in range. Powers of any size are right:
+/// the exact power is clamped, and no step on the way.
+pub fn saturating_pow_counted<T: Storage>(x: T, exp: u32, bits: usize) -> (T, u32)
+    requires width { 1 ≤ bits }
+    requires storage { bits ≤ T.WIDTH }
+    requires x_in { InRange T.SIGNED bits (T.number x) }
+    ensures value { T.number result.0 ≡ clamp T.SIGNED bits (power (T.number x) exp) }
+    ensures range { InRange T.SIGNED bits (T.number result.0) }
+    ensures count { result.1 ≤ 2 * binary_digits exp }
+    ensures bound { result.1 ≤ 64 }
+{
+    let mut count = 0;
+    let power = match exact_power(x, exp, &mut count) {
+        Some(power) => clamped(power, bits),
+        None => end(is_power_below_zero(&x, exp), bits),
+    };
+    (power, count)
+}
+
+/// `x` to the power `exp`, or the end of the range of `bits` bits that is nearest. 0 to the power 0
+/// is 1.
+///
+/// The caller shows that the width is valid and that `x` is in range.
+pub fn saturating_pow<T: Storage>(x: T, exp: u32, bits: usize) -> T
+    requires width { 1 ≤ bits }
+    requires storage { bits ≤ T.WIDTH }
+    requires x_in { InRange T.SIGNED bits (T.number x) }
+    ensures value { T.number result ≡ clamp T.SIGNED bits (power (T.number x) exp) }
+    ensures range { InRange T.SIGNED bits (T.number result) }
+{
+    saturating_pow_counted(x, exp, bits).0
+}
+
+#[cfg(test)]
+mod tests {
+    use super::*;
+
+    #[test]
+    fn powers_of_the_least_number_alternate(rt: HostRuntime) {
+        for (exp, want) in [(0, 0), (1, -1), (2, 0), (3, -1)] {
+            assert_eq!(rt; saturating_pow(-1i8, exp, 1), want, "at {exp}");
+        }
+        for (exp, want, most) in [
+            (3, -8192, 4),
+            (4294967294, 8191, 64),
+            (4294967295, -8192, 64),
+        ] {
+            let (answer, count) = saturating_pow_counted(-8192i16, exp, 14);
+            assert_eq!(rt; answer, want, "at {exp}");
+            assert!(rt; count <= most, "{count} multiplications at {exp}");
+        }
+    }
+
+    #[test]
+    fn small_powers_are_exact(rt: HostRuntime) {
+        assert_eq!(rt; saturating_pow(-4i16, 3, 14), -64);
+        assert_eq!(rt; saturating_pow(0u8, 0, 7), 1);
+    }
+}

@@ -1,0 +1,83 @@
+//! Arithmetic at `bits` bits that saturates: the exact result, or the end of the range nearest to it.
+
+ghost use Rattle.std.specs.Prelude.{◌≡◌, ◌≢◌, ◌≤◌, ◌+ℤ◌, ◌-ℤ◌, ◌*ℤ◌, neg_ℤ, pos, int_div};
+ghost use Rattle.arbitrary_base.specs.Range.{InRange};
+ghost use Rattle.arbitrary_base.specs.Saturation.{clamp};
+
+use crate::checked;
+use crate::ends::{end, highest, is_below_zero, zero};
+use crate::storage::Storage;
+
+/// The sum, or the end of the range that is nearest to it.
+#[tactic(auto, using(crate::proofs::Clamp::clamps))]
+pub fn add<T: Storage>(x: T, y: T, bits: usize) -> T
+    requires width { 1 ≤ bits }
+    requires storage { bits ≤ T.WIDTH }
+    requires x_in { InRange T.SIGNED bits (T.number x) }
+    requires y_in { InRange T.SIGNED bits (T.number y) }
+    ensures value { T.number result ≡ clamp T.SIGNED bits (T.number x +ℤ T.number y) }
+    ensures range { InRange T.SIGNED bits (T.number result) }
+{
+    match checked::add(x, y, bits) {
+        Some(sum) => sum,
+        None => end(is_below_zero(&y), bits),
+    }
+}
+
+/// The difference, or the end of the range that is nearest to it.
+#[tactic(auto, using(crate::proofs::Clamp::clamps))]
+pub fn sub<T: Storage>(x: T, y: T, bits: usize) -> T
+    requires width { 1 ≤ bits }
+    requires storage { bits ≤ T.WIDTH }
+    requires x_in { InRange T.SIGNED bits (T.number x) }
+    requires y_in { InRange T.SIGNED bits (T.number y) }
+    ensures value { T.number result ≡ clamp T.SIGNED bits (T.number x -ℤ T.number y) }
+    ensures range { InRange T.SIGNED bits (T.number result) }
+{
+    match checked::sub(x, y, bits) {
+        Some(difference) => difference,
+        None => end(!is_below_zero(&y), bits),
+    }
+}
+
+/// The product, or the end of the range that is nearest to it.
+#[tactic(auto, using(crate::proofs::Clamp::clamps))]
+pub fn mul<T: Storage>(x: T, y: T, bits: usize) -> T
+    requires width { 1 ≤ bits }
+    requires storage { bits ≤ T.WIDTH }
+    ensures value { T.number result ≡ clamp T.SIGNED bits (T.number x *ℤ T.number y) }
+    ensures range { InRange T.SIGNED bits (T.number result) }
+{
+    match checked::mul(x, y, bits) {
+        Some(product) => product,
+        None => end(is_below_zero(&x) != is_below_zero(&y), bits),
+    }
+}
+
+/// The quotient, or the end of the range that is nearest to it. The divisor is not zero.
+#[tactic(auto, using(crate::proofs::Clamp::clamps))]
+pub fn div<T: Storage>(x: T, y: T, bits: usize) -> T
+    requires width { 1 ≤ bits }
+    requires storage { bits ≤ T.WIDTH }
+    requires x_in { InRange T.SIGNED bits (T.number x) }
+    requires y_in { InRange T.SIGNED bits (T.number y) }
+    requires divisor { T.number y ≢ pos 0 }
+    ensures value { T.number result ≡ clamp T.SIGNED bits (int_div (T.number x) (T.number y)) }
+    ensures range { InRange T.SIGNED bits (T.number result) }
+{
+    match checked::div_by_nonzero(x, y, bits) {
+        Some(quotient) => quotient,
+        None => highest(bits),
+    }
+}
+
+/// The negated number, or the end of the range that is nearest to it.
+pub fn neg<T: Storage>(x: T, bits: usize) -> T
+    requires width { 1 ≤ bits }
+    requires storage { bits ≤ T.WIDTH }
+    requires x_in { InRange T.SIGNED bits (T.number x) }
+    ensures value { T.number result ≡ clamp T.SIGNED bits (neg_ℤ (T.number x)) }
+    ensures range { InRange T.SIGNED bits (T.number result) }
+{
+    sub(zero(), x, bits)
+}

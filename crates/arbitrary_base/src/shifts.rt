@@ -1,0 +1,32 @@
+//! Shifts at `bits` bits, by an amount below `bits`.
+
+ghost use Rattle.std.specs.Prelude.{◌≡◌, ◌≤◌, ◌<◌};
+ghost use Rattle.arbitrary_base.specs.Range.{InRange};
+ghost use Rattle.arbitrary_base.specs.BitList.{bits as bit_list, val, fill, shl as shifted_left, shr as shifted_right};
+
+use crate::narrowing::narrow;
+use crate::storage::Storage;
+
+/// The bits moved `amount` places toward the high end, with zeros below. What passes the end is lost.
+pub fn shl<T: Storage>(x: T, amount: usize, bits: usize) -> T
+    requires width { 1 ≤ bits }
+    requires storage { bits ≤ T.WIDTH }
+    requires within { amount < bits }
+    ensures value { T.number result ≡ val T.SIGNED (shifted_left (bit_list bits (T.number x)) amount) }
+    ensures range { InRange T.SIGNED bits (T.number result) }
+{
+    narrow(x.shl_by(amount), bits)
+}
+
+/// The bits moved `amount` places toward the low end. Above come copies of the sign, or zeros where the
+/// type has none. What passes the end is lost.
+// At fewer bits the number has its sign in all the storage's bits above, which the storage's shift brings in.
+pub fn shr<T: Storage>(x: T, amount: usize, bits: usize) -> T
+    requires width { 1 ≤ bits }
+    requires storage { bits ≤ T.WIDTH }
+    requires within { amount < bits }
+    ensures value { T.number result ≡ val T.SIGNED (shifted_right (bit_list bits (T.number x)) amount (fill T.SIGNED (bit_list bits (T.number x)))) }
+    ensures range { InRange T.SIGNED bits (T.number result) }
+{
+    narrow(x, bits).shr_by(amount)
+}

@@ -1,0 +1,122 @@
+//! The primitive integers, as storages of narrower numbers.
+
+ghost use Rattle.std.specs.Prelude.{◌≡◌, ◌≢◌, ◌≤◌, ◌<◌, ◌+ℤ◌, ◌-ℤ◌, ◌*ℤ◌, ℕ, ℤ, Bool, true, false, pos, Some, int_div};
+ghost use Rattle.std.specs.Ordering.{int_cmp};
+ghost use Rattle.std.specs.Fmt.{signed_decimal};
+ghost use Rattle.arbitrary_base.specs.Range.{InRange};
+ghost use Rattle.arbitrary_base.specs.Residue.{residue, wrap};
+ghost use Rattle.arbitrary_base.specs.Exact.{ExactOrNone};
+ghost use Rattle.arbitrary_base.specs.BitList.{bits, val, shl, shr, fill};
+
+use std::fmt::{Debug, Display};
+use std::hash::Hash;
+
+pub mod signed;
+pub mod unsigned;
+
+/// Closes the traits of this family: implement them for no other type.
+pub trait Sealed {}
+
+// No storages, but amounts of shifts: the types as wide as a pointer have no width of their own.
+impl Sealed for usize {}
+
+impl Sealed for isize {}
+
+/// A primitive integer, in which a number of at most `WIDTH` bits can be kept.
+pub trait Storage: Sealed + Copy + Ord + Hash + Display + Debug + Drop {
+    ghost WIDTH: { ℕ };
+
+    ghost SIGNED: { Bool };
+
+    // The number that a value stands for, and the value of a number.
+    ghost number: { Self → ℤ };
+
+    ghost of_number: { ℤ → Self };
+
+    ghost round_trip_law: { (x : Self) → of_number (number x) ≡ x };
+
+    /// How many bits the type has: 8, 16, 32, 64 or 128.
+    const WIDTH: usize;
+
+    /// Whether the type has a sign.
+    const SIGNED: bool;
+
+    /// The bits of the number: its residue modulo `2 ^ WIDTH`.
+    fn pattern(self) -> u128
+        ensures value { result ≡ residue WIDTH (number self) }
+        ensures range { InRange SIGNED WIDTH (number self) };
+
+    /// The type's number that is congruent to `pattern` modulo `2 ^ WIDTH`.
+    fn from_pattern(pattern: u128) -> Self
+        ensures { number result ≡ wrap SIGNED WIDTH (pos pattern) };
+
+    /// The sum, wrapped.
+    fn wrapping_add(self, other: Self) -> Self
+        ensures { number result ≡ wrap SIGNED WIDTH (number self +ℤ number other) };
+
+    /// The difference, wrapped.
+    fn wrapping_sub(self, other: Self) -> Self
+        ensures { number result ≡ wrap SIGNED WIDTH (number self -ℤ number other) };
+
+    /// The product, wrapped.
+    fn wrapping_mul(self, other: Self) -> Self
+        ensures { number result ≡ wrap SIGNED WIDTH (number self *ℤ number other) };
+
+    /// The quotient, cut toward zero and wrapped. The divisor is not zero.
+    fn wrapping_div(self, other: Self) -> Self
+        requires { number other ≢ pos 0 }
+        ensures { number result ≡ wrap SIGNED WIDTH (int_div (number self) (number other)) };
+
+    /// The product where the type has it, and `None` where it does not.
+    fn checked_mul(self, other: Self) -> Option<Self>
+        ensures { ExactOrNone number SIGNED WIDTH (number self *ℤ number other) result };
+
+    /// The number whose bits are these, moved `n` places toward the high end, with zeros below.
+    fn shl_by(self, n: usize) -> Self
+        requires { n < WIDTH }
+        ensures { number result ≡ val SIGNED (shl (bits WIDTH (number self)) n) };
+
+    /// The number whose bits are these, moved `n` places toward the low end, with the sign above, or
+    /// zeros where there is none.
+    fn shr_by(self, n: usize) -> Self
+        requires { n < WIDTH }
+        ensures { number result ≡ val SIGNED (shr (bits WIDTH (number self)) n (fill SIGNED (bits WIDTH (number self)))) };
+
+    ghost width_law: { (1 ≤ WIDTH) × (WIDTH ≤ 128) };
+
+    // So each type has the number 1.
+    ghost one_law: { 2 ≤ WIDTH };
+
+    ghost order_law: { (a b : Self) → Self.cmp a b ≡ int_cmp (number a) (number b) };
+
+    ghost display_law: { (x : Self) → Self.output x ≡ Some (signed_decimal (number x)) };
+}
+
+/// A storage of numbers from 0 up.
+pub trait UnsignedStorage: Storage {
+    ghost unsigned_law: { Self.SIGNED ≡ false };
+}
+
+/// A storage of numbers with a sign, in two's complement.
+pub trait SignedStorage: Storage {
+    ghost signed_law: { Self.SIGNED ≡ true };
+}
+
+/// The unsigned storage that is as wide as `S`: it holds the bits of each number of `S`.
+pub trait PatternOf<S: Storage>: UnsignedStorage {
+    ghost pattern_width_law: { Self.WIDTH ≡ S.WIDTH };
+}
+
+/// The signed storage that is as wide as `S`.
+pub trait SignedOf<S: Storage>: SignedStorage {
+    ghost signed_width_law: { Self.WIDTH ≡ S.WIDTH };
+}
+
+/// A primitive integer, with its mates of the same width.
+pub trait BuiltinInteger: Storage {
+    /// The unsigned type of this width.
+    type Unsigned;
+
+    /// The signed type of this width.
+    type Signed;
+}
