@@ -1,0 +1,33 @@
+-- Why a number can go from one type to another through its bits.
+use Rattle.std.specs.Prelude.{◌≡◌, ◌≤◌, ◌<◌, ◌^◌, ℕ, ℤ, Bool, true, false, pos, FitsSigned}
+use Rattle.std.specs.Int.{Width, cast_signed, cast_unsigned}
+use Rattle.std.proofs.Common.{◌∙◌, ap, arith, Fits, of_z, sym, to_z-of_z}
+use Rattle.std.proofs.lemmas.Int.{ints}
+use mir.Val.{bits}
+use Rattle.arbitrary_base.specs.Residue.{residue, wrap}
+use Rattle.arbitrary_base.proofs.Narrow.{wrap-residue}
+use Rattle.arbitrary_base.proofs.Wrap.{residue-congruent, residue-lt, wrap-of_in_range, wrap-unique}
+use Rattle.arbitrary_base.proofs.Primitive.{bits_some, cast_unsigned-residue, signed-from_small, unsigned-in_range}
+
+-- the residue modulo 2 ^ 128 wraps as the number does
+pub wrap-extended : (s : Bool) (B p : ℕ) (x z : ℤ) → (1 ≤ B) × (B ≤ 128) → p ≡ residue 128 x → z ≡ wrap s B (pos p) → z ≡ wrap s B x
+wrap-extended s B p x z h e f = wrap-residue s B p x z h.0 h.1 e f
+
+pub ruleset conversions = (wrap-extended)
+
+-- an unsigned number is its own mate
+pub unsigned-mate : (B n : ℕ) → 1 ≤ B → n < 2 ^ B → pos n ≡ wrap false B (pos n)
+unsigned-mate B n h f = sym (wrap-of_in_range false B (pos n) h (unsigned-in_range B n f))
+
+pub cast_unsigned-mate : (w : Width) (x : ℤ) → FitsSigned w x → pos (cast_unsigned w x) ≡ wrap false (bits w) x
+cast_unsigned-mate w x f =
+    ap pos (cast_unsigned-residue w x f)
+    ∙ sym (wrap-unique false (bits w) x _ (bits_some w) (unsigned-in_range (bits w) _ (residue-lt (bits w) x)) (residue-congruent (bits w) x))
+
+pub cast_signed-mate : (w : Width) (n : ℕ) (z : ℤ) → Fits w n → z ≡ cast_signed w n → cast_signed w (of_z w z) ≡ wrap true (bits w) (pos n)
+cast_signed-mate w n z f e =
+    let s = f.fits in
+    let g : FitsSigned w (cast_signed w n) = omega (arith, ints) in
+    ap (λ (y : ℤ). cast_signed w (of_z w y)) e ∙ to_z-of_z g ∙ signed-from_small w n (omega arith)
+
+pub ruleset mates = (unsigned-mate, cast_unsigned-mate, cast_signed-mate)

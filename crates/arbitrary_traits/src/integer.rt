@@ -1,0 +1,334 @@
+//! The integer traits.
+
+ghost use Rattle.std.specs.Prelude.{◌≡◌, ◌≢◌, ◌≤◌, ◌+ℤ◌, ◌-ℤ◌, ◌*ℤ◌, ℕ, ℤ, Bool, true, false, pos, neg_ℤ, Some, MatchResult, int_div};
+ghost use Rattle.std.specs.Ordering.{int_cmp, int_eq};
+ghost use Rattle.std.specs.Fmt.{signed_decimal};
+ghost use Rattle.arbitrary_base.specs.Range.{lo, hi, InRange};
+ghost use Rattle.arbitrary_base.specs.Residue.{residue, wrap};
+ghost use Rattle.arbitrary_base.specs.BitList.{bits, bits_and, bits_not, bits_or, bits_xor, val};
+
+use arbitrary_base::error::TryNewError;
+use arbitrary_base::storage::Sealed;
+use std::fmt::{Debug, Display};
+use std::ops::{
+    Add, AddAssign, BitAnd, BitAndAssign, BitOr, BitOrAssign, BitXor, BitXorAssign, Div, DivAssign,
+    Mul, MulAssign, Neg, Not, Sub, SubAssign,
+};
+
+/// An integer type of `BITS` bits: the numbers from 0 to `2 ^ BITS - 1`, or, where it has a sign,
+/// from `-2 ^ (BITS - 1)` to `2 ^ (BITS - 1) - 1`.
+///
+/// Equality, order and text are those of the number. The operators `+ - * /` and their assigning
+/// forms are allowed where the exact result is in range and a divisor is not 0, and give it.
+/// `& | ^ !` and their assigning forms work bit by bit, on the `BITS` bits of two's complement.
+pub trait Integer: Copy
+    + Clone
+    + PartialOrd
+    + Ord
+    + PartialEq
+    + Eq
+    + Display
+    + Debug
+    + Sealed
+    + Add<Self, Output = Self>
+    + Sub<Self, Output = Self>
+    + Mul<Self, Output = Self>
+    + Div<Self, Output = Self>
+    + BitAnd<Self, Output = Self>
+    + BitOr<Self, Output = Self>
+    + BitXor<Self, Output = Self>
+    + Not<Output = Self>
+    + AddAssign<Self>
+    + SubAssign<Self>
+    + MulAssign<Self>
+    + DivAssign<Self>
+    + BitAndAssign<Self>
+    + BitOrAssign<Self>
+    + BitXorAssign<Self> {
+    /// The storage that keeps the number. That of a primitive is itself.
+    type UnderlyingType;
+
+    /// The unsigned type of the same width, over the unsigned storage of the same width.
+    type UnsignedInteger;
+
+    /// The signed type of the same width, over the signed storage of the same width.
+    type SignedInteger;
+
+    /// The width in bits.
+    const BITS: usize;
+
+    /// Whether the type has a sign.
+    const IS_SIGNED: bool;
+
+    ghost BITS: { ℕ };
+
+    ghost IS_SIGNED: { Bool };
+
+    // Whether the storage can keep numbers of this width.
+    ghost valid: { Type 0 };
+
+    // The number that a value stands for, and those of the types around it.
+    ghost number: { Self → ℤ };
+
+    ghost underlying: { Self.UnderlyingType → ℤ };
+
+    ghost unsigned_number: { Self.UnsignedInteger → ℤ };
+
+    /// The least number. The width is valid.
+    fn min_value() -> Self
+        requires { valid }
+        ensures { number result ≡ lo IS_SIGNED BITS };
+
+    /// The greatest number. The width is valid.
+    fn max_value() -> Self
+        requires { valid }
+        ensures { number result ≡ hi IS_SIGNED BITS };
+
+    /// The number 0. The width is valid.
+    fn zero() -> Self
+        requires { valid }
+        ensures { number result ≡ pos 0 };
+
+    /// The number of `value`, which is in range. The width is valid.
+    fn new(value: Self::UnderlyingType) -> Self
+        requires width { valid }
+        requires range { InRange IS_SIGNED BITS (underlying value) }
+        ensures { number result ≡ underlying value };
+
+    /// The number of `value`, and an error exactly where it is out of range. The width is valid.
+    fn try_new(value: Self::UnderlyingType) -> Result<Self, TryNewError>
+        requires { valid }
+        ensures { MatchResult result
+            (λ x. InRange IS_SIGNED BITS (underlying value) × (number x ≡ underlying value))
+            (λ _. ¬ (InRange IS_SIGNED BITS (underlying value))) };
+
+    /// The number, in the storage.
+    fn value(self) -> Self::UnderlyingType
+        ensures value { underlying result ≡ number self }
+        ensures range { InRange IS_SIGNED BITS (number self) }
+        ensures width { valid };
+
+    /// The number's 128 bits: its residue modulo `2 ^ 128`.
+    fn extended(self) -> u128
+        ensures value { result ≡ residue 128 (number self) }
+        ensures range { InRange IS_SIGNED BITS (number self) }
+        ensures width { valid };
+
+    /// The type's number that is congruent to `pattern` modulo `2 ^ BITS`. The width is valid.
+    fn from_extended(pattern: u128) -> Self
+        requires { valid }
+        ensures { number result ≡ wrap IS_SIGNED BITS (pos pattern) };
+
+    /// The unsigned number with the same bits.
+    fn to_unsigned(self) -> Self::UnsignedInteger
+        ensures { unsigned_number result ≡ wrap false BITS (number self) };
+
+    /// The number with the same bits as the unsigned `value`.
+    fn from_unsigned(value: Self::UnsignedInteger) -> Self
+        ensures { number result ≡ wrap IS_SIGNED BITS (unsigned_number value) };
+
+    /// The same number, which is in range of this type, from any other. The width is valid.
+    final fn from_<T: Integer>(value: T) -> Self
+        requires width { valid }
+        requires range { InRange IS_SIGNED BITS (T.number value) }
+        ensures { number result ≡ T.number value }
+    {
+        Self::masked_new(value)
+    }
+
+    /// The type's number that is congruent to that of `value` modulo `2 ^ BITS`: high bits are
+    /// dropped, and the sign is extended. The width is valid.
+    #[tactic(auto, using(crate::proofs::Conversion::conversions))]
+    final fn masked_new<T: Integer>(value: T) -> Self
+        requires { valid }
+        ensures { number result ≡ wrap IS_SIGNED BITS (T.number value) }
+    {
+        Self::from_extended(value.extended())
+    }
+
+    /// `T::masked_new` of the value. The width of `T` is valid.
+    final fn as_<T: Integer>(self) -> T
+        requires { T.valid }
+        ensures { T.number result ≡ wrap T.IS_SIGNED T.BITS (number self) }
+    {
+        T::masked_new(self)
+    }
+
+    /// The low 8 bits, unsigned.
+    final fn as_u8(self) -> u8
+        ensures { pos result ≡ wrap false 8 (number self) }
+    {
+        self.as_::<u8>()
+    }
+
+    /// The low 16 bits, unsigned.
+    final fn as_u16(self) -> u16
+        ensures { pos result ≡ wrap false 16 (number self) }
+    {
+        self.as_::<u16>()
+    }
+
+    /// The low 32 bits, unsigned.
+    final fn as_u32(self) -> u32
+        ensures { pos result ≡ wrap false 32 (number self) }
+    {
+        self.as_::<u32>()
+    }
+
+    /// The low 64 bits, unsigned.
+    final fn as_u64(self) -> u64
+        ensures { pos result ≡ wrap false 64 (number self) }
+    {
+        self.as_::<u64>()
+    }
+
+    /// The low 128 bits, unsigned.
+    final fn as_u128(self) -> u128
+        ensures { pos result ≡ wrap false 128 (number self) }
+    {
+        self.as_::<u128>()
+    }
+
+    /// The low 64 bits, unsigned.
+    final fn as_usize(self) -> usize
+        ensures { pos result ≡ wrap false 64 (number self) }
+    {
+        self.as_u64() as usize
+    }
+
+    /// The low 8 bits, in two's complement.
+    final fn as_i8(self) -> i8
+        ensures { result ≡ wrap true 8 (number self) }
+    {
+        self.as_::<i8>()
+    }
+
+    /// The low 16 bits, in two's complement.
+    final fn as_i16(self) -> i16
+        ensures { result ≡ wrap true 16 (number self) }
+    {
+        self.as_::<i16>()
+    }
+
+    /// The low 32 bits, in two's complement.
+    final fn as_i32(self) -> i32
+        ensures { result ≡ wrap true 32 (number self) }
+    {
+        self.as_::<i32>()
+    }
+
+    /// The low 64 bits, in two's complement.
+    final fn as_i64(self) -> i64
+        ensures { result ≡ wrap true 64 (number self) }
+    {
+        self.as_::<i64>()
+    }
+
+    /// The low 128 bits, in two's complement.
+    final fn as_i128(self) -> i128
+        ensures { result ≡ wrap true 128 (number self) }
+    {
+        self.as_::<i128>()
+    }
+
+    /// The low 64 bits, in two's complement.
+    final fn as_isize(self) -> isize
+        ensures { result ≡ wrap true 64 (number self) }
+    {
+        self.as_i64() as isize
+    }
+
+    ghost width_law: { valid → (1 ≤ BITS) × (BITS ≤ 128) };
+
+    ghost eq_law: { (a b : Self) → Self.eq a b ≡ int_eq (number a) (number b) };
+
+    ghost cmp_law: { (a b : Self) → Self.cmp a b ≡ int_cmp (number a) (number b) };
+
+    ghost output_law: { (a : Self) → Self.output a ≡ Some (signed_decimal (number a)) };
+
+    ghost debug_output_law: { (a : Self) → Self.debug_output a ≡ Some (signed_decimal (number a)) };
+
+    // In a law a value of a primitive is any number, hence the premises on the range.
+    ghost can_add_law: { (a b : Self) → InRange IS_SIGNED BITS (number a +ℤ number b) → Self.can_add a b };
+
+    ghost add_law: { (a b r : Self) → Self.add_gives a b r → InRange IS_SIGNED BITS (number a +ℤ number b)
+        → number r ≡ number a +ℤ number b };
+
+    ghost can_add_assign_law: { (a b : Self) → Self.can_add a b → Self.can_add_assign a b };
+
+    ghost add_assign_law: { (a b r : Self) → Self.add_assign_gives a b r → Self.add_gives a b r };
+
+    ghost can_sub_law: { (a b : Self) → InRange IS_SIGNED BITS (number a -ℤ number b) → Self.can_sub a b };
+
+    ghost sub_law: { (a b r : Self) → Self.sub_gives a b r → InRange IS_SIGNED BITS (number a -ℤ number b)
+        → number r ≡ number a -ℤ number b };
+
+    ghost can_sub_assign_law: { (a b : Self) → Self.can_sub a b → Self.can_sub_assign a b };
+
+    ghost sub_assign_law: { (a b r : Self) → Self.sub_assign_gives a b r → Self.sub_gives a b r };
+
+    ghost can_mul_law: { (a b : Self) → InRange IS_SIGNED BITS (number a *ℤ number b) → Self.can_mul a b };
+
+    ghost mul_law: { (a b r : Self) → Self.mul_gives a b r → InRange IS_SIGNED BITS (number a *ℤ number b)
+        → number r ≡ number a *ℤ number b };
+
+    ghost can_mul_assign_law: { (a b : Self) → Self.can_mul a b → Self.can_mul_assign a b };
+
+    ghost mul_assign_law: { (a b r : Self) → Self.mul_assign_gives a b r → Self.mul_gives a b r };
+
+    ghost can_div_law: { (a b : Self) → InRange IS_SIGNED BITS (number b) → number b ≢ pos 0
+        → InRange IS_SIGNED BITS (int_div (number a) (number b)) → Self.can_div a b };
+
+    ghost div_law: { (a b r : Self) → Self.div_gives a b r → number r ≡ int_div (number a) (number b) };
+
+    ghost can_div_assign_law: { (a b : Self) → Self.can_div a b → Self.can_div_assign a b };
+
+    ghost div_assign_law: { (a b r : Self) → Self.div_assign_gives a b r → Self.div_gives a b r };
+
+    ghost can_bitand_law: { (a b : Self) → Self.can_bitand a b };
+
+    ghost bitand_law: { (a b r : Self) → Self.bitand_gives a b r → InRange IS_SIGNED BITS (number a) → InRange IS_SIGNED BITS (number b)
+        → number r ≡ val IS_SIGNED (bits_and (bits BITS (number a)) (bits BITS (number b))) };
+
+    ghost can_bitand_assign_law: { (a b : Self) → Self.can_bitand_assign a b };
+
+    ghost bitand_assign_law: { (a b r : Self) → Self.bitand_assign_gives a b r → Self.bitand_gives a b r };
+
+    ghost can_bitor_law: { (a b : Self) → Self.can_bitor a b };
+
+    ghost bitor_law: { (a b r : Self) → Self.bitor_gives a b r → InRange IS_SIGNED BITS (number a) → InRange IS_SIGNED BITS (number b)
+        → number r ≡ val IS_SIGNED (bits_or (bits BITS (number a)) (bits BITS (number b))) };
+
+    ghost can_bitor_assign_law: { (a b : Self) → Self.can_bitor_assign a b };
+
+    ghost bitor_assign_law: { (a b r : Self) → Self.bitor_assign_gives a b r → Self.bitor_gives a b r };
+
+    ghost can_bitxor_law: { (a b : Self) → Self.can_bitxor a b };
+
+    ghost bitxor_law: { (a b r : Self) → Self.bitxor_gives a b r → InRange IS_SIGNED BITS (number a) → InRange IS_SIGNED BITS (number b)
+        → number r ≡ val IS_SIGNED (bits_xor (bits BITS (number a)) (bits BITS (number b))) };
+
+    ghost can_bitxor_assign_law: { (a b : Self) → Self.can_bitxor_assign a b };
+
+    ghost bitxor_assign_law: { (a b r : Self) → Self.bitxor_assign_gives a b r → Self.bitxor_gives a b r };
+
+    ghost can_not_law: { (a : Self) → Self.can_not a };
+
+    ghost not_law: { (a r : Self) → Self.not_gives a r → InRange IS_SIGNED BITS (number a)
+        → number r ≡ val IS_SIGNED (bits_not (bits BITS (number a))) };
+}
+
+/// An integer type that has no sign.
+pub trait UnsignedInteger: Integer {
+    ghost unsigned_law: { Self.IS_SIGNED ≡ false };
+}
+
+/// An integer type that has a sign. Unary minus is allowed where the exact result is in range, and
+/// gives it: everywhere but at the least number.
+pub trait SignedInteger: Integer + Neg<Output = Self> {
+    ghost signed_law: { Self.IS_SIGNED ≡ true };
+
+    ghost can_neg_law: { (a : Self) → InRange Self.IS_SIGNED Self.BITS (neg_ℤ (Self.number a)) → Self.can_neg a };
+
+    ghost neg_law: { (a r : Self) → Self.neg_gives a r → Self.number r ≡ neg_ℤ (Self.number a) };
+}
