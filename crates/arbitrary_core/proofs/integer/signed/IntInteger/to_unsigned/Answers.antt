@@ -1,0 +1,5 @@
+use Rattle.arbitrary_core.proofs.Mate.{wrap-bits}
+use Rattle.arbitrary_core.proofs.integer.signed.IntInteger.to_unsigned.Goals as goal
+
+pub returns : goal.returns
+returns g c = wrap-bits g.row.BITS _ _ _ (c.to_bits.ensures.width.0) c.to_bits.ensures.value c.new.ensures

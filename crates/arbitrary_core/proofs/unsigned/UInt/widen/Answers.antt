@@ -1,0 +1,9 @@
+use Rattle.std.proofs.Common.{rules, ◌≤◌, arith}
+use Rattle.arbitrary_base.proofs.Narrow.{widened}
+use Rattle.arbitrary_core.proofs.unsigned.UInt.widen.Goals as goal
+
+pub new-requires : goal.new-requires
+new-requires g c =
+    let above = c.requires.above in
+    let some : 1 ≤ g.row.R = omega arith in
+    (search rules, ((some, c.requires.width), widened g.T.Storage.SIGNED g.row.BITS g.row.R _ _ (c.value.ensures.width.0) c.requires.above c.value.ensures.range c.value.ensures.number))

@@ -1,0 +1,4 @@
+//! The bitwise operators.
+
+pub mod signed;
+pub mod unsigned;

@@ -1,0 +1,4 @@
+//! Equality and order of values: those of their numbers.
+
+pub mod signed;
+pub mod unsigned;

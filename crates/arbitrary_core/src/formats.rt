@@ -1,0 +1,4 @@
+//! Values as text: the number in decimal.
+
+pub mod signed;
+pub mod unsigned;

@@ -1,0 +1,30 @@
+//! `Int` as text: the number in decimal.
+
+ghost use Rattle.std.specs.Prelude.{Some};
+ghost use Rattle.std.specs.Fmt.{signed_decimal};
+
+use crate::signed::Int;
+use arbitrary_base::storage::{BuiltinInteger, PatternOf, SignedStorage};
+use std::fmt;
+
+impl<T: BuiltinInteger + SignedStorage, const BITS: usize> fmt::Display for Int<T, BITS>
+where
+    T::Unsigned: PatternOf<T>,
+{
+    ghost output = { λ x. Some (signed_decimal x) };
+
+    fn fmt<W: fmt::Write>(&self, f: &mut fmt::Formatter<W>) -> fmt::Result {
+        fmt::Display::fmt(&self.value(), f)
+    }
+}
+
+impl<T: BuiltinInteger + SignedStorage, const BITS: usize> fmt::Debug for Int<T, BITS>
+where
+    T::Unsigned: PatternOf<T>,
+{
+    ghost debug_output = { λ x. Some (signed_decimal x) };
+
+    fn fmt<W: fmt::Write>(&self, f: &mut fmt::Formatter<W>) -> fmt::Result {
+        fmt::Display::fmt(&self.value(), f)
+    }
+}

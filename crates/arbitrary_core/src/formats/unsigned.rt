@@ -1,0 +1,24 @@
+//! `UInt` as text: the number in decimal.
+
+ghost use Rattle.std.specs.Prelude.{Some};
+ghost use Rattle.std.specs.Fmt.{signed_decimal};
+
+use crate::unsigned::UInt;
+use arbitrary_base::storage::UnsignedStorage;
+use std::fmt;
+
+impl<T: UnsignedStorage, const BITS: usize> fmt::Display for UInt<T, BITS> {
+    ghost output = { λ x. Some (signed_decimal x) };
+
+    fn fmt<W: fmt::Write>(&self, f: &mut fmt::Formatter<W>) -> fmt::Result {
+        fmt::Display::fmt(&self.value(), f)
+    }
+}
+
+impl<T: UnsignedStorage, const BITS: usize> fmt::Debug for UInt<T, BITS> {
+    ghost debug_output = { λ x. Some (signed_decimal x) };
+
+    fn fmt<W: fmt::Write>(&self, f: &mut fmt::Formatter<W>) -> fmt::Result {
+        fmt::Display::fmt(&self.value(), f)
+    }
+}

@@ -1,0 +1,167 @@
+//! `Int` as an integer type.
+
+ghost use Rattle.std.specs.Prelude.{refl};
+ghost use Rattle.std.proofs.Common.{le_trans};
+ghost use Rattle.arbitrary_base.specs.Range.{IsValidWidth};
+
+use crate::signed::Int;
+use crate::unsigned::UInt;
+use arbitrary_base::ends::{highest, lowest};
+use arbitrary_base::error::TryNewError;
+use arbitrary_base::narrowing::{extended, from_low_bits};
+use arbitrary_base::storage::{BuiltinInteger, PatternOf, Sealed, SignedStorage, Storage};
+use arbitrary_traits::integer::{Integer, SignedInteger};
+
+impl<T: BuiltinInteger + SignedStorage, const BITS: usize> Sealed for Int<T, BITS>
+where
+    T::Unsigned: PatternOf<T>,
+{}
+
+impl<T: BuiltinInteger + SignedStorage, const BITS: usize> Integer for Int<T, BITS>
+where
+    T::Unsigned: PatternOf<T>,
+{
+    type UnderlyingType = T;
+
+    type UnsignedInteger = UInt<T::Unsigned, BITS>;
+
+    type SignedInteger = Int<T, BITS>;
+
+    const BITS: usize = BITS;
+
+    const IS_SIGNED: bool = T::SIGNED;
+
+    ghost BITS = { BITS };
+
+    ghost IS_SIGNED = { T.SIGNED };
+
+    ghost valid = { IsValidWidth BITS T.WIDTH };
+
+    ghost number = { λ x. x };
+
+    ghost underlying = { T.number };
+
+    ghost unsigned_number = { λ x. x };
+
+    fn min_value() -> Int<T, BITS> {
+        Int::<T, BITS>::new(lowest(BITS))
+    }
+
+    fn max_value() -> Int<T, BITS> {
+        Int::<T, BITS>::new(highest(BITS))
+    }
+
+    #[tactic(auto, using(arbitrary_base::proofs::Sum::zeros))]
+    fn zero() -> Int<T, BITS> {
+        Int::<T, BITS>::new(from_low_bits(0, BITS))
+    }
+
+    fn new(value: T) -> Int<T, BITS> {
+        Int::<T, BITS>::new(value)
+    }
+
+    fn try_new(value: T) -> Result<Int<T, BITS>, TryNewError> {
+        Int::<T, BITS>::try_new(value)
+    }
+
+    fn value(self) -> T {
+        Int::<T, BITS>::value(self)
+    }
+
+    fn extended(self) -> u128 {
+        extended(Int::<T, BITS>::value(self))
+    }
+
+    fn from_extended(pattern: u128) -> Int<T, BITS> {
+        Int::<T, BITS>::new(from_low_bits(pattern, BITS))
+    }
+
+    fn to_unsigned(self) -> UInt<T::Unsigned, BITS> {
+        UInt::<T::Unsigned, BITS>::new(self.to_bits())
+    }
+
+    fn from_unsigned(value: UInt<T::Unsigned, BITS>) -> Int<T, BITS> {
+        Int::<T, BITS>::from_bits(UInt::<T::Unsigned, BITS>::value(value))
+    }
+
+    ghost width_law = { λ h. (h.0, le_trans h.1 (T.width_law.1)) };
+
+    ghost eq_law = { λ a b. refl };
+
+    ghost cmp_law = { λ a b. refl };
+
+    ghost output_law = { λ a. refl };
+
+    ghost debug_output_law = { λ a. refl };
+
+    ghost can_add_law = { λ a b h. h };
+
+    ghost add_law = { λ a b r h f. h };
+
+    ghost can_add_assign_law = { λ a b h. h };
+
+    ghost add_assign_law = { λ a b r h. h };
+
+    ghost can_sub_law = { λ a b h. h };
+
+    ghost sub_law = { λ a b r h f. h };
+
+    ghost can_sub_assign_law = { λ a b h. h };
+
+    ghost sub_assign_law = { λ a b r h. h };
+
+    ghost can_mul_law = { λ a b h. h };
+
+    ghost mul_law = { λ a b r h f. h };
+
+    ghost can_mul_assign_law = { λ a b h. h };
+
+    ghost mul_assign_law = { λ a b r h. h };
+
+    ghost can_div_law = { λ a b f n g. (n, g) };
+
+    ghost div_law = { λ a b r h. h };
+
+    ghost can_div_assign_law = { λ a b h. h };
+
+    ghost div_assign_law = { λ a b r h. h };
+
+    ghost can_bitand_law = { λ a b. tt };
+
+    ghost bitand_law = { λ a b r h f g. h };
+
+    ghost can_bitand_assign_law = { λ a b. tt };
+
+    ghost bitand_assign_law = { λ a b r h. h };
+
+    ghost can_bitor_law = { λ a b. tt };
+
+    ghost bitor_law = { λ a b r h f g. h };
+
+    ghost can_bitor_assign_law = { λ a b. tt };
+
+    ghost bitor_assign_law = { λ a b r h. h };
+
+    ghost can_bitxor_law = { λ a b. tt };
+
+    ghost bitxor_law = { λ a b r h f g. h };
+
+    ghost can_bitxor_assign_law = { λ a b. tt };
+
+    ghost bitxor_assign_law = { λ a b r h. h };
+
+    ghost can_not_law = { λ a. tt };
+
+    ghost not_law = { λ a r h f. h };
+}
+
+impl<T: BuiltinInteger + SignedStorage, const BITS: usize> SignedInteger for Int<T, BITS>
+where
+    T::Unsigned: PatternOf<T>,
+{
+    ghost signed_law = { T.signed_law };
+
+    ghost can_neg_law = { λ a h. h };
+
+    ghost neg_law = { λ a r h. h };
+}

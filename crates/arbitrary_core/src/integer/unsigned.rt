@@ -1,0 +1,164 @@
+//! `UInt` as an integer type.
+
+ghost use Rattle.std.specs.Prelude.{refl};
+ghost use Rattle.std.proofs.Common.{le_trans};
+ghost use Rattle.arbitrary_base.specs.Range.{IsValidWidth};
+
+use crate::signed::Int;
+use crate::unsigned::UInt;
+use arbitrary_base::ends::{highest, lowest};
+use arbitrary_base::error::TryNewError;
+use arbitrary_base::narrowing::{extended, from_low_bits};
+use arbitrary_base::storage::{
+    BuiltinInteger, PatternOf, Sealed, SignedOf, Storage, UnsignedStorage,
+};
+use arbitrary_traits::integer::{Integer, UnsignedInteger};
+
+impl<T: UnsignedStorage, const BITS: usize> Sealed for UInt<T, BITS> {}
+
+impl<T: BuiltinInteger + UnsignedStorage, const BITS: usize> Integer for UInt<T, BITS>
+where
+    T::Signed: BuiltinInteger + SignedOf<T>,
+    <T::Signed as BuiltinInteger>::Unsigned: PatternOf<T::Signed>,
+{
+    type UnderlyingType = T;
+
+    type UnsignedInteger = UInt<T, BITS>;
+
+    type SignedInteger = Int<T::Signed, BITS>;
+
+    const BITS: usize = BITS;
+
+    const IS_SIGNED: bool = T::SIGNED;
+
+    ghost BITS = { BITS };
+
+    ghost IS_SIGNED = { T.SIGNED };
+
+    ghost valid = { IsValidWidth BITS T.WIDTH };
+
+    ghost number = { λ x. x };
+
+    ghost underlying = { T.number };
+
+    ghost unsigned_number = { λ x. x };
+
+    fn min_value() -> UInt<T, BITS> {
+        UInt::<T, BITS>::new(lowest(BITS))
+    }
+
+    fn max_value() -> UInt<T, BITS> {
+        UInt::<T, BITS>::new(highest(BITS))
+    }
+
+    #[tactic(auto, using(arbitrary_base::proofs::Sum::zeros))]
+    fn zero() -> UInt<T, BITS> {
+        UInt::<T, BITS>::new(from_low_bits(0, BITS))
+    }
+
+    fn new(value: T) -> UInt<T, BITS> {
+        UInt::<T, BITS>::new(value)
+    }
+
+    fn try_new(value: T) -> Result<UInt<T, BITS>, TryNewError> {
+        UInt::<T, BITS>::try_new(value)
+    }
+
+    fn value(self) -> T {
+        UInt::<T, BITS>::value(self)
+    }
+
+    fn extended(self) -> u128 {
+        extended(UInt::<T, BITS>::value(self))
+    }
+
+    fn from_extended(pattern: u128) -> UInt<T, BITS> {
+        UInt::<T, BITS>::new(from_low_bits(pattern, BITS))
+    }
+
+    fn to_unsigned(self) -> UInt<T, BITS> {
+        UInt::<T, BITS>::new(UInt::<T, BITS>::value(self))
+    }
+
+    fn from_unsigned(value: UInt<T, BITS>) -> UInt<T, BITS> {
+        UInt::<T, BITS>::new(UInt::<T, BITS>::value(value))
+    }
+
+    ghost width_law = { λ h. (h.0, le_trans h.1 (T.width_law.1)) };
+
+    ghost eq_law = { λ a b. refl };
+
+    ghost cmp_law = { λ a b. refl };
+
+    ghost output_law = { λ a. refl };
+
+    ghost debug_output_law = { λ a. refl };
+
+    ghost can_add_law = { λ a b h. h };
+
+    ghost add_law = { λ a b r h f. h };
+
+    ghost can_add_assign_law = { λ a b h. h };
+
+    ghost add_assign_law = { λ a b r h. h };
+
+    ghost can_sub_law = { λ a b h. h };
+
+    ghost sub_law = { λ a b r h f. h };
+
+    ghost can_sub_assign_law = { λ a b h. h };
+
+    ghost sub_assign_law = { λ a b r h. h };
+
+    ghost can_mul_law = { λ a b h. h };
+
+    ghost mul_law = { λ a b r h f. h };
+
+    ghost can_mul_assign_law = { λ a b h. h };
+
+    ghost mul_assign_law = { λ a b r h. h };
+
+    ghost can_div_law = { λ a b f n g. (n, g) };
+
+    ghost div_law = { λ a b r h. h };
+
+    ghost can_div_assign_law = { λ a b h. h };
+
+    ghost div_assign_law = { λ a b r h. h };
+
+    ghost can_bitand_law = { λ a b. tt };
+
+    ghost bitand_law = { λ a b r h f g. h };
+
+    ghost can_bitand_assign_law = { λ a b. tt };
+
+    ghost bitand_assign_law = { λ a b r h. h };
+
+    ghost can_bitor_law = { λ a b. tt };
+
+    ghost bitor_law = { λ a b r h f g. h };
+
+    ghost can_bitor_assign_law = { λ a b. tt };
+
+    ghost bitor_assign_law = { λ a b r h. h };
+
+    ghost can_bitxor_law = { λ a b. tt };
+
+    ghost bitxor_law = { λ a b r h f g. h };
+
+    ghost can_bitxor_assign_law = { λ a b. tt };
+
+    ghost bitxor_assign_law = { λ a b r h. h };
+
+    ghost can_not_law = { λ a. tt };
+
+    ghost not_law = { λ a r h f. h };
+}
+
+impl<T: BuiltinInteger + UnsignedStorage, const BITS: usize> UnsignedInteger for UInt<T, BITS>
+where
+    T::Signed: BuiltinInteger + SignedOf<T>,
+    <T::Signed as BuiltinInteger>::Unsigned: PatternOf<T::Signed>,
+{
+    ghost unsigned_law = { T.unsigned_law };
+}

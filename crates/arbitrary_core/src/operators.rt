@@ -1,0 +1,4 @@
+//! The arithmetic operators.
+
+pub mod signed;
+pub mod unsigned;

@@ -1,0 +1,142 @@
+//! `+ - * /` and unary minus of `Int`, exact: the caller shows that the result is in range, and that a
+//! divisor is not zero.
+
+ghost use Rattle.std.specs.Prelude.{◌≡◌, ◌≢◌, ◌+ℤ◌, ◌-ℤ◌, ◌*ℤ◌, neg_ℤ, pos, int_div};
+ghost use Rattle.arbitrary_base.specs.Range.{InRange};
+
+use crate::signed::Int;
+use arbitrary_base::storage::{BuiltinInteger, PatternOf, SignedStorage};
+use arbitrary_base::wrapping;
+use std::ops::{Add, AddAssign, Div, DivAssign, Mul, MulAssign, Neg, Sub, SubAssign};
+
+impl<T: BuiltinInteger + SignedStorage, const BITS: usize> Add<Int<T, BITS>> for Int<T, BITS>
+where
+    T::Unsigned: PatternOf<T>,
+{
+    type Output = Int<T, BITS>;
+
+    ghost can_add = { λ a b. InRange T.SIGNED BITS (a +ℤ b) };
+
+    ghost add_gives = { λ a b r. r ≡ a +ℤ b };
+
+    #[tactic(auto, using(arbitrary_base::proofs::Sum::fitting))]
+    fn add(self, rhs: Int<T, BITS>) -> Int<T, BITS> {
+        Int::<T, BITS>::new(wrapping::add(self.value(), rhs.value(), BITS))
+    }
+}
+
+impl<T: BuiltinInteger + SignedStorage, const BITS: usize> AddAssign<Int<T, BITS>> for Int<T, BITS>
+where
+    T::Unsigned: PatternOf<T>,
+{
+    ghost can_add_assign = { λ a b. InRange T.SIGNED BITS (a +ℤ b) };
+
+    ghost add_assign_gives = { λ a b r. r ≡ a +ℤ b };
+
+    fn add_assign(&mut self, rhs: Int<T, BITS>) {
+        *self = *self + rhs;
+    }
+}
+
+impl<T: BuiltinInteger + SignedStorage, const BITS: usize> Sub<Int<T, BITS>> for Int<T, BITS>
+where
+    T::Unsigned: PatternOf<T>,
+{
+    type Output = Int<T, BITS>;
+
+    ghost can_sub = { λ a b. InRange T.SIGNED BITS (a -ℤ b) };
+
+    ghost sub_gives = { λ a b r. r ≡ a -ℤ b };
+
+    #[tactic(auto, using(arbitrary_base::proofs::Sum::fitting))]
+    fn sub(self, rhs: Int<T, BITS>) -> Int<T, BITS> {
+        Int::<T, BITS>::new(wrapping::sub(self.value(), rhs.value(), BITS))
+    }
+}
+
+impl<T: BuiltinInteger + SignedStorage, const BITS: usize> SubAssign<Int<T, BITS>> for Int<T, BITS>
+where
+    T::Unsigned: PatternOf<T>,
+{
+    ghost can_sub_assign = { λ a b. InRange T.SIGNED BITS (a -ℤ b) };
+
+    ghost sub_assign_gives = { λ a b r. r ≡ a -ℤ b };
+
+    fn sub_assign(&mut self, rhs: Int<T, BITS>) {
+        *self = *self - rhs;
+    }
+}
+
+impl<T: BuiltinInteger + SignedStorage, const BITS: usize> Mul<Int<T, BITS>> for Int<T, BITS>
+where
+    T::Unsigned: PatternOf<T>,
+{
+    type Output = Int<T, BITS>;
+
+    ghost can_mul = { λ a b. InRange T.SIGNED BITS (a *ℤ b) };
+
+    ghost mul_gives = { λ a b r. r ≡ a *ℤ b };
+
+    #[tactic(auto, using(arbitrary_base::proofs::Sum::fitting))]
+    fn mul(self, rhs: Int<T, BITS>) -> Int<T, BITS> {
+        Int::<T, BITS>::new(wrapping::mul(self.value(), rhs.value(), BITS))
+    }
+}
+
+impl<T: BuiltinInteger + SignedStorage, const BITS: usize> MulAssign<Int<T, BITS>> for Int<T, BITS>
+where
+    T::Unsigned: PatternOf<T>,
+{
+    ghost can_mul_assign = { λ a b. InRange T.SIGNED BITS (a *ℤ b) };
+
+    ghost mul_assign_gives = { λ a b r. r ≡ a *ℤ b };
+
+    fn mul_assign(&mut self, rhs: Int<T, BITS>) {
+        *self = *self * rhs;
+    }
+}
+
+impl<T: BuiltinInteger + SignedStorage, const BITS: usize> Div<Int<T, BITS>> for Int<T, BITS>
+where
+    T::Unsigned: PatternOf<T>,
+{
+    type Output = Int<T, BITS>;
+
+    ghost can_div = { λ a b. (b ≢ pos 0) × InRange T.SIGNED BITS (int_div a b) };
+
+    ghost div_gives = { λ a b r. r ≡ int_div a b };
+
+    #[tactic(auto, using(arbitrary_base::proofs::Sum::fitting))]
+    fn div(self, rhs: Int<T, BITS>) -> Int<T, BITS> {
+        Int::<T, BITS>::new(wrapping::div(self.value(), rhs.value(), BITS))
+    }
+}
+
+impl<T: BuiltinInteger + SignedStorage, const BITS: usize> DivAssign<Int<T, BITS>> for Int<T, BITS>
+where
+    T::Unsigned: PatternOf<T>,
+{
+    ghost can_div_assign = { λ a b. (b ≢ pos 0) × InRange T.SIGNED BITS (int_div a b) };
+
+    ghost div_assign_gives = { λ a b r. r ≡ int_div a b };
+
+    fn div_assign(&mut self, rhs: Int<T, BITS>) {
+        *self = *self / rhs;
+    }
+}
+
+impl<T: BuiltinInteger + SignedStorage, const BITS: usize> Neg for Int<T, BITS>
+where
+    T::Unsigned: PatternOf<T>,
+{
+    type Output = Int<T, BITS>;
+
+    ghost can_neg = { λ a. InRange T.SIGNED BITS (neg_ℤ a) };
+
+    ghost neg_gives = { λ a r. r ≡ neg_ℤ a };
+
+    #[tactic(auto, using(arbitrary_base::proofs::Sum::fitting))]
+    fn neg(self) -> Int<T, BITS> {
+        Int::<T, BITS>::new(wrapping::neg(self.value(), BITS))
+    }
+}

@@ -1,0 +1,4 @@
+//! The shift operators.
+
+pub mod signed;
+pub mod unsigned;

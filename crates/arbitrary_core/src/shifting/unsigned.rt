@@ -1,0 +1,54 @@
+//! `<<` and `>>` of `UInt`, by an amount from 0 to `BITS - 1` of any primitive integer type.
+
+ghost use Rattle.std.specs.Prelude.{◌≡◌, ◌≤ℤ◌, ◌<ℤ◌, pos, unsigned_abs};
+ghost use Rattle.arbitrary_base.specs.BitList.{bits, val, fill, shl as shifted_left, shr as shifted_right};
+
+use crate::unsigned::UInt;
+use arbitrary_base::shifts;
+use arbitrary_base::storage::UnsignedStorage;
+use arbitrary_traits::shift_amount::ShiftAmount;
+use std::ops::{Shl, ShlAssign, Shr, ShrAssign};
+
+impl<T: UnsignedStorage, const BITS: usize, S: ShiftAmount> Shl<S> for UInt<T, BITS> {
+    type Output = UInt<T, BITS>;
+
+    ghost can_shl = { λ a k. (pos 0 ≤ℤ S.amount k) × (S.amount k <ℤ pos BITS) };
+
+    ghost shl_gives = { λ a k r. r ≡ val T.SIGNED (shifted_left (bits BITS a) (unsigned_abs (S.amount k))) };
+
+    fn shl(self, amount: S) -> UInt<T, BITS> {
+        UInt::new(shifts::shl(self.value(), amount.to_amount(), BITS))
+    }
+}
+
+impl<T: UnsignedStorage, const BITS: usize, S: ShiftAmount> ShlAssign<S> for UInt<T, BITS> {
+    ghost can_shl_assign = { λ a k. (pos 0 ≤ℤ S.amount k) × (S.amount k <ℤ pos BITS) };
+
+    ghost shl_assign_gives = { λ a k r. r ≡ val T.SIGNED (shifted_left (bits BITS a) (unsigned_abs (S.amount k))) };
+
+    fn shl_assign(&mut self, amount: S) {
+        *self = *self << amount;
+    }
+}
+
+impl<T: UnsignedStorage, const BITS: usize, S: ShiftAmount> Shr<S> for UInt<T, BITS> {
+    type Output = UInt<T, BITS>;
+
+    ghost can_shr = { λ a k. (pos 0 ≤ℤ S.amount k) × (S.amount k <ℤ pos BITS) };
+
+    ghost shr_gives = { λ a k r. r ≡ val T.SIGNED (shifted_right (bits BITS a) (unsigned_abs (S.amount k)) (fill T.SIGNED (bits BITS a))) };
+
+    fn shr(self, amount: S) -> UInt<T, BITS> {
+        UInt::new(shifts::shr(self.value(), amount.to_amount(), BITS))
+    }
+}
+
+impl<T: UnsignedStorage, const BITS: usize, S: ShiftAmount> ShrAssign<S> for UInt<T, BITS> {
+    ghost can_shr_assign = { λ a k. (pos 0 ≤ℤ S.amount k) × (S.amount k <ℤ pos BITS) };
+
+    ghost shr_assign_gives = { λ a k r. r ≡ val T.SIGNED (shifted_right (bits BITS a) (unsigned_abs (S.amount k)) (fill T.SIGNED (bits BITS a))) };
+
+    fn shr_assign(&mut self, amount: S) {
+        *self = *self >> amount;
+    }
+}

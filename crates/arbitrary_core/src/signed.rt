@@ -1,0 +1,279 @@
+//! Signed integers of any width, in two's complement.
+
+ghost use Rattle.std.specs.Prelude.{◌≡◌, ◌↔◌, ◌<◌, ◌≤◌, ◌-ℤ◌, ◌≤ℤ◌, ◌<ℤ◌, ◌^◌, pos, neg_ℤ, IsTrue, MatchResult, ⊤};
+ghost use Rattle.arbitrary_base.specs.Range.{InRange, IsValidWidth};
+ghost use Rattle.arbitrary_base.specs.Residue.{residue, wrap};
+ghost use Rattle.arbitrary_base.specs.Saturation.{clamp};
+ghost use Rattle.arbitrary_base.specs.Exact.{ExactOrNone};
+
+use arbitrary_base::ends::{is_below_zero, is_zero};
+use arbitrary_base::error::TryNewError;
+use arbitrary_base::narrowing::{convert, is_in_range, ones};
+use arbitrary_base::storage::{BuiltinInteger, PatternOf, SignedStorage, Storage};
+use arbitrary_base::{checked, overflowing, saturating, wrapping};
+use std::alloc::AllocError;
+use std::marker::{Model, PhantomData};
+
+/// A signed integer of `BITS` bits, kept in the primitive `T`: a number from `-2 ^ (BITS - 1)` to
+/// `2 ^ (BITS - 1) - 1`. Write `Int<T, BITS>`: the last parameter is always the unsigned primitive
+/// that is as wide as `T`.
+///
+/// In contracts a value is its number. Every value has a valid width (`1 <= BITS`, and at most the
+/// bits of `T`) and a number in range.
+pub struct Int<
+    T: SignedStorage,
+    const BITS: usize,
+    U: PatternOf<T> = <T as BuiltinInteger>::Unsigned,
+> {
+    value: T,
+    of: PhantomData<U>,
+}
+
+impl<T: SignedStorage, const BITS: usize, U: PatternOf<T>> Model for Int<T, BITS, U> {
+    ghost use Rattle.std.specs.Prelude.{ℤ};
+    ghost use Rattle.std.proofs.Common.{ap};
+    ghost use Rattle.arbitrary_base.specs.Range.{InRange, IsValidWidth};
+
+    ghost Value = { ℤ };
+
+    ghost view = { λ a. T.number a.value };
+
+    ghost invariant = { λ a. IsValidWidth BITS T.WIDTH × InRange T.SIGNED BITS (T.number a.value) };
+
+    ghost inverse = { λ x. record { value = T.of_number x; of = record {} } };
+
+    ghost inverse_ok = { λ a h. ap (λ v. record { value = v; of = a.of }) (T.round_trip_law a.value) };
+}
+
+impl<T: SignedStorage, const BITS: usize, U: PatternOf<T>> Copy for Int<T, BITS, U> {}
+
+impl<T: SignedStorage, const BITS: usize, U: PatternOf<T>> Clone for Int<T, BITS, U> {
+    ghost is_clone = { λ x y. y ≡ x };
+
+    ghost is_infallible = { λ _. ⊤ };
+
+    fn clone(&self) -> Result<Self, AllocError> {
+        Ok(*self)
+    }
+}
+
+impl<T: BuiltinInteger + SignedStorage, const BITS: usize> Int<T, BITS>
+where
+    T::Unsigned: PatternOf<T>,
+{
+    /// Whether a type of this width exists: from 1 bit to as many as the storage has.
+    pub fn is_valid_width() -> bool
+        ensures { IsTrue result ↔ IsValidWidth BITS T.WIDTH }
+    {
+        1 <= BITS && BITS <= T::WIDTH
+    }
+
+    /// The value of a number. The caller shows that the width is valid (test it by
+    /// `is_valid_width`) and that the number is in range (or calls `try_new`).
+    pub fn new(value: T) -> Self
+        requires width { IsValidWidth BITS T.WIDTH }
+        requires range { InRange T.SIGNED BITS (T.number value) }
+        ensures { result ≡ T.number value }
+    {
+        Int {
+            value,
+            of: PhantomData,
+        }
+    }
+
+    /// `new` under the name of the original's unsafe call. Here it is safe: its conditions are shown.
+    pub fn new_unchecked(value: T) -> Self
+        requires width { IsValidWidth BITS T.WIDTH }
+        requires range { InRange T.SIGNED BITS (T.number value) }
+        ensures { result ≡ T.number value }
+    {
+        Int::<T, BITS>::new(value)
+    }
+
+    /// The value of a number, or an error where the number is out of range.
+    pub fn try_new(value: T) -> Result<Self, TryNewError>
+        requires width { IsValidWidth BITS T.WIDTH }
+        ensures { MatchResult result
+            (λ x. InRange T.SIGNED BITS (T.number value) × (x ≡ T.number value))
+            (λ _. ¬ (InRange T.SIGNED BITS (T.number value))) }
+    {
+        if is_in_range(value, BITS) {
+            Ok(Int::<T, BITS>::new(value))
+        } else {
+            Err(TryNewError)
+        }
+    }
+
+    /// The storage's value whose low `BITS` bits are one, and whose others are zero: -1 where `BITS`
+    /// is all of the storage's bits.
+    pub fn mask() -> T
+        requires width { IsValidWidth BITS T.WIDTH }
+        ensures { T.number result ≡ wrap T.SIGNED T.WIDTH (pos (2 ^ BITS) -ℤ pos 1) }
+    {
+        T::from_pattern(ones(BITS))
+    }
+
+    /// The number, in the storage.
+    pub fn value(self) -> T
+        ensures number { T.number result ≡ self }
+        ensures width { IsValidWidth BITS T.WIDTH }
+        ensures range { InRange T.SIGNED BITS self }
+    {
+        self.value
+    }
+
+    /// The bits of the number: its residue modulo `2 ^ BITS`.
+    #[tactic(auto, using(arbitrary_base::proofs::Narrow::patterns))]
+    pub fn to_bits(self) -> T::Unsigned
+        ensures value { T.Unsigned.number result ≡ pos (residue BITS self) }
+        ensures width { IsValidWidth BITS T.WIDTH }
+        ensures range { InRange T.Unsigned.SIGNED BITS (T.Unsigned.number result) }
+    {
+        convert(self.value(), BITS)
+    }
+
+    /// The value that has these bits. The caller shows that the width is valid and that the pattern
+    /// is below `2 ^ BITS` (or calls `try_from_bits`).
+    #[tactic(auto, using(arbitrary_base::proofs::Narrow::patterns))]
+    pub fn from_bits(bits: T::Unsigned) -> Self
+        requires width { IsValidWidth BITS T.WIDTH }
+        requires range { InRange T.Unsigned.SIGNED BITS (T.Unsigned.number bits) }
+        ensures bits { pos (residue BITS result) ≡ T.Unsigned.number bits }
+        ensures number { result ≡ wrap T.SIGNED BITS (T.Unsigned.number bits) }
+    {
+        Int::<T, BITS>::new(convert(bits, BITS))
+    }
+
+    /// `from_bits` under the name of the original's unsafe call. Here it is safe: its conditions are
+    /// shown.
+    pub fn from_bits_unchecked(bits: T::Unsigned) -> Self
+        requires width { IsValidWidth BITS T.WIDTH }
+        requires range { InRange T.Unsigned.SIGNED BITS (T.Unsigned.number bits) }
+        ensures bits { pos (residue BITS result) ≡ T.Unsigned.number bits }
+        ensures number { result ≡ wrap T.SIGNED BITS (T.Unsigned.number bits) }
+    {
+        Int::<T, BITS>::from_bits(bits)
+    }
+
+    /// The value that has these bits, or an error where the pattern is `2 ^ BITS` or more.
+    #[tactic(auto, using(arbitrary_base::proofs::Narrow::patterns))]
+    pub fn try_from_bits(bits: T::Unsigned) -> Result<Self, TryNewError>
+        requires width { IsValidWidth BITS T.WIDTH }
+        ensures { MatchResult result
+            (λ x. InRange T.Unsigned.SIGNED BITS (T.Unsigned.number bits) × (pos (residue BITS x) ≡ T.Unsigned.number bits))
+            (λ _. ¬ (InRange T.Unsigned.SIGNED BITS (T.Unsigned.number bits))) }
+    {
+        if is_in_range(bits, BITS) {
+            Ok(Int::<T, BITS>::from_bits(bits))
+        } else {
+            Err(TryNewError)
+        }
+    }
+
+    /// Whether the number is above 0.
+    pub fn is_positive(self) -> bool
+        ensures { IsTrue result ↔ (pos 0 <ℤ self) }
+    {
+        let value = self.value();
+        !is_below_zero(&value) && !is_zero(&value)
+    }
+
+    /// Whether the number is below 0.
+    pub fn is_negative(self) -> bool
+        ensures { IsTrue result ↔ (self <ℤ pos 0) }
+    {
+        is_below_zero(&self.value())
+    }
+
+    /// The negated number, wrapped.
+    pub fn wrapping_neg(self) -> Self
+        ensures { result ≡ wrap T.SIGNED BITS (neg_ℤ self) }
+    {
+        Int::<T, BITS>::new(wrapping::neg(self.value(), BITS))
+    }
+
+    /// The negated number, or the greatest where that is out of range.
+    pub fn saturating_neg(self) -> Self
+        ensures { result ≡ clamp T.SIGNED BITS (neg_ℤ self) }
+    {
+        Int::<T, BITS>::new(saturating::neg(self.value(), BITS))
+    }
+
+    /// The negated number, and `None` exactly at the least number.
+    pub fn checked_neg(self) -> Option<Self>
+        ensures { ExactOrNone (λ x. x) T.SIGNED BITS (neg_ℤ self) result }
+    {
+        match checked::neg(self.value(), BITS) {
+            Some(negated) => Some(Int::<T, BITS>::new(negated)),
+            None => None,
+        }
+    }
+
+    /// The negated number, wrapped, and whether the exact one is out of range.
+    pub fn overflowing_neg(self) -> (Self, bool)
+        ensures value { result.0 ≡ wrap T.SIGNED BITS (neg_ℤ self) }
+        ensures overflow { IsTrue result.1 ↔ ¬ (InRange T.SIGNED BITS (neg_ℤ self)) }
+    {
+        let (negated, overflow) = overflowing::neg(self.value(), BITS);
+        (Int::<T, BITS>::new(negated), overflow)
+    }
+
+    /// The same number at more bits of the same storage.
+    pub fn widen<const R: usize>(self) -> Int<T, R>
+        requires above { BITS < R }
+        requires width { R ≤ T.WIDTH }
+        ensures { result ≡ self }
+    {
+        Int::<T, R>::new(self.value())
+    }
+
+    /// The value of an `i8` that is in range.
+    #[tactic(auto, using(arbitrary_base::proofs::Sum::fitting))]
+    pub fn from_i8(value: i8) -> Self
+        requires width { IsValidWidth BITS T.WIDTH }
+        requires range { InRange T.SIGNED BITS value }
+        ensures { result ≡ value }
+    {
+        Int::<T, BITS>::new(convert(value, BITS))
+    }
+
+    /// The value of an `i16` that is in range.
+    #[tactic(auto, using(arbitrary_base::proofs::Sum::fitting))]
+    pub fn from_i16(value: i16) -> Self
+        requires width { IsValidWidth BITS T.WIDTH }
+        requires range { InRange T.SIGNED BITS value }
+        ensures { result ≡ value }
+    {
+        Int::<T, BITS>::new(convert(value, BITS))
+    }
+
+    /// The value of an `i32` that is in range.
+    #[tactic(auto, using(arbitrary_base::proofs::Sum::fitting))]
+    pub fn from_i32(value: i32) -> Self
+        requires width { IsValidWidth BITS T.WIDTH }
+        requires range { InRange T.SIGNED BITS value }
+        ensures { result ≡ value }
+    {
+        Int::<T, BITS>::new(convert(value, BITS))
+    }
+
+    /// The value of an `i64` that is in range.
+    #[tactic(auto, using(arbitrary_base::proofs::Sum::fitting))]
+    pub fn from_i64(value: i64) -> Self
+        requires width { IsValidWidth BITS T.WIDTH }
+        requires range { InRange T.SIGNED BITS value }
+        ensures { result ≡ value }
+    {
+        Int::<T, BITS>::new(convert(value, BITS))
+    }
+
+    /// The value of an `i128` that is in range.
+    #[tactic(auto, using(arbitrary_base::proofs::Sum::fitting))]
+    pub fn from_i128(value: i128) -> Self
+        requires width { IsValidWidth BITS T.WIDTH }
+        requires range { InRange T.SIGNED BITS value }
+        ensures { result ≡ value }
+    {
+        Int::<T, BITS>::new(convert(value, BITS))
+    }
+}

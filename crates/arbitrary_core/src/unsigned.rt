@@ -1,0 +1,177 @@
+//! Unsigned integers of any width.
+
+ghost use Rattle.std.specs.Prelude.{◌≡◌, ◌↔◌, ◌<◌, ◌≤◌, ◌+◌, ◌-ℤ◌, ◌^◌, pos, IsTrue, MatchResult, ⊤};
+ghost use Rattle.arbitrary_base.specs.Range.{InRange, IsValidWidth};
+ghost use Rattle.arbitrary_base.specs.Residue.{wrap};
+ghost use Rattle.arbitrary_base.specs.BitList.{bits, items, val};
+
+use arbitrary_base::error::TryNewError;
+use arbitrary_base::extraction;
+use arbitrary_base::narrowing::{convert, is_in_range, ones};
+use arbitrary_base::storage::UnsignedStorage;
+use std::alloc::AllocError;
+use std::marker::Model;
+
+/// An unsigned integer of `BITS` bits, kept in the primitive `T`: a number from 0 to `2 ^ BITS - 1`.
+///
+/// In contracts a value is its number. Every value has a valid width (`1 <= BITS`, and at most the
+/// bits of `T`) and a number in range.
+pub struct UInt<T: UnsignedStorage, const BITS: usize> {
+    value: T,
+}
+
+impl<T: UnsignedStorage, const BITS: usize> Model for UInt<T, BITS> {
+    ghost use Rattle.std.specs.Prelude.{ℤ};
+    ghost use Rattle.std.proofs.Common.{ap};
+    ghost use Rattle.arbitrary_base.specs.Range.{InRange, IsValidWidth};
+
+    ghost Value = { ℤ };
+
+    ghost view = { λ a. T.number a.value };
+
+    ghost invariant = { λ a. IsValidWidth BITS T.WIDTH × InRange T.SIGNED BITS (T.number a.value) };
+
+    ghost inverse = { λ x. record { value = T.of_number x } };
+
+    ghost inverse_ok = { λ a h. ap (λ v. record { value = v }) (T.round_trip_law a.value) };
+}
+
+impl<T: UnsignedStorage, const BITS: usize> Copy for UInt<T, BITS> {}
+
+impl<T: UnsignedStorage, const BITS: usize> Clone for UInt<T, BITS> {
+    ghost is_clone = { λ x y. y ≡ x };
+
+    ghost is_infallible = { λ _. ⊤ };
+
+    fn clone(&self) -> Result<Self, AllocError> {
+        Ok(UInt { value: self.value })
+    }
+}
+
+impl<T: UnsignedStorage, const BITS: usize> UInt<T, BITS> {
+    /// Whether a type of this width exists: from 1 bit to as many as the storage has.
+    pub fn is_valid_width() -> bool
+        ensures { IsTrue result ↔ IsValidWidth BITS T.WIDTH }
+    {
+        1 <= BITS && BITS <= T::WIDTH
+    }
+
+    /// The value of a number. The caller shows that the width is valid (test it by
+    /// `is_valid_width`) and that the number is in range (or calls `try_new`).
+    pub fn new(value: T) -> Self
+        requires width { IsValidWidth BITS T.WIDTH }
+        requires range { InRange T.SIGNED BITS (T.number value) }
+        ensures { result ≡ T.number value }
+    {
+        UInt { value }
+    }
+
+    /// `new` under the name of the original's unsafe call. Here it is safe: its conditions are shown.
+    pub fn new_unchecked(value: T) -> Self
+        requires width { IsValidWidth BITS T.WIDTH }
+        requires range { InRange T.SIGNED BITS (T.number value) }
+        ensures { result ≡ T.number value }
+    {
+        UInt::new(value)
+    }
+
+    /// The value of a number, or an error where the number is out of range.
+    pub fn try_new(value: T) -> Result<Self, TryNewError>
+        requires width { IsValidWidth BITS T.WIDTH }
+        ensures { MatchResult result
+            (λ x. InRange T.SIGNED BITS (T.number value) × (x ≡ T.number value))
+            (λ _. ¬ (InRange T.SIGNED BITS (T.number value))) }
+    {
+        if is_in_range(value, BITS) {
+            Ok(UInt::new(value))
+        } else {
+            Err(TryNewError)
+        }
+    }
+
+    /// The storage's value whose low `BITS` bits are one, and whose others are zero.
+    pub fn mask() -> T
+        requires width { IsValidWidth BITS T.WIDTH }
+        ensures { T.number result ≡ wrap T.SIGNED T.WIDTH (pos (2 ^ BITS) -ℤ pos 1) }
+    {
+        T::from_pattern(ones(BITS))
+    }
+
+    /// The number, in the storage.
+    pub fn value(self) -> T
+        ensures number { T.number result ≡ self }
+        ensures width { IsValidWidth BITS T.WIDTH }
+        ensures range { InRange T.SIGNED BITS self }
+    {
+        self.value
+    }
+
+    /// The same number at more bits of the same storage.
+    pub fn widen<const R: usize>(self) -> UInt<T, R>
+        requires above { BITS < R }
+        requires width { R ≤ T.WIDTH }
+        ensures { result ≡ self }
+    {
+        UInt::new(self.value())
+    }
+
+    /// The value whose bits are the `BITS` bits of `value` from place `start_bit` on: `extract_u8` to
+    /// `extract_u128` at the storage's own type. Prefer those, which say how wide the source is.
+    pub fn extract(value: T, start_bit: usize) -> Self
+        requires width { IsValidWidth BITS T.WIDTH }
+        requires within { start_bit + BITS ≤ T.WIDTH }
+        ensures { result ≡ val T.SIGNED (items start_bit BITS (bits T.WIDTH (T.number value))) }
+    {
+        UInt::new(extraction::extract(value, start_bit, BITS))
+    }
+
+    /// The value of a `u8` that is in range.
+    #[tactic(auto, using(arbitrary_base::proofs::Sum::fitting))]
+    pub fn from_u8(value: u8) -> Self
+        requires width { IsValidWidth BITS T.WIDTH }
+        requires range { InRange T.SIGNED BITS (pos value) }
+        ensures { result ≡ pos value }
+    {
+        UInt::new(convert(value, BITS))
+    }
+
+    /// The value of a `u16` that is in range.
+    #[tactic(auto, using(arbitrary_base::proofs::Sum::fitting))]
+    pub fn from_u16(value: u16) -> Self
+        requires width { IsValidWidth BITS T.WIDTH }
+        requires range { InRange T.SIGNED BITS (pos value) }
+        ensures { result ≡ pos value }
+    {
+        UInt::new(convert(value, BITS))
+    }
+
+    /// The value of a `u32` that is in range.
+    #[tactic(auto, using(arbitrary_base::proofs::Sum::fitting))]
+    pub fn from_u32(value: u32) -> Self
+        requires width { IsValidWidth BITS T.WIDTH }
+        requires range { InRange T.SIGNED BITS (pos value) }
+        ensures { result ≡ pos value }
+    {
+        UInt::new(convert(value, BITS))
+    }
+
+    /// The value of a `u64` that is in range.
+    #[tactic(auto, using(arbitrary_base::proofs::Sum::fitting))]
+    pub fn from_u64(value: u64) -> Self
+        requires width { IsValidWidth BITS T.WIDTH }
+        requires range { InRange T.SIGNED BITS (pos value) }
+        ensures { result ≡ pos value }
+    {
+        UInt::new(convert(value, BITS))
+    }
+
+    /// The value of a `u128` that is in range.
+    #[tactic(auto, using(arbitrary_base::proofs::Sum::fitting))]
+    pub fn from_u128(value: u128) -> Self
+        requires width { IsValidWidth BITS T.WIDTH }
+        requires range { InRange T.SIGNED BITS (pos value) }
+        ensures { result ≡ pos value }
+    {
+        UInt::new(convert(value, BITS))
+    }
+}
