@@ -1,0 +1,7 @@
+-- The words that the contracts of this crate cite.
+pub use Rattle.arbitrary_base.specs.Range
+pub use Rattle.arbitrary_base.specs.Residue
+pub use Rattle.arbitrary_base.specs.Saturation
+pub use Rattle.arbitrary_base.specs.Exact
+pub use Rattle.arbitrary_base.specs.BitList
+pub use Rattle.arbitrary_base.specs.Power

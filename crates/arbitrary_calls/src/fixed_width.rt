@@ -1,0 +1,432 @@
+//! What every integer of fixed width can do, each call written once for both types.
+
+ghost use Rattle.std.specs.Prelude.{◌≡◌, ◌≢◌, ◌↔◌, ◌≤◌, ◌+◌, ◌-◌, ◌*◌, ◌%◌, ◌+ℤ◌, ◌-ℤ◌, ◌*ℤ◌, pos, IsTrue, IsNone, IfSome, false, true, int_div, reverse};
+ghost use Rattle.arbitrary_base.specs.Range.{InRange};
+ghost use Rattle.arbitrary_base.specs.Residue.{wrap};
+ghost use Rattle.arbitrary_base.specs.Saturation.{clamp};
+ghost use Rattle.arbitrary_base.specs.Exact.{ExactOrNone, QuotientOrNone};
+ghost use Rattle.arbitrary_base.specs.Power.{power, binary_digits};
+ghost use Rattle.arbitrary_base.specs.BitList.{bits, val, bits_and, bits_or, bits_xor, bits_not, fill, front, items, ones, rotl, rotr, shl, shr, tail};
+
+use arbitrary_base::storage::Storage;
+use arbitrary_base::{
+    checked, counts, extraction, overflowing, power, rotations, saturating, shifts, wrapping,
+};
+use arbitrary_traits::integer::Integer;
+
+/// An integer of `BITS` bits that is kept in a primitive: `UInt` and `Int`.
+///
+/// In the contracts `number` is the number of a value, and the exact result is that of whole numbers
+/// without bounds. `wrap` of it is the type's number that is congruent to it modulo `2 ^ BITS`, and
+/// `clamp` of it the type's number that is nearest. A quotient is cut toward zero; the only one that
+/// is out of range is the least signed number divided by -1.
+pub trait FixedWidth: Integer {
+    /// The primitive that keeps the number. It is `UnderlyingType`, known to be a storage.
+    type Kept: Storage;
+
+    /// The number, in its storage.
+    fn kept(self) -> Self::Kept
+        ensures number { Self.Kept.number result ≡ Self.number self }
+        ensures range { InRange Self.Kept.SIGNED Self.BITS (Self.number self) }
+        ensures some { 1 ≤ Self.BITS }
+        ensures fits { Self.BITS ≤ Self.Kept.WIDTH };
+
+    /// The value of a storage's number, which is in range. The width is valid.
+    fn from_kept(value: Self::Kept) -> Self
+        requires some { 1 ≤ Self.BITS }
+        requires fits { Self.BITS ≤ Self.Kept.WIDTH }
+        requires range { InRange Self.Kept.SIGNED Self.BITS (Self.Kept.number value) }
+        ensures { Self.number result ≡ Self.Kept.number value };
+
+    // A valid width is one that the storage has room for.
+    ghost width_law: { Self.valid → (1 ≤ Self.BITS) × (Self.BITS ≤ Self.Kept.WIDTH) };
+
+    ghost sign_law: { Self.Kept.SIGNED ≡ Self.IS_SIGNED };
+
+    // The bitwise operators, with no premise: each value of these types is in range.
+    ghost and_law: { (a b r : Self) → Self.bitand_gives a b r
+        → Self.number r ≡ val Self.IS_SIGNED (bits_and (bits Self.BITS (Self.number a)) (bits Self.BITS (Self.number b))) };
+
+    ghost or_law: { (a b r : Self) → Self.bitor_gives a b r
+        → Self.number r ≡ val Self.IS_SIGNED (bits_or (bits Self.BITS (Self.number a)) (bits Self.BITS (Self.number b))) };
+
+    ghost xor_law: { (a b r : Self) → Self.bitxor_gives a b r
+        → Self.number r ≡ val Self.IS_SIGNED (bits_xor (bits Self.BITS (Self.number a)) (bits Self.BITS (Self.number b))) };
+
+    ghost complement_law: { (a r : Self) → Self.not_gives a r
+        → Self.number r ≡ val Self.IS_SIGNED (bits_not (bits Self.BITS (Self.number a))) };
+
+    /// The sum, wrapped.
+    final fn wrapping_add(self, rhs: Self) -> Self
+        ensures { Self.number result ≡ wrap Self.IS_SIGNED Self.BITS (Self.number self +ℤ Self.number rhs) }
+    {
+        Self::from_kept(wrapping::add(self.kept(), rhs.kept(), Self::BITS))
+    }
+
+    /// The sum, or the end of the range that is nearest to it.
+    final fn saturating_add(self, rhs: Self) -> Self
+        ensures { Self.number result ≡ clamp Self.IS_SIGNED Self.BITS (Self.number self +ℤ Self.number rhs) }
+    {
+        Self::from_kept(saturating::add(self.kept(), rhs.kept(), Self::BITS))
+    }
+
+    /// The sum, and `None` exactly where it is out of range.
+    final fn checked_add(self, rhs: Self) -> Option<Self>
+        ensures { ExactOrNone Self.number Self.IS_SIGNED Self.BITS (Self.number self +ℤ Self.number rhs) result }
+    {
+        match checked::add(self.kept(), rhs.kept(), Self::BITS) {
+            Some(sum) => Some(Self::from_kept(sum)),
+            None => None,
+        }
+    }
+
+    /// The sum, wrapped, and whether the exact one is out of range.
+    final fn overflowing_add(self, rhs: Self) -> (Self, bool)
+        ensures value { Self.number result.0 ≡ wrap Self.IS_SIGNED Self.BITS (Self.number self +ℤ Self.number rhs) }
+        ensures overflow { IsTrue result.1 ↔ ¬ (InRange Self.IS_SIGNED Self.BITS (Self.number self +ℤ Self.number rhs)) }
+    {
+        let (sum, overflow) = overflowing::add(self.kept(), rhs.kept(), Self::BITS);
+        (Self::from_kept(sum), overflow)
+    }
+
+    /// The difference, wrapped.
+    final fn wrapping_sub(self, rhs: Self) -> Self
+        ensures { Self.number result ≡ wrap Self.IS_SIGNED Self.BITS (Self.number self -ℤ Self.number rhs) }
+    {
+        Self::from_kept(wrapping::sub(self.kept(), rhs.kept(), Self::BITS))
+    }
+
+    /// The difference, or the end of the range that is nearest to it.
+    final fn saturating_sub(self, rhs: Self) -> Self
+        ensures { Self.number result ≡ clamp Self.IS_SIGNED Self.BITS (Self.number self -ℤ Self.number rhs) }
+    {
+        Self::from_kept(saturating::sub(self.kept(), rhs.kept(), Self::BITS))
+    }
+
+    /// The difference, and `None` exactly where it is out of range.
+    final fn checked_sub(self, rhs: Self) -> Option<Self>
+        ensures { ExactOrNone Self.number Self.IS_SIGNED Self.BITS (Self.number self -ℤ Self.number rhs) result }
+    {
+        match checked::sub(self.kept(), rhs.kept(), Self::BITS) {
+            Some(difference) => Some(Self::from_kept(difference)),
+            None => None,
+        }
+    }
+
+    /// The difference, wrapped, and whether the exact one is out of range.
+    final fn overflowing_sub(self, rhs: Self) -> (Self, bool)
+        ensures value { Self.number result.0 ≡ wrap Self.IS_SIGNED Self.BITS (Self.number self -ℤ Self.number rhs) }
+        ensures overflow { IsTrue result.1 ↔ ¬ (InRange Self.IS_SIGNED Self.BITS (Self.number self -ℤ Self.number rhs)) }
+    {
+        let (difference, overflow) = overflowing::sub(self.kept(), rhs.kept(), Self::BITS);
+        (Self::from_kept(difference), overflow)
+    }
+
+    /// The product, wrapped.
+    final fn wrapping_mul(self, rhs: Self) -> Self
+        ensures { Self.number result ≡ wrap Self.IS_SIGNED Self.BITS (Self.number self *ℤ Self.number rhs) }
+    {
+        Self::from_kept(wrapping::mul(self.kept(), rhs.kept(), Self::BITS))
+    }
+
+    /// The product, or the end of the range that is nearest to it.
+    final fn saturating_mul(self, rhs: Self) -> Self
+        ensures { Self.number result ≡ clamp Self.IS_SIGNED Self.BITS (Self.number self *ℤ Self.number rhs) }
+    {
+        Self::from_kept(saturating::mul(self.kept(), rhs.kept(), Self::BITS))
+    }
+
+    /// The product, and `None` exactly where it is out of range.
+    final fn checked_mul(self, rhs: Self) -> Option<Self>
+        ensures { ExactOrNone Self.number Self.IS_SIGNED Self.BITS (Self.number self *ℤ Self.number rhs) result }
+    {
+        match checked::mul(self.kept(), rhs.kept(), Self::BITS) {
+            Some(product) => Some(Self::from_kept(product)),
+            None => None,
+        }
+    }
+
+    /// The product, wrapped, and whether the exact one is out of range.
+    final fn overflowing_mul(self, rhs: Self) -> (Self, bool)
+        ensures value { Self.number result.0 ≡ wrap Self.IS_SIGNED Self.BITS (Self.number self *ℤ Self.number rhs) }
+        ensures overflow { IsTrue result.1 ↔ ¬ (InRange Self.IS_SIGNED Self.BITS (Self.number self *ℤ Self.number rhs)) }
+    {
+        let (product, overflow) = overflowing::mul(self.kept(), rhs.kept(), Self::BITS);
+        (Self::from_kept(product), overflow)
+    }
+
+    /// The quotient, wrapped. The divisor is not zero.
+    final fn wrapping_div(self, rhs: Self) -> Self
+        requires { Self.number rhs ≢ pos 0 }
+        ensures { Self.number result ≡ wrap Self.IS_SIGNED Self.BITS (int_div (Self.number self) (Self.number rhs)) }
+    {
+        Self::from_kept(wrapping::div(self.kept(), rhs.kept(), Self::BITS))
+    }
+
+    /// The quotient, or the end of the range that is nearest to it. The divisor is not zero.
+    final fn saturating_div(self, rhs: Self) -> Self
+        requires { Self.number rhs ≢ pos 0 }
+        ensures { Self.number result ≡ clamp Self.IS_SIGNED Self.BITS (int_div (Self.number self) (Self.number rhs)) }
+    {
+        Self::from_kept(saturating::div(self.kept(), rhs.kept(), Self::BITS))
+    }
+
+    /// The quotient, and `None` exactly where the divisor is zero or the quotient is out of range.
+    final fn checked_div(self, rhs: Self) -> Option<Self>
+        ensures { QuotientOrNone Self.number Self.IS_SIGNED Self.BITS (Self.number self) (Self.number rhs) result }
+    {
+        match checked::div(self.kept(), rhs.kept(), Self::BITS) {
+            Some(quotient) => Some(Self::from_kept(quotient)),
+            None => None,
+        }
+    }
+
+    /// The quotient, wrapped, and whether the exact one is out of range. The divisor is not zero.
+    final fn overflowing_div(self, rhs: Self) -> (Self, bool)
+        requires { Self.number rhs ≢ pos 0 }
+        ensures value { Self.number result.0 ≡ wrap Self.IS_SIGNED Self.BITS (int_div (Self.number self) (Self.number rhs)) }
+        ensures overflow { IsTrue result.1 ↔ ¬ (InRange Self.IS_SIGNED Self.BITS (int_div (Self.number self) (Self.number rhs))) }
+    {
+        let (quotient, overflow) = overflowing::div(self.kept(), rhs.kept(), Self::BITS);
+        (Self::from_kept(quotient), overflow)
+    }
+
+    /// `self` to the power `exp`, or the end of the range that is nearest to it. 0 to the power 0 is 1.
+    final fn saturating_pow(self, exp: u32) -> Self
+        ensures { Self.number result ≡ clamp Self.IS_SIGNED Self.BITS (power (Self.number self) exp) }
+    {
+        Self::from_kept(power::saturating_pow(self.kept(), exp, Self::BITS))
+    }
+
+    /// The same value, and how many multiplications in the storage it took: at most two for each binary
+    /// digit of `exp`, so at most 64.
+    final fn saturating_pow_counted(self, exp: u32) -> (Self, u32)
+        ensures value { Self.number result.0 ≡ clamp Self.IS_SIGNED Self.BITS (power (Self.number self) exp) }
+        ensures count { result.1 ≤ 2 * binary_digits exp }
+        ensures bound { result.1 ≤ 64 }
+    {
+        let (power, count) = power::saturating_pow_counted(self.kept(), exp, Self::BITS);
+        (Self::from_kept(power), count)
+    }
+
+    /// The bits moved `amount` modulo `BITS` places toward the high end: zeros come in below, and what passes the end is lost.
+    final fn wrapping_shl(self, amount: u32) -> Self
+        ensures { Self.number result ≡ val Self.IS_SIGNED (shl (bits Self.BITS (Self.number self)) (amount % Self.BITS)) }
+    {
+        Self::from_kept(shifts::shl(self.kept(), amount as usize % Self::BITS, Self::BITS))
+    }
+
+    /// The bits moved `amount` places like `wrapping_shl`, and `None` exactly where `amount` is `BITS`
+    /// or more.
+    final fn checked_shl(self, amount: u32) -> Option<Self>
+        ensures refused { IsNone result ↔ (Self.BITS ≤ amount) }
+        ensures value { IfSome result (λ r. Self.number r ≡ val Self.IS_SIGNED (shl (bits Self.BITS (Self.number self)) amount)) }
+    {
+        if (amount as usize) < Self::BITS {
+            Some(Self::from_kept(shifts::shl(self.kept(), amount as usize, Self::BITS)))
+        } else {
+            None
+        }
+    }
+
+    /// `wrapping_shl`, and whether `amount` is `BITS` or more.
+    final fn overflowing_shl(self, amount: u32) -> (Self, bool)
+        ensures value { Self.number result.0 ≡ val Self.IS_SIGNED (shl (bits Self.BITS (Self.number self)) (amount % Self.BITS)) }
+        ensures overflow { IsTrue result.1 ↔ (Self.BITS ≤ amount) }
+    {
+        (self.wrapping_shl(amount), amount as usize >= Self::BITS)
+    }
+
+    /// The bits moved `amount` modulo `BITS` places toward the low end: copies of the sign come in above, or zeros where the type has none.
+    final fn wrapping_shr(self, amount: u32) -> Self
+        ensures { Self.number result ≡ val Self.IS_SIGNED (shr (bits Self.BITS (Self.number self)) (amount % Self.BITS) (fill Self.IS_SIGNED (bits Self.BITS (Self.number self)))) }
+    {
+        Self::from_kept(shifts::shr(self.kept(), amount as usize % Self::BITS, Self::BITS))
+    }
+
+    /// The bits moved `amount` places like `wrapping_shr`, and `None` exactly where `amount` is `BITS`
+    /// or more.
+    final fn checked_shr(self, amount: u32) -> Option<Self>
+        ensures refused { IsNone result ↔ (Self.BITS ≤ amount) }
+        ensures value { IfSome result (λ r. Self.number r ≡ val Self.IS_SIGNED (shr (bits Self.BITS (Self.number self)) amount (fill Self.IS_SIGNED (bits Self.BITS (Self.number self))))) }
+    {
+        if (amount as usize) < Self::BITS {
+            Some(Self::from_kept(shifts::shr(self.kept(), amount as usize, Self::BITS)))
+        } else {
+            None
+        }
+    }
+
+    /// `wrapping_shr`, and whether `amount` is `BITS` or more.
+    final fn overflowing_shr(self, amount: u32) -> (Self, bool)
+        ensures value { Self.number result.0 ≡ val Self.IS_SIGNED (shr (bits Self.BITS (Self.number self)) (amount % Self.BITS) (fill Self.IS_SIGNED (bits Self.BITS (Self.number self)))) }
+        ensures overflow { IsTrue result.1 ↔ (Self.BITS ≤ amount) }
+    {
+        (self.wrapping_shr(amount), amount as usize >= Self::BITS)
+    }
+
+    /// The bits moved `amount` modulo `BITS` places toward the high end. What passes the end comes back
+    /// below.
+    final fn rotate_left(self, amount: u32) -> Self
+        ensures { Self.number result ≡ val Self.IS_SIGNED (rotl (bits Self.BITS (Self.number self)) (amount % Self.BITS)) }
+    {
+        Self::from_kept(rotations::rotate_left(self.kept(), amount, Self::BITS))
+    }
+
+    /// The bits moved `amount` modulo `BITS` places toward the low end. What passes the end comes back
+    /// above.
+    final fn rotate_right(self, amount: u32) -> Self
+        ensures { Self.number result ≡ val Self.IS_SIGNED (rotr (bits Self.BITS (Self.number self)) (amount % Self.BITS)) }
+    {
+        Self::from_kept(rotations::rotate_right(self.kept(), amount, Self::BITS))
+    }
+
+    /// The bits from the high end to the low one.
+    final fn reverse_bits(self) -> Self
+        ensures { Self.number result ≡ val Self.IS_SIGNED (reverse (bits Self.BITS (Self.number self))) }
+    {
+        Self::from_kept(rotations::reverse_bits(self.kept(), Self::BITS))
+    }
+
+    /// How many of the bits are one.
+    final fn count_ones(self) -> u32
+        ensures { result ≡ ones (bits Self.BITS (Self.number self)) }
+    {
+        counts::count_ones(self.kept(), Self::BITS)
+    }
+
+    /// How many of the bits are zero.
+    final fn count_zeros(self) -> u32
+        ensures { result ≡ Self.BITS - ones (bits Self.BITS (Self.number self)) }
+    {
+        counts::count_zeros(self.kept(), Self::BITS)
+    }
+
+    /// How many bits at the high end are one before the first that is zero, or all of them.
+    final fn leading_ones(self) -> u32
+        ensures { result ≡ tail true (bits Self.BITS (Self.number self)) }
+    {
+        counts::leading_ones(self.kept(), Self::BITS)
+    }
+
+    /// How many bits at the high end are zero before the first that is one, or all of them.
+    final fn leading_zeros(self) -> u32
+        ensures { result ≡ tail false (bits Self.BITS (Self.number self)) }
+    {
+        counts::leading_zeros(self.kept(), Self::BITS)
+    }
+
+    /// How many bits at the low end are one before the first that is zero, or all of them.
+    final fn trailing_ones(self) -> u32
+        ensures { result ≡ front true (bits Self.BITS (Self.number self)) }
+    {
+        counts::trailing_ones(self.kept(), Self::BITS)
+    }
+
+    /// How many bits at the low end are zero before the first that is one, or all of them.
+    final fn trailing_zeros(self) -> u32
+        ensures { result ≡ front false (bits Self.BITS (Self.number self)) }
+    {
+        counts::trailing_zeros(self.kept(), Self::BITS)
+    }
+
+    /// The value whose bits are the `BITS` bits of `value` from place `start_bit` on. All of them must
+    /// be among its 8 bits. The width is valid.
+    final fn extract_u8(value: u8, start_bit: usize) -> Self
+        requires width { Self.valid }
+        requires within { start_bit + Self.BITS ≤ 8 }
+        ensures { Self.number result ≡ val Self.IS_SIGNED (items start_bit Self.BITS (bits 8 (pos value))) }
+    {
+        Self::from_kept(extraction::extract(value, start_bit, Self::BITS))
+    }
+
+    /// The value whose bits are the `BITS` bits of `value` from place `start_bit` on. All of them must
+    /// be among its 16 bits. The width is valid.
+    final fn extract_u16(value: u16, start_bit: usize) -> Self
+        requires width { Self.valid }
+        requires within { start_bit + Self.BITS ≤ 16 }
+        ensures { Self.number result ≡ val Self.IS_SIGNED (items start_bit Self.BITS (bits 16 (pos value))) }
+    {
+        Self::from_kept(extraction::extract(value, start_bit, Self::BITS))
+    }
+
+    /// The value whose bits are the `BITS` bits of `value` from place `start_bit` on. All of them must
+    /// be among its 32 bits. The width is valid.
+    final fn extract_u32(value: u32, start_bit: usize) -> Self
+        requires width { Self.valid }
+        requires within { start_bit + Self.BITS ≤ 32 }
+        ensures { Self.number result ≡ val Self.IS_SIGNED (items start_bit Self.BITS (bits 32 (pos value))) }
+    {
+        Self::from_kept(extraction::extract(value, start_bit, Self::BITS))
+    }
+
+    /// The value whose bits are the `BITS` bits of `value` from place `start_bit` on. All of them must
+    /// be among its 64 bits. The width is valid.
+    final fn extract_u64(value: u64, start_bit: usize) -> Self
+        requires width { Self.valid }
+        requires within { start_bit + Self.BITS ≤ 64 }
+        ensures { Self.number result ≡ val Self.IS_SIGNED (items start_bit Self.BITS (bits 64 (pos value))) }
+    {
+        Self::from_kept(extraction::extract(value, start_bit, Self::BITS))
+    }
+
+    /// The value whose bits are the `BITS` bits of `value` from place `start_bit` on. All of them must
+    /// be among its 128 bits. The width is valid.
+    final fn extract_u128(value: u128, start_bit: usize) -> Self
+        requires width { Self.valid }
+        requires within { start_bit + Self.BITS ≤ 128 }
+        ensures { Self.number result ≡ val Self.IS_SIGNED (items start_bit Self.BITS (bits 128 (pos value))) }
+    {
+        Self::from_kept(extraction::extract(value, start_bit, Self::BITS))
+    }
+
+    /// The value whose bits are the `BITS` bits of `value` from place `start_bit` on. All of them must
+    /// be among its 8 bits. The width is valid.
+    final fn extract_i8(value: i8, start_bit: usize) -> Self
+        requires width { Self.valid }
+        requires within { start_bit + Self.BITS ≤ 8 }
+        ensures { Self.number result ≡ val Self.IS_SIGNED (items start_bit Self.BITS (bits 8 value)) }
+    {
+        Self::from_kept(extraction::extract(value, start_bit, Self::BITS))
+    }
+
+    /// The value whose bits are the `BITS` bits of `value` from place `start_bit` on. All of them must
+    /// be among its 16 bits. The width is valid.
+    final fn extract_i16(value: i16, start_bit: usize) -> Self
+        requires width { Self.valid }
+        requires within { start_bit + Self.BITS ≤ 16 }
+        ensures { Self.number result ≡ val Self.IS_SIGNED (items start_bit Self.BITS (bits 16 value)) }
+    {
+        Self::from_kept(extraction::extract(value, start_bit, Self::BITS))
+    }
+
+    /// The value whose bits are the `BITS` bits of `value` from place `start_bit` on. All of them must
+    /// be among its 32 bits. The width is valid.
+    final fn extract_i32(value: i32, start_bit: usize) -> Self
+        requires width { Self.valid }
+        requires within { start_bit + Self.BITS ≤ 32 }
+        ensures { Self.number result ≡ val Self.IS_SIGNED (items start_bit Self.BITS (bits 32 value)) }
+    {
+        Self::from_kept(extraction::extract(value, start_bit, Self::BITS))
+    }
+
+    /// The value whose bits are the `BITS` bits of `value` from place `start_bit` on. All of them must
+    /// be among its 64 bits. The width is valid.
+    final fn extract_i64(value: i64, start_bit: usize) -> Self
+        requires width { Self.valid }
+        requires within { start_bit + Self.BITS ≤ 64 }
+        ensures { Self.number result ≡ val Self.IS_SIGNED (items start_bit Self.BITS (bits 64 value)) }
+    {
+        Self::from_kept(extraction::extract(value, start_bit, Self::BITS))
+    }
+
+    /// The value whose bits are the `BITS` bits of `value` from place `start_bit` on. All of them must
+    /// be among its 128 bits. The width is valid.
+    final fn extract_i128(value: i128, start_bit: usize) -> Self
+        requires width { Self.valid }
+        requires within { start_bit + Self.BITS ≤ 128 }
+        ensures { Self.number result ≡ val Self.IS_SIGNED (items start_bit Self.BITS (bits 128 value)) }
+    {
+        Self::from_kept(extraction::extract(value, start_bit, Self::BITS))
+    }
+}

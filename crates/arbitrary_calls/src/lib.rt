@@ -1,0 +1,5 @@
+//! The calls of integers of fixed width, for `UInt` and `Int`.
+#![tactic(auto)]
+
+pub mod fixed_width;
+mod kept;
