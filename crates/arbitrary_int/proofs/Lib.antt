@@ -1,0 +1,5 @@
+pub mod StepLemmas
+pub mod RunLemmas
+pub mod Fields
+pub use Rattle.arbitrary_base.proofs.Narrow
+pub use Rattle.arbitrary_base.proofs.Wrap

@@ -1,0 +1,56 @@
+-- Why a run is right: what is left to do, seen from each step.
+use Rattle.std.specs.Prelude.{◌≡◌, ℕ, ℤ, Bool, ◌+◌, ◌<◌, List, [], ◌∷◌, length, get_or, drop, Result, Ok, Err, ⊤}
+use Rattle.std.proofs.Common.{arith, refl, ap, sym, ◌∙◌, suc, add-one, ◌≤◌}
+use Rattle.std.proofs.Math.Seq.{drop-cons}
+use Rattle.std.proofs.Math.ListN.{drop_of_length-le}
+use Rattle.arbitrary_int.specs.Step.{meaning}
+use Rattle.arbitrary_int.specs.Run.{later, RunOf}
+use Rattle.arbitrary_int.specs.declared.steps.Step.{Step}
+use Rattle.arbitrary_int.specs.declared.steps.Stop.{Stop}
+use Rattle.arbitrary_int.specs.declared.steps.Why.{Why}
+
+later-zero : (r : List ℤ × Result ⊤ Stop) → later 0 r ≡ r
+later-zero (regs, Ok u) = refl
+later-zero (regs, Err e) = let z : 0 + e.at ≡ e.at = omega arith in ap (λ (n : ℕ). (regs, Err (record { at = n; why = e.why }))) z
+
+later-later : (j k : ℕ) (r : List ℤ × Result ⊤ Stop) → later j (later k r) ≡ later (j + k) r
+later-later j k (regs, Ok u) = refl
+later-later j k (regs, Err e) = let z : j + (k + e.at) ≡ (j + k) + e.at = omega arith in ap (λ (n : ℕ). (regs, Err (record { at = n; why = e.why }))) z
+
+pub run-start : (s : Bool) (B : ℕ) (steps : List Step) (regs : List ℤ)
+    → RunOf s B steps regs ≡ later 0 (RunOf s B (drop 0 steps) regs)
+run-start s B steps regs = sym (later-zero (RunOf s B steps regs))
+
+RunOf-ok : (s : Bool) (B : ℕ) (step : Step) (steps : List Step) (regs new : List ℤ)
+    → meaning s B step regs ≡ Ok new → RunOf s B (step ∷ steps) regs ≡ later 1 (RunOf s B steps new)
+RunOf-ok s B step steps regs new e = rw (e, RunOf) refl
+
+RunOf-err : (s : Bool) (B : ℕ) (step : Step) (steps : List Step) (regs : List ℤ) (why : Why)
+    → meaning s B step regs ≡ Err why → RunOf s B (step ∷ steps) regs ≡ (regs, Err (record { at = 0; why = why }))
+RunOf-err s B step steps regs why e = rw (e, RunOf) refl
+
+pub run-step : (s : Bool) (B : ℕ) (steps : List Step) (k : ℕ) (step : Step) (regs new : List ℤ) (whole : List ℤ × Result ⊤ Stop)
+    → k < length steps → step ≡ get_or steps k step → meaning s B step regs ≡ Ok new
+    → whole ≡ later k (RunOf s B (drop k steps) regs) → whole ≡ later (k + 1) (RunOf s B (drop (k + 1) steps) new)
+run-step s B steps k step regs new whole h is e w =
+    let d : drop k steps ≡ get_or steps k step ∷ drop (suc k) steps = drop-cons steps k step h in
+    let d' : drop k steps ≡ step ∷ drop (k + 1) steps = d ∙ (λ i. (sym is) i ∷ drop ((sym (add-one k)) i) steps) in
+    w ∙ ap (λ (l : List Step). later k (RunOf s B l regs)) d' ∙ ap (later k) (RunOf-ok s B step (drop (k + 1) steps) regs new e)
+    ∙ later-later k 1 (RunOf s B (drop (k + 1) steps) new)
+
+pub run-stop : (s : Bool) (B : ℕ) (steps : List Step) (k : ℕ) (step : Step) (regs : List ℤ) (why : Why) (whole : List ℤ × Result ⊤ Stop)
+    → k < length steps → step ≡ get_or steps k step → meaning s B step regs ≡ Err why
+    → whole ≡ later k (RunOf s B (drop k steps) regs) → whole ≡ (regs, Err (record { at = k; why = why }))
+run-stop s B steps k step regs why whole h is e w =
+    let d : drop k steps ≡ step ∷ drop (suc k) steps = drop-cons steps k step h ∙ (λ i. (sym is) i ∷ drop (suc k) steps) in
+    let z : k + 0 ≡ k = omega arith in
+    w ∙ ap (λ (l : List Step). later k (RunOf s B l regs)) d ∙ ap (later k) (RunOf-err s B step (drop (suc k) steps) regs why e)
+    ∙ ap (λ (n : ℕ). (regs, Err (record { at = n; why = why }))) z
+
+pub run-end : (s : Bool) (B : ℕ) (steps : List Step) (k : ℕ) (regs : List ℤ) (whole : List ℤ × Result ⊤ Stop)
+    → length steps ≤ k → whole ≡ later k (RunOf s B (drop k steps) regs) → whole ≡ (regs, Ok tt)
+run-end s B steps k regs whole h w =
+    let d : drop k steps ≡ [] = drop_of_length-le steps h in
+    w ∙ ap (λ (l : List Step). later k (RunOf s B l regs)) d
+
+pub ruleset runs = (run-start, run-step, run-stop, run-end)

@@ -1,0 +1,143 @@
+-- Why a step is right: from the contract of each call to the meaning of its operation.
+use Rattle.std.specs.Prelude.{◌≡◌, ◌≢◌, ◌↔◌, ◌≤ℤ◌, ℕ, ℤ, Bool, true, false, pos, ◌<◌, ◌≤◌, List, length, map, get_or, set, Option, Some, None, Result, Ok, Err, ok_or, int_le, int_div, nat_eq, nat_lt, MatchResult, IsNone, IfSome, ◌&&◌}
+use Rattle.std.specs.Ordering.{int_eq}
+use Rattle.std.proofs.Common.{arith, refl, ap, sym, ◌∙◌, subst, lit≤, lit<}
+use Rattle.std.proofs.lemmas.Int.{ints}
+use Rattle.std.proofs.lemmas.List.{get_or-map, map-set}
+use Rattle.arbitrary_base.specs.Range.{lo, hi, InRange, in_range}
+use Rattle.arbitrary_base.specs.Residue.{residue, Congruent}
+use Rattle.arbitrary_base.specs.Exact.{ExactOrNone, QuotientOrNone}
+use Rattle.arbitrary_base.proofs.Wrap.{congruent-same, residue-congruent}
+use Rattle.arbitrary_base.proofs.Congruence.{Congruent-sym}
+use Rattle.arbitrary_base.proofs.Narrow.{InRange-wider}
+use Rattle.arbitrary_base.proofs.Primitive.{residue-pos}
+use Rattle.arbitrary_base.proofs.Sum.{zero-in_range}
+use Rattle.arbitrary_int.specs.Step.{exact, unless_zero, if_below, register, written, two_meaning, one_meaning, by_meaning}
+use Rattle.arbitrary_int.specs.declared.steps.TwoOp.{TwoOp}
+use Rattle.arbitrary_int.specs.declared.steps.OneOp.{OneOp}
+use Rattle.arbitrary_int.specs.declared.steps.ByOp.{ByOp}
+use Rattle.arbitrary_int.specs.declared.steps.Why.{Why}
+use Rattle.arbitrary_int.specs.declared.steps.Why.TheVariants.{Refused}
+
+-- ---- answers that may be refused
+
+in_range-true : (s : Bool) (B : ℕ) (x : ℤ) → InRange s B x → in_range s B x ≡ true
+unfolding in_range
+in_range-true s B x f =
+    let a : int_le (lo s B) x ≡ true = grind (arith, ints) in
+    let b : int_le x (hi s B) ≡ true = grind (arith, ints) in
+    rw (a, b) refl
+
+in_range-false : (s : Bool) (B : ℕ) (x : ℤ) → (InRange s B x → ⊥) → in_range s B x ≡ false
+unfolding in_range
+in_range-false s B x f = by_tests (int_le (lo s B) x) (int_le x (hi s B)) refl refl
+  where
+    by_tests : (t u : Bool) → int_le (lo s B) x ≡ t → int_le x (hi s B) ≡ u → (t && u) ≡ false
+    by_tests true true p q = absurd (f (record { low = grind (arith, ints); high = grind (arith, ints) }))
+    by_tests true false p q = refl
+    by_tests false u p q = refl
+
+exact-some : (s : Bool) (B : ℕ) (x : ℤ) → InRange s B x → exact s B x ≡ Ok x
+exact-some s B x f = rw (in_range-true s B x f) refl
+
+exact-none : (s : Bool) (B : ℕ) (x : ℤ) → (InRange s B x → ⊥) → exact s B x ≡ Err Refused
+exact-none s B x f = rw (in_range-false s B x f) refl
+
+pub exact-checks : {T : Type 0} (number : T → ℤ) (s : Bool) (B : ℕ) (x : ℤ) (o : Option T) (r : Result T Why)
+    → ExactOrNone number s B x o → r ≡ ok_or o Refused
+    → MatchResult r (λ v. exact s B x ≡ Ok (number v)) (λ why. exact s B x ≡ Err why)
+exact-checks number s B x None r h e = rw e (exact-none s B x h)
+exact-checks number s B x (Some y) r h e = rw e (exact-some s B x h.0 ∙ ap Ok (sym h.1))
+
+-- ---- divisors
+
+pub nonzero : (y : ℤ) → int_eq y (pos 0) ≡ false → y ≢ pos 0
+nonzero y e z = let t : int_eq y (pos 0) ≡ true = rw z refl in cc
+
+int_eq-false : (y : ℤ) → y ≢ pos 0 → int_eq y (pos 0) ≡ false
+int_eq-false y n = by_test (int_eq y (pos 0)) refl
+  where
+    by_test : (t : Bool) → int_eq y (pos 0) ≡ t → t ≡ false
+    by_test true p = absurd (n (grind (arith, ints)))
+    by_test false p = refl
+
+pub unless_zero-zero : (y : ℤ) (why : Why) (answer : Result ℤ Why) → int_eq y (pos 0) ≡ true → unless_zero y why answer ≡ Err why
+unless_zero-zero y why answer e = rw e refl
+
+pub unless_zero-other : (y : ℤ) (why : Why) (answer : Result ℤ Why) → int_eq y (pos 0) ≡ false → unless_zero y why answer ≡ answer
+unless_zero-other y why answer e = rw e refl
+
+pub quotient-checks : {T : Type 0} (number : T → ℤ) (s : Bool) (B : ℕ) (x y : ℤ) (o : Option T) (r : Result T Why)
+    → QuotientOrNone number s B x y o → r ≡ ok_or o Refused
+    → MatchResult r (λ v. unless_zero y Refused (exact s B (int_div x y)) ≡ Ok (number v)) (λ why. unless_zero y Refused (exact s B (int_div x y)) ≡ Err why)
+quotient-checks number s B x y (Some q) r h e =
+    rw e (unless_zero-other y Refused (exact s B (int_div x y)) (int_eq-false y h.0) ∙ exact-some s B (int_div x y) h.1 ∙ ap Ok (sym h.2))
+quotient-checks number s B x y None r h e = rw e (by_test (int_eq y (pos 0)) refl)
+  where
+    by_test : (t : Bool) → int_eq y (pos 0) ≡ t → unless_zero y Refused (exact s B (int_div x y)) ≡ Err Refused
+    by_test true p = unless_zero-zero y Refused (exact s B (int_div x y)) p
+    by_test false p = unless_zero-other y Refused (exact s B (int_div x y)) p ∙ exact-none s B (int_div x y) (h (nonzero y p))
+
+-- the residue is 0 exactly where the number is
+pub zero_test : (s : Bool) (B p : ℕ) (x : ℤ) (b : Bool) → (1 ≤ B) × (B ≤ 128) → InRange s B x → p ≡ residue 128 x → b ≡ nat_eq p 0 → b ≡ int_eq x (pos 0)
+zero_test s B p x true h f e t =
+    let z : p ≡ 0 = grind arith in
+    let c : Congruent 128 (pos 0) x = subst (λ (n : ℕ). Congruent 128 (pos n) x) (sym e ∙ z) (residue-congruent 128 x) in
+    let same : pos 0 ≡ x = congruent-same s 128 (pos 0) x (lit≤ tt) (zero-in_range s 128 (lit≤ tt)) (InRange-wider s B 128 x h.0 h.1 f) c in
+    rw (← same) refl
+zero_test s B p x false h f e t = sym (int_eq-false x (λ z. let m : p ≡ 0 = e ∙ ap (residue 128) z ∙ residue-pos 128 0 (lit< tt) in let k : false ≡ nat_eq 0 0 = rw m at t in cc))
+
+-- ---- amounts
+
+pub below-checks : {T : Type 0} (number : T → ℤ) (B amount : ℕ) (x : ℤ) (o : Option T) (r : Result T Why)
+    → (IsNone o ↔ (B ≤ amount)) → IfSome o (λ v. number v ≡ x) → r ≡ ok_or o Refused
+    → MatchResult r (λ v. if_below B amount x ≡ Ok (number v)) (λ why. if_below B amount x ≡ Err why)
+below-checks number B amount x None r h g e = rw e (let l : B ≤ amount = h.0 refl in let t : nat_lt amount B ≡ false = grind arith in rw t refl)
+below-checks number B amount x (Some v) r h g e = rw e (by_test (nat_lt amount B) refl)
+  where
+    by_test : (t : Bool) → nat_lt amount B ≡ t → if_below B amount x ≡ Ok (number v)
+    by_test true p = rw p (ap Ok (sym g))
+    by_test false p = let l : B ≤ amount = grind arith in let n = h.1 l in absurd (cc)
+
+pub ruleset answers = (exact-checks, quotient-checks, below-checks)
+
+pub ruleset divisors = (nonzero, unless_zero-zero, unless_zero-other)
+
+-- ---- registers
+
+source : {T : Type 0} (number : T → ℤ) (regs : List T) (k : ℕ) (x : T) → k < length regs → x ≡ get_or regs k x → number x ≡ register (map number regs) k
+source number regs k x h e = sym (get_or-map number regs k x (pos 0) h ∙ ap number (sym e))
+
+pub two-sources : {T : Type 0} (number : T → ℤ) (s : Bool) (B : ℕ) (op : TwoOp) (left right : ℕ) (regs : List T) (x y : T) (r : Result T Why)
+    → left < length regs → right < length regs → x ≡ get_or regs left x → y ≡ get_or regs right y
+    → MatchResult r (λ v. two_meaning s B op (number x) (number y) ≡ Ok (number v)) (λ why. two_meaning s B op (number x) (number y) ≡ Err why)
+    → MatchResult r (λ v. two_meaning s B op (register (map number regs) left) (register (map number regs) right) ≡ Ok (number v)) (λ why. two_meaning s B op (register (map number regs) left) (register (map number regs) right) ≡ Err why)
+two-sources number s B op left right regs x y r h g e f m =
+    let a = source number regs left x h e in
+    let b = source number regs right y g f in
+    let P : ℤ → ℤ → Type 0 = λ p q. MatchResult r (λ v. two_meaning s B op p q ≡ Ok (number v)) (λ why. two_meaning s B op p q ≡ Err why) in
+    subst (λ (q : ℤ). P (register (map number regs) left) q) b (subst (λ (p : ℤ). P p (number y)) a m)
+
+pub one-source : {T : Type 0} (number : T → ℤ) (s : Bool) (B : ℕ) (op : OneOp) (src : ℕ) (regs : List T) (x v : T)
+    → src < length regs → x ≡ get_or regs src x → one_meaning s B op (number x) ≡ Ok (number v)
+    → one_meaning s B op (register (map number regs) src) ≡ Ok (number v)
+one-source number s B op src regs x v h e m = subst (λ (p : ℤ). one_meaning s B op p ≡ Ok (number v)) (source number regs src x h e) m
+
+pub by-source : {T : Type 0} (number : T → ℤ) (s : Bool) (B : ℕ) (op : ByOp) (src amount : ℕ) (regs : List T) (x : T) (r : Result T Why)
+    → src < length regs → x ≡ get_or regs src x
+    → MatchResult r (λ v. by_meaning s B op (number x) amount ≡ Ok (number v)) (λ why. by_meaning s B op (number x) amount ≡ Err why)
+    → MatchResult r (λ v. by_meaning s B op (register (map number regs) src) amount ≡ Ok (number v)) (λ why. by_meaning s B op (register (map number regs) src) amount ≡ Err why)
+by-source number s B op src amount regs x r h e m =
+    subst (λ (p : ℤ). MatchResult r (λ v. by_meaning s B op p amount ≡ Ok (number v)) (λ why. by_meaning s B op p amount ≡ Err why)) (source number regs src x h e) m
+
+pub ruleset sources = (two-sources, one-source, by-source)
+
+-- a step that writes, and one that stops
+pub written-ok : {T : Type 0} (number : T → ℤ) (regs : List T) (to : ℕ) (v : T) (answer : Result ℤ Why)
+    → answer ≡ Ok (number v) → written (map number regs) to answer ≡ Ok (map number (set regs to v))
+written-ok number regs to v answer e = ap (written (map number regs) to) e ∙ ap Ok (sym (map-set number regs to v))
+
+pub written-err : (regs : List ℤ) (to : ℕ) (answer : Result ℤ Why) (why : Why) → answer ≡ Err why → written regs to answer ≡ Err why
+written-err regs to answer why e = ap (written regs to) e
+
+pub ruleset writes = (written-ok, written-err)

@@ -1,0 +1,8 @@
+use Rattle.std.proofs.Common.{refl}
+use Rattle.arbitrary_int.proofs.StepLemmas.{zero_test}
+use Rattle.arbitrary_int.proofs.runs.is_zero.Goals as goal
+
+pub returns : goal.returns
+returns g c =
+    zero_test g.R.Integer.IS_SIGNED g.R.Integer.BITS c.extended.result (g.R.Integer.number c.args.x) _ (g.met.R.Integer.width_law c.extended.ensures.width) c.extended.ensures.range
+    c.extended.ensures.value refl

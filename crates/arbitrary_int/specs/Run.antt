@@ -1,0 +1,22 @@
+-- What a list of steps does, by whole numbers and bit lists. No storage comes into it.
+use Rattle.std.specs.Prelude.{ℕ, ℤ, Bool, ◌+◌, List, [], ◌∷◌, All, Result, Ok, Err, ⊤}
+use Rattle.arbitrary_int.specs.Step.{meaning, StepWithin}
+use Rattle.arbitrary_int.specs.declared.steps.Step.{Step}
+use Rattle.arbitrary_int.specs.declared.steps.Stop.{Stop}
+
+-- the register numbers of all steps are below n
+abbrev pub WellFormed : List Step → ℕ → Type 0
+WellFormed steps n = All (StepWithin n) steps
+
+-- the same run, seen from k steps before
+abbrev pub later : ℕ → List ℤ × Result ⊤ Stop → List ℤ × Result ⊤ Stop
+later k (regs, Ok u) = (regs, Ok u)
+later k (regs, Err stop) = (regs, Err (record { at = k + stop.at; why = stop.why }))
+
+-- the registers after the steps, up to the first that stops, and how the run ended
+abbrev pub RunOf : Bool → ℕ → List Step → List ℤ → List ℤ × Result ⊤ Stop
+RunOf s B [] regs = (regs, Ok tt)
+RunOf s B (step ∷ steps) regs = elim (meaning s B step regs) [
+  | Ok new ↦ later 1 (RunOf s B steps new)
+  | Err why ↦ (regs, Err (record { at = 0; why = why }))
+]

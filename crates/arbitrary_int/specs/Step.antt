@@ -1,0 +1,98 @@
+-- What one step does, by whole numbers and bit lists. No storage comes into it.
+use Rattle.std.specs.Prelude.{◌≡◌, ℕ, ℤ, Bool, true, false, pos, ◌+ℤ◌, ◌-ℤ◌, ◌*ℤ◌, ◌%◌, ◌<◌, List, get_or, set, reverse, Result, Ok, Err, if◌then◌else◌, int_div, nat_lt}
+use Rattle.std.specs.Ordering.{int_eq}
+use Rattle.arbitrary_base.specs.Range.{in_range}
+use Rattle.arbitrary_base.specs.Residue.{wrap}
+use Rattle.arbitrary_base.specs.Saturation.{clamp}
+use Rattle.arbitrary_base.specs.Power.{power}
+use Rattle.arbitrary_base.specs.BitList.{bits, val, bits_and, bits_or, bits_xor, bits_not, shl, shr, fill, rotl, rotr}
+use Rattle.arbitrary_int.specs.declared.steps.TwoOp.{TwoOp}
+use Rattle.arbitrary_int.specs.declared.steps.TwoOp.TheVariants.{WrappingAdd, WrappingSub, WrappingMul, WrappingDiv, SaturatingAdd, SaturatingSub, SaturatingMul, SaturatingDiv, CheckedAdd, CheckedSub, CheckedMul, CheckedDiv, And, Or, Xor}
+use Rattle.arbitrary_int.specs.declared.steps.OneOp.{OneOp}
+use Rattle.arbitrary_int.specs.declared.steps.OneOp.TheVariants.{Not, ReverseBits}
+use Rattle.arbitrary_int.specs.declared.steps.ByOp.{ByOp}
+use Rattle.arbitrary_int.specs.declared.steps.ByOp.TheVariants.{WrappingShl, WrappingShr, CheckedShl, CheckedShr, RotateLeft, RotateRight, SaturatingPow}
+use Rattle.arbitrary_int.specs.declared.steps.Step.{Step}
+use Rattle.arbitrary_int.specs.declared.steps.Step.TheVariants.{Two, One, By}
+use Rattle.arbitrary_int.specs.declared.steps.Why.{Why}
+use Rattle.arbitrary_int.specs.declared.steps.Why.TheVariants.{Refused, ZeroDivisor}
+
+-- the number where the type has it
+abbrev pub exact : Bool → ℕ → ℤ → Result ℤ Why
+exact s B x = if in_range s B x then Ok x else Err Refused
+
+-- the answer, unless the divisor is zero
+abbrev pub unless_zero : ℤ → Why → Result ℤ Why → Result ℤ Why
+unless_zero y why answer = if int_eq y (pos 0) then Err why else answer
+
+-- the bits of x, shifted right with what the type brings in
+abbrev pub shifted_right : Bool → ℕ → ℤ → ℕ → ℤ
+shifted_right s B x k = val s (shr (bits B x) k (fill s (bits B x)))
+
+-- the answer, where the amount is below the width
+abbrev pub if_below : ℕ → ℕ → ℤ → Result ℤ Why
+if_below B amount x = if nat_lt amount B then Ok x else Err Refused
+
+-- what an operation makes of the numbers x and y
+abbrev pub two_meaning : Bool → ℕ → TwoOp → ℤ → ℤ → Result ℤ Why
+two_meaning s B WrappingAdd x y = Ok (wrap s B (x +ℤ y))
+two_meaning s B WrappingSub x y = Ok (wrap s B (x -ℤ y))
+two_meaning s B WrappingMul x y = Ok (wrap s B (x *ℤ y))
+two_meaning s B WrappingDiv x y = unless_zero y ZeroDivisor (Ok (wrap s B (int_div x y)))
+two_meaning s B SaturatingAdd x y = Ok (clamp s B (x +ℤ y))
+two_meaning s B SaturatingSub x y = Ok (clamp s B (x -ℤ y))
+two_meaning s B SaturatingMul x y = Ok (clamp s B (x *ℤ y))
+two_meaning s B SaturatingDiv x y = unless_zero y ZeroDivisor (Ok (clamp s B (int_div x y)))
+two_meaning s B CheckedAdd x y = exact s B (x +ℤ y)
+two_meaning s B CheckedSub x y = exact s B (x -ℤ y)
+two_meaning s B CheckedMul x y = exact s B (x *ℤ y)
+two_meaning s B CheckedDiv x y = unless_zero y Refused (exact s B (int_div x y))
+two_meaning s B And x y = Ok (val s (bits_and (bits B x) (bits B y)))
+two_meaning s B Or x y = Ok (val s (bits_or (bits B x) (bits B y)))
+two_meaning s B Xor x y = Ok (val s (bits_xor (bits B x) (bits B y)))
+
+-- what an operation makes of the number x
+abbrev pub one_meaning : Bool → ℕ → OneOp → ℤ → Result ℤ Why
+one_meaning s B Not x = Ok (val s (bits_not (bits B x)))
+one_meaning s B ReverseBits x = Ok (val s (reverse (bits B x)))
+
+-- what an operation makes of the number x by an amount
+abbrev pub by_meaning : Bool → ℕ → ByOp → ℤ → ℕ → Result ℤ Why
+by_meaning s B WrappingShl x amount = Ok (val s (shl (bits B x) (amount % B)))
+by_meaning s B WrappingShr x amount = Ok (shifted_right s B x (amount % B))
+by_meaning s B CheckedShl x amount = if_below B amount (val s (shl (bits B x) amount))
+by_meaning s B CheckedShr x amount = if_below B amount (shifted_right s B x amount)
+by_meaning s B RotateLeft x amount = Ok (val s (rotl (bits B x) (amount % B)))
+by_meaning s B RotateRight x amount = Ok (val s (rotr (bits B x) (amount % B)))
+by_meaning s B SaturatingPow x amount = Ok (clamp s B (power x amount))
+
+-- the register at a place
+abbrev pub register : List ℤ → ℕ → ℤ
+register regs k = get_or regs k (pos 0)
+
+-- what the step makes of its sources
+abbrev pub answer_of : Bool → ℕ → Step → List ℤ → Result ℤ Why
+answer_of s B (Two op to left right) regs = two_meaning s B op (register regs left) (register regs right)
+answer_of s B (One op to src) regs = one_meaning s B op (register regs src)
+answer_of s B (By op to src amount) regs = by_meaning s B op (register regs src) amount
+
+-- the register that the step writes
+abbrev pub target_of : Step → ℕ
+target_of (Two op to left right) = to
+target_of (One op to src) = to
+target_of (By op to src amount) = to
+
+-- the registers with the answer at the place `to`, or why there is none
+abbrev pub written : List ℤ → ℕ → Result ℤ Why → Result (List ℤ) Why
+written regs to (Ok x) = Ok (set regs to x)
+written regs to (Err why) = Err why
+
+-- the registers after the step, or why it stops
+abbrev pub meaning : Bool → ℕ → Step → List ℤ → Result (List ℤ) Why
+meaning s B step regs = written regs (target_of step) (answer_of s B step regs)
+
+-- the register numbers of the step are below n
+abbrev pub StepWithin : ℕ → Step → Type 0
+StepWithin n (Two op to left right) = (to < n) × (left < n) × (right < n)
+StepWithin n (One op to src) = (to < n) × (src < n)
+StepWithin n (By op to src amount) = (to < n) × (src < n)

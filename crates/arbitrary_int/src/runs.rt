@@ -1,0 +1,190 @@
+//! Lists of steps on registers.
+
+ghost use Rattle.std.specs.Prelude.{◌≡◌, ◌↔◌, ◌<◌, map, length, pos, IsTrue, MatchResult, Ok, Err};
+ghost use Rattle.std.specs.Ordering.{int_eq};
+ghost use Rattle.arbitrary_int.specs.Step.{StepWithin, answer_of, by_meaning, meaning, one_meaning, target_of, two_meaning};
+ghost use Rattle.arbitrary_int.specs.Run.{RunOf, WellFormed};
+
+use crate::steps::{ByOp, OneOp, Step, Stop, TwoOp, Why};
+use arbitrary_calls::fixed_width::FixedWidth;
+use arbitrary_traits::integer::Integer;
+
+/// Whether each register number of the steps is below `n`.
+pub fn well_formed(steps: &[Step], n: usize) -> bool
+    ensures { IsTrue result ↔ WellFormed steps.now n }
+{
+    steps.iter().all(|step| is_within(step, n))
+}
+
+/// Whether each register number of the step is below `n`.
+fn is_within(step: &Step, n: usize) -> bool
+    ensures { IsTrue result ↔ StepWithin n step.now }
+{
+    match step {
+        Step::Two {
+            to,
+            left,
+            right,
+            ..
+        } => *to < n && *left < n && *right < n,
+        Step::One { to, src, .. } => *to < n && *src < n,
+        Step::By { to, src, .. } => *to < n && *src < n,
+    }
+}
+
+/// Whether the number is zero.
+// All its bits are zero exactly there.
+fn is_zero<R: Integer>(x: R) -> bool
+    ensures { result ≡ int_eq (R.number x) (pos 0) }
+{
+    x.extended() == 0
+}
+
+/// The quotient, wrapped, or a stop at a divisor of zero.
+fn wrapping_quotient<R: FixedWidth>(x: R, y: R) -> Result<R, Why>
+    ensures { MatchResult result
+        (λ v. two_meaning R.IS_SIGNED R.BITS TwoOp.WrappingDiv (R.number x) (R.number y) ≡ Ok (R.number v))
+        (λ why. two_meaning R.IS_SIGNED R.BITS TwoOp.WrappingDiv (R.number x) (R.number y) ≡ Err why) }
+{
+    if is_zero(y) {
+        Err(Why::ZeroDivisor)
+    } else {
+        Ok(x.wrapping_div(y))
+    }
+}
+
+/// The quotient, clamped, or a stop at a divisor of zero.
+fn saturating_quotient<R: FixedWidth>(x: R, y: R) -> Result<R, Why>
+    ensures { MatchResult result
+        (λ v. two_meaning R.IS_SIGNED R.BITS TwoOp.SaturatingDiv (R.number x) (R.number y) ≡ Ok (R.number v))
+        (λ why. two_meaning R.IS_SIGNED R.BITS TwoOp.SaturatingDiv (R.number x) (R.number y) ≡ Err why) }
+{
+    if is_zero(y) {
+        Err(Why::ZeroDivisor)
+    } else {
+        Ok(x.saturating_div(y))
+    }
+}
+
+/// What an operation makes of two values.
+#[tactic(auto, using(crate::proofs::StepLemmas::answers))]
+fn two<R: FixedWidth>(op: TwoOp, x: R, y: R) -> Result<R, Why>
+    ensures { MatchResult result
+        (λ v. two_meaning R.IS_SIGNED R.BITS op (R.number x) (R.number y) ≡ Ok (R.number v))
+        (λ why. two_meaning R.IS_SIGNED R.BITS op (R.number x) (R.number y) ≡ Err why) }
+{
+    match op {
+        TwoOp::WrappingAdd => Ok(x.wrapping_add(y)),
+        TwoOp::WrappingSub => Ok(x.wrapping_sub(y)),
+        TwoOp::WrappingMul => Ok(x.wrapping_mul(y)),
+        TwoOp::WrappingDiv => wrapping_quotient(x, y),
+        TwoOp::SaturatingAdd => Ok(x.saturating_add(y)),
+        TwoOp::SaturatingSub => Ok(x.saturating_sub(y)),
+        TwoOp::SaturatingMul => Ok(x.saturating_mul(y)),
+        TwoOp::SaturatingDiv => saturating_quotient(x, y),
+        TwoOp::CheckedAdd => x.checked_add(y).ok_or(Why::Refused),
+        TwoOp::CheckedSub => x.checked_sub(y).ok_or(Why::Refused),
+        TwoOp::CheckedMul => x.checked_mul(y).ok_or(Why::Refused),
+        TwoOp::CheckedDiv => x.checked_div(y).ok_or(Why::Refused),
+        TwoOp::And => Ok(x & y),
+        TwoOp::Or => Ok(x | y),
+        TwoOp::Xor => Ok(x ^ y),
+    }
+}
+
+/// What an operation makes of one value.
+#[tactic(auto, using(crate::proofs::StepLemmas::answers))]
+fn one<R: FixedWidth>(op: OneOp, x: R) -> R
+    ensures { one_meaning R.IS_SIGNED R.BITS op (R.number x) ≡ Ok (R.number result) }
+{
+    match op {
+        OneOp::Not => !x,
+        OneOp::ReverseBits => x.reverse_bits(),
+    }
+}
+
+/// What an operation makes of one value by an amount.
+#[tactic(auto, using(crate::proofs::StepLemmas::answers))]
+fn by<R: FixedWidth>(op: ByOp, x: R, amount: u32) -> Result<R, Why>
+    ensures { MatchResult result
+        (λ v. by_meaning R.IS_SIGNED R.BITS op (R.number x) amount ≡ Ok (R.number v))
+        (λ why. by_meaning R.IS_SIGNED R.BITS op (R.number x) amount ≡ Err why) }
+{
+    match op {
+        ByOp::WrappingShl => Ok(x.wrapping_shl(amount)),
+        ByOp::WrappingShr => Ok(x.wrapping_shr(amount)),
+        ByOp::CheckedShl => x.checked_shl(amount).ok_or(Why::Refused),
+        ByOp::CheckedShr => x.checked_shr(amount).ok_or(Why::Refused),
+        ByOp::RotateLeft => Ok(x.rotate_left(amount)),
+        ByOp::RotateRight => Ok(x.rotate_right(amount)),
+        ByOp::SaturatingPow => Ok(x.saturating_pow(amount)),
+    }
+}
+
+/// What the step makes of its sources.
+#[tactic(auto, using(crate::proofs::StepLemmas::sources))]
+fn answer<R: FixedWidth>(step: &Step, registers: &[R]) -> Result<R, Why>
+    requires { StepWithin (length registers.now) step.now }
+    ensures { MatchResult result
+        (λ v. answer_of R.IS_SIGNED R.BITS step.now (map R.number registers.now) ≡ Ok (R.number v))
+        (λ why. answer_of R.IS_SIGNED R.BITS step.now (map R.number registers.now) ≡ Err why) }
+{
+    match step {
+        Step::Two {
+            op,
+            left,
+            right,
+            ..
+        } => two(*op, registers[*left], registers[*right]),
+        Step::One { op, src, .. } => Ok(one(*op, registers[*src])),
+        Step::By {
+            op,
+            src,
+            amount,
+            ..
+        } => by(*op, registers[*src], *amount),
+    }
+}
+
+/// The register that the step writes.
+fn target(step: &Step) -> usize
+    ensures { result ≡ target_of step.now }
+{
+    match step {
+        Step::Two { to, .. } => *to,
+        Step::One { to, .. } => *to,
+        Step::By { to, .. } => *to,
+    }
+}
+
+/// One step. Where it stops, nothing is written.
+#[tactic(auto, using(crate::proofs::StepLemmas::writes))]
+fn apply<R: FixedWidth>(step: &Step, registers: &mut [R]) -> Result<(), Why>
+    requires { StepWithin (length registers.old) step.now }
+    ensures { MatchResult result
+        (λ _. meaning R.IS_SIGNED R.BITS step.now (map R.number registers.old) ≡ Ok (map R.number registers.new))
+        (λ why. (meaning R.IS_SIGNED R.BITS step.now (map R.number registers.old) ≡ Err why) × (registers.new ≡ registers.old)) }
+{
+    let value = answer(step, registers)?;
+    registers[target(step)] = value;
+    Ok(())
+}
+
+/// The steps in order, up to the first that stops. That one writes nothing, and is told by its place.
+///
+/// Afterwards the numbers of the registers, and the ending, are those that `RunOf` gives: the
+/// arithmetic of whole numbers and bit lists, whatever the storage. The caller shows that each register
+/// number is below the number of registers (test it by `well_formed`).
+#[tactic(auto, using(crate::proofs::RunLemmas::runs))]
+pub fn run<R: FixedWidth>(steps: &[Step], registers: &mut [R]) -> Result<(), Stop>
+    requires { WellFormed steps.now (length registers.old) }
+    ensures registers { map R.number registers.new ≡ (RunOf R.IS_SIGNED R.BITS steps.now (map R.number registers.old)).0 }
+    ensures ending { result ≡ (RunOf R.IS_SIGNED R.BITS steps.now (map R.number registers.old)).1 }
+{
+    for (at, step) in steps.iter().enumerate() {
+        if let Err(why) = apply(step, registers) {
+            return Err(Stop { at, why });
+        }
+    }
+    Ok(())
+}

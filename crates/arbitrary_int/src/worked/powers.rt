@@ -1,0 +1,35 @@
+//! Powers and the multiplications that they cost.
+
+use crate::prelude::*;
+
+#[test]
+fn powers_end_at_the_range(rt: HostRuntime) {
+    for (exponent, power) in [(3, -8192), (4294967294, 8191), (4294967295, -8192)] {
+        assert_eq!(rt;
+            i14::min_value().saturating_pow(exponent).value(),
+            power,
+            "to {exponent}"
+        );
+    }
+    for (exponent, power) in [(0, 0), (1, -1), (2, 0), (3, -1)] {
+        assert_eq!(rt;
+            Int::<i8, 1>::new(-1).saturating_pow(exponent).value(),
+            power,
+            "to {exponent}"
+        );
+    }
+    assert_eq!(rt; i14::new(-4).saturating_pow(3).value(), -64);
+}
+
+#[test]
+fn few_multiplications_serve_a_great_exponent(rt: HostRuntime) {
+    for (exponent, power, most) in [
+        (3, -8192, 4),
+        (4294967294, 8191, 64),
+        (4294967295, -8192, 64),
+    ] {
+        let (result, count) = i14::min_value().saturating_pow_counted(exponent);
+        assert_eq!(rt; result.value(), power, "to {exponent}");
+        assert!(rt; count <= most, "to {exponent}: {count}");
+    }
+}
