@@ -1,0 +1,11 @@
+pub mod Lines
+pub mod Streams
+pub mod Digits
+pub mod Values
+pub mod StepLines
+pub mod Forms
+pub mod Joined
+pub mod Decimals
+pub mod Operands
+pub mod Families
+pub mod Unique

@@ -1,0 +1,9 @@
+pub mod Fault
+pub mod Stream
+pub mod Text
+pub mod Numeral
+pub mod Kind
+pub mod Operation
+pub mod Form
+pub mod Answer
+pub mod Serving

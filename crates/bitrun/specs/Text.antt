@@ -1,0 +1,48 @@
+-- The lines and the words of a text.
+use Rattle.std.specs.Prelude.{ℕ, ◌||◌, Bool, List, [], ◌∷◌, length, map, filter, not, ◌==◌, nat_lt}
+use Rattle.std.specs.List.{slice_split, before_first, after_first}
+
+-- LF
+abbrev pub ends_line : ℕ → Bool
+ends_line byte = byte == 10
+
+-- space, tab and CR
+abbrev pub is_blank : ℕ → Bool
+is_blank byte = byte == 32 || (byte == 9 || byte == 13)
+
+abbrev pub without_empty_last : List (List ℕ) → List (List ℕ)
+without_empty_last [] = []
+without_empty_last ([] ∷ []) = []
+without_empty_last ((byte ∷ bytes) ∷ []) = (byte ∷ bytes) ∷ []
+without_empty_last (part ∷ next ∷ parts) = part ∷ without_empty_last (next ∷ parts)
+
+-- what stands between the LFs; a last LF starts no further line
+unfoldable pub lines_of : List ℕ → List (List ℕ)
+lines_of text = without_empty_last (slice_split ends_line text)
+
+abbrev pub has_bytes : List ℕ → Bool
+has_bytes word = nat_lt 0 (length word)
+
+-- what stands between the blanks, if anything does
+unfoldable pub words_of : List ℕ → List (List ℕ)
+words_of line = filter has_bytes (slice_split is_blank line)
+
+-- the words of each line
+abbrev pub word_lines : List ℕ → List (List (List ℕ))
+word_lines text = map words_of (lines_of text)
+
+-- ---- what is left of a text
+
+abbrev pub is_solid : ℕ → Bool
+is_solid byte = not (is_blank byte)
+
+abbrev pub ends_word : ℕ → Bool
+ends_word byte = ends_line byte || is_blank byte
+
+-- from a place within a line on: the words left on this line, and those of each later line
+pub record Left : Type 0 where
+  pub words : List (List ℕ)
+  pub later : List (List (List ℕ))
+
+unfoldable pub left_of : List ℕ → Left
+left_of text = record { words = words_of (before_first ends_line text); later = word_lines (after_first ends_line text) }

@@ -1,0 +1,175 @@
+//! The answer to an input.
+
+ghost use Rattle.std.specs.Prelude.{◌≡◌, ◌≤◌, ◌<◌, ◌^◌, ◌∷◌, ◌++◌, [], length, map, unsigned_abs, IfOk, IfErr, OnOk};
+ghost use Rattle.std.specs.List.{flat_map, join_with_byte};
+ghost use Rattle.std.specs.Fmt.{signed_decimal};
+ghost use Rattle.bitrun.specs.Text.{Left};
+ghost use Rattle.bitrun.specs.Kind.{sign_of, width_of};
+ghost use Rattle.bitrun.specs.Form.{LinesFault, FormFault};
+ghost use Rattle.bitrun.specs.Answer.{after_space, cause_text, ending_text, answer_text, IsAnswer, IsAnswerAt};
+
+use crate::decimal::push_decimal;
+use crate::fault::Fault;
+use crate::kind::{Kind, kind_named};
+use crate::parsing::{registers, steps};
+use crate::text::Cursor;
+use arbitrary_int::traits::{FixedWidth, Integer};
+use arbitrary_int::{Stop, Why, i1, i7, i14, i120, run, u1, u7, u14, u120};
+use std::alloc::{AllocError, Allocator};
+
+/// The whole answer to an input.
+#[tactic(auto, using(crate::proofs::Forms::answers))]
+pub fn answer<'a, A: Allocator>(alloc: &'a A, input: &[u8]) -> Result<Vec<u8, &'a A>, Fault>
+    requires { length input.now ≤ 65536 }
+    ensures found { IfOk result (λ text. IsAnswer input.now text.items) }
+    ensures fault { IfErr result (FormFault input.now) }
+{
+    let Some(mut text) = Cursor::new(input) else {
+        return Err(Fault::Line(1));
+    };
+    let Some(kind) = kind_named(&mut text) else {
+        return Err(Fault::Line(1));
+    };
+    if !text.next_line() {
+        return Err(Fault::Line(2));
+    }
+    answer_with(alloc, kind, &mut text)
+}
+
+/// The answer of the lines from the second on, with registers of the type.
+fn answer_with<'a, A: Allocator>(
+    alloc: &'a A,
+    kind: Kind,
+    lines: &mut Cursor,
+) -> Result<Vec<u8, &'a A>, Fault>
+    requires { length lines.old.later ≤ 65536 }
+    ensures found { IfOk result (λ text. IsAnswerAt (sign_of kind) (width_of kind) lines.old.words lines.old.later text.items) }
+    ensures fault { IfErr result (LinesFault (sign_of kind) (width_of kind) lines.old.words lines.old.later) }
+{
+    match kind {
+        Kind::U1 => answer_at::<u1, A>(alloc, lines),
+        Kind::I1 => answer_at::<i1, A>(alloc, lines),
+        Kind::U7 => answer_at::<u7, A>(alloc, lines),
+        Kind::I7 => answer_at::<i7, A>(alloc, lines),
+        Kind::U14 => answer_at::<u14, A>(alloc, lines),
+        Kind::I14 => answer_at::<i14, A>(alloc, lines),
+        Kind::U120 => answer_at::<u120, A>(alloc, lines),
+        Kind::I120 => answer_at::<i120, A>(alloc, lines),
+    }
+}
+
+/// The answer of the lines from the second on, with registers of the type `R`.
+fn answer_at<'a, R: FixedWidth, A: Allocator>(
+    alloc: &'a A,
+    lines: &mut Cursor,
+) -> Result<Vec<u8, &'a A>, Fault>
+    requires width { R.valid }
+    requires narrow { R.BITS ≤ 120 }
+    requires short { length lines.old.later ≤ 65536 }
+    ensures found { IfOk result (λ text. IsAnswerAt R.IS_SIGNED R.BITS lines.old.words lines.old.later text.items) }
+    ensures fault { IfErr result (LinesFault R.IS_SIGNED R.BITS lines.old.words lines.old.later) }
+{
+    let Some(registers) = registers::<R, A>(alloc, lines)? else {
+        return Err(Fault::Line(2));
+    };
+    let mut registers = registers;
+    let steps = steps(alloc, registers.len(), lines)?;
+    let ending = run(steps.as_slice(), registers.as_mut_slice());
+    Ok(text_of(alloc, registers.as_slice(), ending)?)
+}
+
+/// The registers in decimal, and how the run ended.
+fn text_of<'a, R: FixedWidth, A: Allocator>(
+    alloc: &'a A,
+    registers: &[R],
+    ending: Result<(), Stop>,
+) -> Result<Vec<u8, &'a A>, AllocError>
+    requires { R.BITS ≤ 120 }
+    ensures { IfOk result (λ text. text.items ≡ answer_text (map R.number registers.now, ending)) }
+{
+    let mut text = Vec::new(alloc);
+    push_registers(&mut text, registers)?;
+    push_ending(&mut text, ending)?;
+    Ok(text)
+}
+
+/// Appends the numbers with a space between.
+fn push_registers<R: FixedWidth, B: Allocator>(
+    text: &mut Vec<u8, B>,
+    registers: &[R],
+) -> Result<(), AllocError>
+    requires { R.BITS ≤ 120 }
+    ensures { OnOk result (text.new.items ≡ text.old.items ++ join_with_byte 32 (map signed_decimal (map R.number registers.now))) }
+{
+    match registers.split_first() {
+        Some((first, others)) => {
+            push_register(text, *first)?;
+            push_others(text, others)?;
+            Ok(())
+        }
+        None => Ok(()),
+    }
+}
+
+/// Appends the numbers, each after a space.
+fn push_others<R: FixedWidth, B: Allocator>(
+    text: &mut Vec<u8, B>,
+    others: &[R],
+) -> Result<(), AllocError>
+    requires { R.BITS ≤ 120 }
+    ensures { OnOk result (text.new.items ≡ text.old.items ++ flat_map after_space (map R.number others.now)) }
+{
+    for register in others {
+        text.push(b' ')?;
+        push_register(text, *register)?;
+    }
+    Ok(())
+}
+
+fn push_register<R: FixedWidth, B: Allocator>(
+    text: &mut Vec<u8, B>,
+    register: R,
+) -> Result<(), AllocError>
+    requires { R.BITS ≤ 120 }
+    ensures { OnOk result (text.new.items ≡ text.old.items ++ signed_decimal (R.number register)) }
+{
+    push_decimal(text, number_of(register))
+}
+
+/// The number of a register, with the fact that it is a number of its type.
+fn number_of<R: FixedWidth>(register: R) -> i128
+    requires { R.BITS ≤ 120 }
+    ensures number { result ≡ R.number register }
+    ensures small { unsigned_abs result < 2 ^ 120 }
+{
+    i128::from_extended(register.extended())
+}
+
+/// Appends how the run ended.
+fn push_ending<B: Allocator>(
+    text: &mut Vec<u8, B>,
+    ending: Result<(), Stop>,
+) -> Result<(), AllocError>
+    ensures { OnOk result (text.new.items ≡ text.old.items ++ 10 ∷ (ending_text ending ++ 10 ∷ [])) }
+{
+    match ending {
+        Ok(()) => text.extend_from_slice(b"\ndone\n"),
+        Err(Stop { at, why }) => {
+            text.extend_from_slice(b"\nstopped at ")?;
+            push_decimal(text, at as i128)?;
+            text.extend_from_slice(b": ")?;
+            text.extend_from_slice(cause_text(why))?;
+            text.push(b'\n')?;
+            Ok(())
+        }
+    }
+}
+
+fn cause_text(why: Why) -> &'static [u8]
+    ensures { result.now ≡ cause_text why }
+{
+    match why {
+        Why::Refused => b"refused",
+        Why::ZeroDivisor => b"zero divisor",
+    }
+}

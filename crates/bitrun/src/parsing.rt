@@ -1,0 +1,64 @@
+//! The registers and the steps from their lines.
+
+ghost use Rattle.std.specs.Prelude.{◌≡◌, ◌≤◌, length, map, filter, IfOk, IfErr, OnOk, MatchOption};
+ghost use Rattle.std.specs.List.{AllZip};
+ghost use Rattle.arbitrary_int.specs.Run.{WellFormed};
+ghost use Rattle.bitrun.specs.Text.{Left};
+ghost use Rattle.bitrun.specs.Form.{IsValue, IsStep, HasRegistersForm, StepsFault, has_words};
+
+use crate::fault::Fault;
+use crate::numeral::value_named;
+use crate::operation::step_named;
+use crate::text::Cursor;
+use arbitrary_int::Step;
+use arbitrary_int::traits::FixedWidth;
+use std::alloc::{AllocError, Allocator};
+
+/// The registers that the words of a line are numerals of, or nothing where one isn't a numeral in
+/// range.
+pub fn registers<'a, R: FixedWidth, A: Allocator>(
+    alloc: &'a A,
+    line: &mut Cursor,
+) -> Result<Option<Vec<R, &'a A>>, AllocError>
+    requires width { R.valid }
+    requires narrow { R.BITS ≤ 120 }
+    ensures values { IfOk result (λ found. MatchOption found
+        (HasRegistersForm R.IS_SIGNED R.BITS line.old.words → ⊥)
+        (λ registers. AllZip (IsValue R.IS_SIGNED R.BITS) line.old.words (map R.number registers.items))) }
+    ensures later { line.new.later ≡ line.old.later }
+{
+    let mut registers = Vec::new(alloc);
+    while let Some(word) = line.next_word() {
+        let Some(value) = value_named(word) else {
+            return Ok(None);
+        };
+        registers.push(value)?;
+    }
+    Ok(Some(registers))
+}
+
+/// The steps on so many registers that the later lines name.
+pub fn steps<'a, A: Allocator>(
+    alloc: &'a A,
+    count: usize,
+    lines: &mut Cursor,
+) -> Result<Vec<Step, &'a A>, Fault>
+    requires { length lines.old.later ≤ 65536 }
+    ensures found { IfOk result (λ steps. AllZip (IsStep count) (filter has_words lines.old.later) steps.items) }
+    ensures within { IfOk result (λ steps. WellFormed steps.items count) }
+    ensures fault { IfErr result (StepsFault count lines.old.later) }
+{
+    let mut steps = Vec::new(alloc);
+    let mut number = 2;
+    while lines.next_line() {
+        number += 1;
+        let Some(word) = lines.next_word() else {
+            continue;
+        };
+        let Some(step) = step_named(word, lines, count) else {
+            return Err(Fault::Line(number));
+        };
+        steps.push(step)?;
+    }
+    Ok(steps)
+}

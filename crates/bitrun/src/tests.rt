@@ -1,0 +1,3 @@
+//! Whole answers, and streams and memory that give out.
+mod answers;
+mod streams;

@@ -1,0 +1,148 @@
+//! Readers and writers that take a byte a call, and give out.
+use crate::fault::Fault;
+use crate::serving::serve;
+use arbitrary_int::Watched;
+use std::io;
+use std::io::{ErrorKind, Read, Write};
+use std::test::Fail;
+
+/// Gives one byte a call, and fails at one of its calls.
+#[derive(Drop)]
+struct Drip<'a> {
+    rest: &'a [u8],
+    calls: usize,
+    fails_at: usize,
+    kind: ErrorKind,
+}
+
+impl Read for Drip<'_> {
+    fn read(&mut self, buf: &mut [u8]) -> io::Result<usize> {
+        self.calls = self.calls.saturating_add(1);
+        if self.calls == self.fails_at {
+            return Err(io::Error::from(self.kind));
+        }
+        let text = self.rest;
+        match text {
+            [byte, rest @ ..] if !buf.is_empty() => {
+                buf[0] = *byte;
+                self.rest = rest;
+                Ok(1)
+            }
+            _ => Ok(0),
+        }
+    }
+}
+
+/// Gives one byte a call, without end.
+#[derive(Drop)]
+struct Endless {
+    calls: usize,
+}
+
+impl Read for Endless {
+    fn read(&mut self, buf: &mut [u8]) -> io::Result<usize> {
+        self.calls = self.calls.saturating_add(1);
+        if buf.is_empty() {
+            return Ok(0);
+        }
+        buf[0] = b'x';
+        Ok(1)
+    }
+}
+
+/// Takes one byte a call, and fails at one of its calls, or takes nothing there.
+#[derive(Drop)]
+struct Nibble {
+    taken: Vec<u8>,
+    calls: usize,
+    fails_at: usize,
+    kind: Option<ErrorKind>,
+}
+
+impl Write for Nibble {
+    fn write(&mut self, buf: &[u8]) -> io::Result<usize> {
+        self.calls = self.calls.saturating_add(1);
+        if self.calls == self.fails_at {
+            return match self.kind {
+                Some(kind) => Err(io::Error::from(kind)),
+                None => Ok(0),
+            };
+        }
+        match buf {
+            [byte, ..] => {
+                self.taken.push(*byte)?;
+                Ok(1)
+            }
+            [] => Ok(0),
+        }
+    }
+
+    fn flush(&mut self) -> io::Result<()> {
+        Ok(())
+    }
+}
+
+const INPUT: &[u8] = b"run i7\n5 -0 \t-64\r\n\nnot 0 0\n";
+
+const ANSWER: &[u8] = b"-6 0 -64\ndone\n";
+
+#[test]
+fn reader_fails(rt: HostRuntime) -> Result<(), Fail> {
+    for kind in [ErrorKind::Other, ErrorKind::Interrupted] {
+        for fails_at in 1..INPUT.len() + 3 {
+            let mut reader = Watched::new(Drip {
+                rest: INPUT,
+                calls: 0,
+                fails_at,
+                kind,
+            });
+            let mut writer = Watched::new(Vec::new(rt.alloc()));
+            let outcome = serve(rt.alloc(), &mut reader, &mut writer);
+            let failed = fails_at < INPUT.len() + 2;
+            assert_eq!(rt; outcome, if failed { Err(Fault::Read) } else { Ok(()) });
+            assert_eq!(rt; reader.failed(), failed);
+            let written = writer.into_inner();
+            assert_eq!(rt; written.as_slice(), if failed { b"" } else { ANSWER });
+            let reader = reader.into_inner();
+            assert_eq!(rt; reader.calls, fails_at.min(INPUT.len() + 1));
+        }
+    }
+    Ok(())
+}
+
+#[test]
+fn writer_fails(rt: HostRuntime) -> Result<(), Fail> {
+    for kind in [Some(ErrorKind::Other), Some(ErrorKind::Interrupted), None] {
+        for fails_at in 1..ANSWER.len() + 2 {
+            let mut reader = Watched::new(INPUT);
+            let mut writer = Watched::new(Nibble {
+                taken: Vec::new(rt.alloc()),
+                calls: 0,
+                fails_at,
+                kind,
+            });
+            let outcome = serve(rt.alloc(), &mut reader, &mut writer);
+            let failed = fails_at <= ANSWER.len();
+            assert_eq!(rt; outcome, if failed { Err(Fault::Write) } else { Ok(()) });
+            assert_eq!(rt; writer.failed(), failed);
+            let writer = writer.into_inner();
+            assert_eq!(rt; writer.calls, fails_at.min(ANSWER.len()));
+            let begun = &ANSWER[..(fails_at - 1).min(ANSWER.len())];
+            assert_eq!(rt; writer.taken.as_slice(), begun);
+        }
+    }
+    Ok(())
+}
+
+#[test]
+fn reader_never_ends(rt: HostRuntime) -> Result<(), Fail> {
+    let mut reader = Watched::new(Endless { calls: 0 });
+    let mut writer = Watched::new(Vec::new(rt.alloc()));
+    let outcome = serve(rt.alloc(), &mut reader, &mut writer);
+    assert_eq!(rt; outcome, Err(Fault::TooLong));
+    let reader = reader.into_inner();
+    assert_eq!(rt; reader.calls, 65_537);
+    let written = writer.into_inner();
+    assert!(rt; written.is_empty());
+    Ok(())
+}
