@@ -1,0 +1,19 @@
+//! A conversion keeps the number: `from_` takes what the target has, and `widen` goes to more bits, up to
+//! those of the storage.
+
+use arbitrary_int::prelude::*;
+
+/// The greatest number that a byte has.
+pub fn greatest_byte() -> u8 {
+    u8::from_(u20::new(255))
+}
+
+/// To all bits of the storage.
+pub fn to_the_storage() -> u8 {
+    u5::new(1).widen::<8>().value()
+}
+
+/// To one bit more.
+pub fn to_one_bit_more() -> u8 {
+    u5::new(1).widen::<6>().value()
+}

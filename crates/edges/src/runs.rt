@@ -1,0 +1,13 @@
+//! The steps of a run name registers that are there: a test shows it.
+
+use arbitrary_int::prelude::*;
+use arbitrary_int::{Step, Stop, run, well_formed};
+
+/// Runs the steps, and gives `None` where one names a register that is not there.
+pub fn run_tested(steps: &[Step], registers: &mut [u7]) -> Option<Result<(), Stop>> {
+    if well_formed(steps, registers.len()) {
+        Some(run(steps, registers))
+    } else {
+        None
+    }
+}

@@ -1,0 +1,34 @@
+//! Code for every width.
+
+ghost use Rattle.std.specs.Prelude.{◌≡◌, ◌↔◌, ◌+ℤ◌, ◌%◌, pos, int_div, IsTrue};
+ghost use Rattle.arbitrary_int.specs.BitList.{bits, ones};
+
+use arbitrary_int::prelude::*;
+use std::io;
+
+/// The mean of two numbers, rounded down. Their sum may be out of range.
+// The numbers are read as `u128`, which holds those of every width.
+pub fn mean<T: UnsignedInteger>(a: T, b: T) -> T
+    ensures { T.number result ≡ int_div (T.number a +ℤ T.number b) (pos 2) }
+{
+    let (a, b) = (a.extended(), b.extended());
+    T::from_(a / 2 + b / 2 + (a % 2 + b % 2) / 2)
+}
+
+/// Whether an odd number of the bits are one.
+pub fn parity<V: FixedWidth>(value: V) -> bool
+    ensures { IsTrue result ↔ (ones (bits V.BITS (V.number value)) % 2 ≡ 1) }
+{
+    value.count_ones() % 2 == 1
+}
+
+/// Prints both for several types.
+pub fn show(rt: &impl Print) -> io::Result<()> {
+    println!(rt; "{} {}", mean(u7::new(127), u7::new(126)), mean(255u8, 0u8))?;
+    println!(rt;
+        "{} {} {}",
+        u10::BITS,
+        parity(u10::new(0b111)),
+        parity(i10::new(-1))
+    )
+}

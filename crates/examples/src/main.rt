@@ -1,0 +1,19 @@
+//! How the library is used: a device's register, a packet header, a sensor, a list of steps, and code for
+//! every width.
+#![tactic(auto)]
+
+mod generic;
+mod header;
+mod register;
+mod sensor;
+mod steps;
+
+use std::io;
+
+fn main(rt: HostRuntime) -> io::Result<()> {
+    register::show(&rt)?;
+    header::show(&rt)?;
+    sensor::show(&rt)?;
+    steps::show(&rt)?;
+    generic::show(&rt)
+}

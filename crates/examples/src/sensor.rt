@@ -1,0 +1,58 @@
+//! A sensor that measures with 12 bits and a sign.
+
+ghost use Rattle.std.specs.Prelude.{◌≡◌, ◌-ℤ◌, ◌*ℤ◌, pos, int_div, true};
+ghost use Rattle.arbitrary_int.specs.BitList.{bits, items, val};
+ghost use Rattle.arbitrary_int.specs.Residue.{wrap};
+ghost use Rattle.arbitrary_int.specs.Saturation.{clamp};
+
+use arbitrary_int::prelude::*;
+use std::io;
+
+/// The sample in the low 12 bits of what the sensor sends. Bit 11 is its sign.
+pub fn sample(raw: u16) -> i12
+    ensures { result ≡ wrap true 12 (pos raw) }
+{
+    i12::masked_new(raw)
+}
+
+/// The sample in bits 12 to 23 of a word that holds two.
+pub fn second_sample(word: u32) -> i12
+    ensures { result ≡ val true (items 12 12 (bits 32 (pos word))) }
+{
+    i12::extract_u32(word, 12)
+}
+
+/// The sample times `gain`, and the end of the range where that is out of range.
+pub fn amplified(sample: i12, gain: i12) -> i12
+    ensures { result ≡ clamp true 12 (sample *ℤ gain) }
+{
+    sample.saturating_mul(gain)
+}
+
+/// How far apart two samples are. With one bit more, no difference is out of range.
+pub fn difference(a: i12, b: i12) -> i13
+    ensures { result ≡ a -ℤ b }
+{
+    a.widen::<13>() - b.widen::<13>()
+}
+
+/// The sample in millivolts, cut toward zero: 2048 steps are 2500 millivolts.
+#[tactic(auto, using(crate::proofs::Samples::samples))]
+pub fn millivolts(sample: i12) -> i32
+    ensures { result ≡ int_div (sample *ℤ pos 2500) (pos 2048) }
+{
+    sample.as_i32() * 2500 / 2048
+}
+
+/// Prints what becomes of a few samples.
+pub fn show(rt: &impl Print) -> io::Result<()> {
+    let high = sample(0x07FF);
+    let low = sample(0xF800);
+    println!(rt; "{high} {low} {}", second_sample(0x00FF_E000))?;
+    println!(rt;
+        "{} {}",
+        amplified(high, i12::new(2)),
+        amplified(low, i12::new(-1))
+    )?;
+    println!(rt; "{} {}", difference(low, high), millivolts(low))
+}
