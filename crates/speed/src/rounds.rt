@@ -1,0 +1,66 @@
+//! The loop around a call.
+
+use arbitrary_traits::integer::Integer;
+
+/// A call on two values.
+pub trait Call<V> {
+    /// Its answer. A call on one value is made on `y`, as `nothing` reads it too, and an answer that
+    /// is no value of the type picks one of the two. `amount` is any number.
+    fn answer(x: V, y: V, amount: u32) -> V;
+}
+
+/// No call: what the loop itself costs.
+pub struct Nothing;
+
+impl<V: Drop> Call<V> for Nothing {
+    fn answer(_x: V, y: V, _amount: u32) -> V {
+        y
+    }
+}
+
+/// The values that the calls are made on.
+#[derive(Drop)]
+pub struct Operands<V> {
+    left: [V; 16],
+    right: [V; 16],
+}
+
+/// Values of all sizes. The width is valid.
+fn values<V: Integer>(seed: u128) -> [V; 16]
+    requires { V.valid }
+{
+    let mut values = [V::zero(); 16];
+    let mut pattern = seed;
+    for i in 0..16 {
+        pattern = pattern.wrapping_mul(0x9e37_79b9_7f4a_7c15_f39c_c060_5ced_c835);
+        values[i] = V::from_extended(pattern >> (8 * i));
+    }
+    values
+}
+
+impl<V: Integer> Operands<V> {
+    /// Values of all sizes. The width is valid.
+    pub fn new() -> Self
+        requires { V.valid }
+    {
+        Operands {
+            left: values(1),
+            right: values(3),
+        }
+    }
+}
+
+/// The last answers of `rounds` calls.
+///
+/// Each pair of operands has its turn, and each answer is kept, so that no call is left out or worked
+/// out beforehand.
+#[inline(never)]
+pub fn repeat<V: Copy + Drop, C: Call<V>>(operands: &Operands<V>, rounds: u32) -> [V; 16] {
+    let mut answers = operands.left;
+    for i in 0..rounds {
+        let x = operands.left[(i % 16) as usize];
+        let y = operands.right[(i / 16 % 16) as usize];
+        answers[(i % 16) as usize] = C::answer(x, y, i);
+    }
+    answers
+}
