@@ -1,5 +1,5 @@
 -- Congruence modulo a power of two.
-use Rattle.std.specs.Prelude.{◌≡◌, ℕ, ℤ, Bool, true, false, zero, suc, pos, negsuc, neg_ℤ, ◌+ℤ◌, ◌-ℤ◌, ◌*ℤ◌, ◌+◌, ◌*◌, ◌-◌, ◌^◌, ◌≤◌}
+use Rattle.std.specs.Prelude.{◌≡◌, ℕ, ℤ, Bool, true, false, zero, suc, pos, negsuc, ◌+ℤ◌, ◌-ℤ◌, ◌*ℤ◌, ◌+◌, ◌*◌, ◌-◌, ◌^◌, ◌≤◌}
 use Rattle.std.proofs.Common.{arith, refl, ap, sym, ◌∙◌, pow-add}
 use Rattle.std.proofs.lemmas.Int.{ints}
 use Rattle.std.proofs.Math.Pow.{pow_mono}

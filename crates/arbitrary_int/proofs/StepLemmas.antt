@@ -1,5 +1,5 @@
 -- Why a step is right: from the contract of each call to the meaning of its operation.
-use Rattle.std.specs.Prelude.{◌≡◌, ◌≢◌, ◌↔◌, ◌≤ℤ◌, ℕ, ℤ, Bool, true, false, pos, ◌<◌, ◌≤◌, List, length, map, get_or, set, Option, Some, None, Result, Ok, Err, ok_or, int_le, int_div, nat_eq, nat_lt, MatchResult, IsNone, IfSome, ◌&&◌}
+use Rattle.std.specs.Prelude.{◌≡◌, ◌≢◌, ◌↔◌, ℕ, ℤ, Bool, true, false, pos, ◌<◌, ◌≤◌, List, length, map, get_or, set, Option, Some, None, Result, Ok, Err, ok_or, int_le, int_div, nat_eq, nat_lt, MatchResult, IsNone, IfSome, ◌&&◌}
 use Rattle.std.specs.Ordering.{int_eq}
 use Rattle.std.proofs.Common.{arith, refl, ap, sym, ◌∙◌, subst, lit≤, lit<}
 use Rattle.std.proofs.lemmas.Int.{ints}
@@ -8,7 +8,6 @@ use Rattle.arbitrary_base.specs.Range.{lo, hi, InRange, in_range}
 use Rattle.arbitrary_base.specs.Residue.{residue, Congruent}
 use Rattle.arbitrary_base.specs.Exact.{ExactOrNone, QuotientOrNone}
 use Rattle.arbitrary_base.proofs.Wrap.{congruent-same, residue-congruent}
-use Rattle.arbitrary_base.proofs.Congruence.{Congruent-sym}
 use Rattle.arbitrary_base.proofs.Narrow.{InRange-wider}
 use Rattle.arbitrary_base.proofs.Primitive.{residue-pos}
 use Rattle.arbitrary_base.proofs.Sum.{zero-in_range}

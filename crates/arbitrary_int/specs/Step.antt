@@ -1,5 +1,5 @@
 -- What one step does, by whole numbers and bit lists. No storage comes into it.
-use Rattle.std.specs.Prelude.{◌≡◌, ℕ, ℤ, Bool, true, false, pos, ◌+ℤ◌, ◌-ℤ◌, ◌*ℤ◌, ◌%◌, ◌<◌, List, get_or, set, reverse, Result, Ok, Err, if◌then◌else◌, int_div, nat_lt}
+use Rattle.std.specs.Prelude.{ℕ, ℤ, Bool, pos, ◌+ℤ◌, ◌-ℤ◌, ◌*ℤ◌, ◌%◌, ◌<◌, List, get_or, set, reverse, Result, Ok, Err, if◌then◌else◌, int_div, nat_lt}
 use Rattle.std.specs.Ordering.{int_eq}
 use Rattle.arbitrary_base.specs.Range.{in_range}
 use Rattle.arbitrary_base.specs.Residue.{wrap}

@@ -1,14 +1,13 @@
 -- An input has one answer at most, and one bad line at most.
-use Rattle.std.proofs.Common.{◌≡◌, ℕ, List, [], ◌∷◌, length, filter, Some, Option, ℤ, refl, sym, ap, ap₂, ◌∙◌, inl, inr, arith}
+use Rattle.std.proofs.Common.{◌≡◌, ℕ, List, [], ◌∷◌, length, filter, Some, Option, ℤ, refl, sym, ap₂, ◌∙◌, inl, inr, arith}
 use Rattle.std.specs.List.{AllZip}
 use Rattle.std.proofs.lemmas.Bool.{cases_order}
-use Rattle.arbitrary_int.specs.Run.{RunOf}
 use Rattle.arbitrary_int.specs.declared.steps.Step.{Step}
 use Rattle.bitrun.specs.Numeral.{value_named}
 use Rattle.bitrun.specs.Kind.{sign_of, width_of, kind_named}
 use Rattle.bitrun.specs.Operation.{step_named}
 use Rattle.bitrun.specs.Form.{Form, BadLine, IsValue, IsStep, has_words}
-use Rattle.bitrun.specs.Answer.{IsAnswer, answer_text}
+use Rattle.bitrun.specs.Answer.{IsAnswer}
 use Rattle.bitrun.specs.declared.kind.Kind.{Kind}
 
 pub one_bad_line : (input : List ℕ) (m n : ℕ) → BadLine input m → BadLine input n → m ≡ n

@@ -1,4 +1,3 @@
-use Rattle.std.proofs.Common.{refl}
 use Rattle.arbitrary_int.proofs.StepLemmas.{exact-checks, quotient-checks}
 use Rattle.arbitrary_int.proofs.runs.two.Goals as goal
 
