@@ -81,3 +81,43 @@ impl<D: Write> Watched<D> {
         outcome
     }
 }
+
+#[cfg(test)]
+mod tests {
+    use super::*;
+    use std::io::ErrorKind;
+
+    /// Fails at each call, with an error of the kind.
+    #[derive(Drop)]
+    struct Broken {
+        kind: ErrorKind,
+    }
+
+    impl Read for Broken {
+        fn read(&mut self, _buf: &mut [u8]) -> io::Result<usize> {
+            Err(io::Error::from(self.kind))
+        }
+    }
+
+    impl Write for Broken {
+        fn write(&mut self, _buf: &[u8]) -> io::Result<usize> {
+            Err(io::Error::from(self.kind))
+        }
+
+        fn flush(&mut self) -> io::Result<()> {
+            Ok(())
+        }
+    }
+
+    #[test]
+    fn faults_keep_their_kind(rt: HostRuntime) {
+        for kind in [ErrorKind::Other, ErrorKind::Interrupted] {
+            let mut reader = Watched::new(Broken { kind });
+            let read = reader.read(&mut [0]);
+            assert_eq!(rt; read.err().map(|error| error.kind()), Some(kind));
+            let mut writer = Watched::new(Broken { kind });
+            let written = writer.write(&[0]);
+            assert_eq!(rt; written.err().map(|error| error.kind()), Some(kind));
+        }
+    }
+}

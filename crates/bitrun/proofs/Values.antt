@@ -5,7 +5,7 @@ use Rattle.std.proofs.lemmas.Int.{ints}
 use Rattle.std.proofs.Math.Pow.{pow_mono}
 use Rattle.arbitrary_int.specs.Range.{lo, hi, InRange, in_range}
 use Rattle.arbitrary_int.specs.Residue.{residue, wrap}
-use Rattle.arbitrary_base.proofs.Wrap.{residue-congruent, wrap-in_range, wrap-of_in_range, wrap-same}
+use Rattle.arbitrary_int.proofs.Wrap.{residue-congruent, wrap-in_range, wrap-of_in_range, wrap-same}
 use Rattle.bitrun.specs.Numeral.{number_in, integer_in, number_below, number_of_type, value_named, IsFar}
 
 plain : (word : List ℕ) → ((rest : List ℕ) → word ≢ 45 ∷ rest) → integer_in word ≡ option_map pos (number_in word)
