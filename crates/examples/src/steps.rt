@@ -21,6 +21,23 @@ pub fn run_tested<R: FixedWidth>(steps: &[Step], registers: &mut [R]) -> Option<
     }
 }
 
+/// Runs the steps on registers of two types. Where these have one sign and one width, and the registers the
+/// same numbers, both runs leave the same numbers and end alike, whatever primitives keep them.
+pub fn run_in_both<A: FixedWidth, B: FixedWidth>(
+    steps: &[Step],
+    left: &mut [A],
+    right: &mut [B],
+) -> (Result<(), Stop>, Result<(), Stop>)
+    requires within { WellFormed steps.now (length left.old) }
+    requires sign { A.IS_SIGNED ≡ B.IS_SIGNED }
+    requires width { A.BITS ≡ B.BITS }
+    requires alike { map A.number left.old ≡ map B.number right.old }
+    ensures registers { map A.number left.new ≡ map B.number right.new }
+    ensures endings { result.0 ≡ result.1 }
+{
+    (run(steps, left), run(steps, right))
+}
+
 /// Runs two steps on three registers of 7 bits, and prints the registers and how the run ended.
 ///
 /// The first step adds registers 0 and 1 into register 2 and wraps. The second adds them again and is
@@ -41,5 +58,23 @@ pub fn show(rt: &impl Print) -> io::Result<()> {
         Some(Ok(())) => println!(rt; "done"),
         Some(Err(stop)) => println!(rt; "stopped at {}: {:?}", stop.at, stop.why),
         None => println!(rt; "a step names a register that is not there"),
+    }?;
+    show_storages(rt, &steps)
+}
+
+/// Runs the steps on registers of 7 bits in bytes and in words of 32 bits, and prints whether both end alike.
+fn show_storages(rt: &impl Print, steps: &[Step]) -> io::Result<()> {
+    let mut bytes = [u7::new(100), u7::new(50), u7::new(0)];
+    let mut words = [
+        UInt::<u32, 7>::new(100),
+        UInt::<u32, 7>::new(50),
+        UInt::<u32, 7>::new(0),
+    ];
+    if well_formed(steps, bytes.len()) {
+        let (left, right) = run_in_both(steps, &mut bytes, &mut words);
+        let words = &words[..];
+        println!(rt; "{} {}", left == right, words[2])
+    } else {
+        println!(rt; "a step names a register that is not there")
     }
 }
