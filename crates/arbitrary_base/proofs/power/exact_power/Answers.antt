@@ -1,4 +1,4 @@
-use Rattle.std.proofs.Common.{◌∙◌, ◌/◌, arith, ap}
+use Rattle.std.proofs.Common.{◌≡◌, ◌/◌, ◌*ℤ◌, arith, ap}
 use Rattle.arbitrary_base.specs.Range.{InRange}
 use Rattle.arbitrary_base.proofs.Squaring.{Squaring, power-none, begun, odd-turn, even-turn, last-turn, steady-turn, room, spent, product-beyond, square-beyond, last-product, one-in_range, InRange-equal}
 use Rattle.arbitrary_base.proofs.power.exact_power.Goals as goal
@@ -55,19 +55,20 @@ loop-left-preserved g c =
     let next : Squaring (n c.args.x) c.args.exp (n c.if-left-eq1.product) (n c.in_ok-square.square) (c.loop-left.left / 2) c.if-left-eq1.count × InRange g.T.Storage.SIGNED g.T.Storage.WIDTH (n c.if-left-eq1.product) =
     elim c.if-left-eq1.branch [
       | then-left-eq1+in_ok-product w ↦
-          (let product = w.in_ok-product.ensures.product in (
-            odd-turn _ _ _ i.squaring c.loop-left-test.true w.if-left-eq1.true (ap n w.product-is ∙ product.1) square.1 (omega arith),
-            InRange-equal (ap n w.product-is ∙ product.1) product.0,
+          (let product = w.in_ok-product.ensures.product in
+          let is : n c.if-left-eq1.product ≡ n c.loop-left.product *ℤ n c.loop-left.base = rw w.product-is product.1 in (
+            odd-turn _ _ _ i.squaring c.loop-left-test.true w.if-left-eq1.true is square.1 (omega arith),
+            InRange-equal {x = n c.loop-left.product *ℤ n c.loop-left.base} is product.0,
           ))
       | else-left-eq1 w ↦ (
         even-turn _ _ _ i.squaring c.loop-left-test.true w.if-left-eq1.false (ap n w.product-is) square.1 (omega arith),
-        InRange-equal (ap n w.product-is) i.product_in,
+        InRange-equal {x = n c.loop-left.product} (ap n w.product-is) i.product_in,
       )
     ] in
     record {
       squaring = next.0;
       product_in = next.1;
-      base_in = InRange-equal square.1 square.0;
+      base_in = InRange-equal {x = n c.loop-left.base *ℤ n c.loop-left.base} square.1 square.0;
     }
 
 pub multiply-requires-2 : goal.multiply-requires-2
