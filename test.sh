@@ -1,5 +1,6 @@
 #!/usr/bin/env bash
-# Proves, tests and runs everything from nothing, and tries each edit that must be refused.
+# Checks the list of short names, then proves, tests and runs everything from nothing, and tries each edit that must be refused.
 set -euo pipefail
 cd "$(dirname "$0")"
+python3 tools/short_names.py
 exec rt ci
