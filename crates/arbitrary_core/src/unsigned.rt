@@ -44,7 +44,7 @@ impl<T: UnsignedStorage, const BITS: usize> Clone for UInt<T, BITS> {
     ghost is_infallible = { λ _. ⊤ };
 
     fn clone(&self) -> Result<Self, AllocError> {
-        Ok(UInt { value: self.value })
+        Ok(*self)
     }
 }
 
