@@ -2,6 +2,7 @@
 
 mod arithmetic;
 mod bits;
+mod calls;
 mod ends;
 mod powers;
 mod steps;

@@ -1,0 +1,115 @@
+//! The examples of docs/CALLS.md.
+
+use crate::prelude::*;
+
+#[test]
+fn making_a_value_and_reading_it(rt: HostRuntime) {
+    assert_eq!(rt; i7::min_value(), i7::new(-64));
+    assert_eq!(rt; u14::max_value(), u14::new(16383));
+    assert_eq!(rt; i7::zero(), i7::new(0));
+    assert_eq!(rt; u7::BITS, 7);
+    assert_eq!(rt; UInt::<u8, 9>::is_valid_width(), false);
+    assert_eq!(rt; u7::mask(), 0x7F);
+    assert_eq!(rt; u7::new(100).value(), 100);
+    assert_eq!(rt; u7::try_new(128), Err(TryNewError));
+    assert_eq!(rt; u14::from_u16(300), u14::new(300));
+    assert_eq!(rt; i7::new(-3).value(), -3);
+    assert_eq!(rt; u8::from_(u7::new(0x40)), 0x40);
+    assert_eq!(rt; u5::masked_new(i4::new(-1)), u5::new(31));
+    assert_eq!(rt; u14::new(200).as_::<i7>(), i7::new(-56));
+    assert_eq!(rt; i7::new(-1).as_u8(), 255);
+    assert_eq!(rt; u5::new(0b11011).widen::<6>(), u6::new(0b11011));
+    assert_eq!(rt; i3::new(-1).to_bits(), 0b111);
+    assert_eq!(rt; i3::from_bits(0b111), i3::new(-1));
+    assert_eq!(rt; i3::try_from_bits(0b1111), Err(TryNewError));
+    assert_eq!(rt; i7::new(0).is_positive(), false);
+    assert_eq!(rt; i7::new(-1).is_negative(), true);
+}
+
+#[test]
+fn arithmetic(rt: HostRuntime) {
+    assert_eq!(rt; u7::new(100) + u7::new(27), u7::new(127));
+    assert_eq!(rt; i7::new(-22) - i7::new(-10), i7::new(-12));
+    assert_eq!(rt; i7::new(20) * i7::new(-3), i7::new(-60));
+    assert_eq!(rt; u7::new(22) / u7::new(4), u7::new(5));
+    assert_eq!(rt; -i17::max_value(), i17::new(-65535));
+    assert_eq!(rt; u14::new(200).wrapping_add(u14::max_value()), u14::new(199));
+    assert_eq!(rt; i7::new(60).saturating_add(i7::new(10)), i7::new(63));
+    assert_eq!(rt; u7::new(100).checked_add(u7::new(50)), None);
+    assert_eq!(rt;
+        u7::new(100).overflowing_add(u7::new(50)),
+        (u7::new(22), true)
+    );
+    assert_eq!(rt; u14::new(100).wrapping_sub(u14::max_value()), u14::new(101));
+    assert_eq!(rt; u14::new(13).saturating_sub(u14::new(127)), u14::new(0));
+    assert_eq!(rt; i7::new(-60).checked_sub(i7::new(4)), Some(i7::new(-64)));
+    assert_eq!(rt;
+        u7::new(5).overflowing_sub(u7::new(6)),
+        (u7::new(127), true)
+    );
+    assert_eq!(rt; u7::new(25).wrapping_mul(u7::new(12)), u7::new(44));
+    assert_eq!(rt; i7::new(-20).saturating_mul(i7::new(5)), i7::new(-64));
+    assert_eq!(rt; u7::new(22).checked_mul(u7::new(4)), Some(u7::new(88)));
+    assert_eq!(rt;
+        i14::new(1000).overflowing_mul(i14::new(10)),
+        (i14::new(-6384), true)
+    );
+    assert_eq!(rt;
+        i14::min_value().wrapping_div(i14::new(-1)),
+        i14::new(-8192)
+    );
+    assert_eq!(rt;
+        i14::min_value().saturating_div(i14::new(-1)),
+        i14::new(8191)
+    );
+    assert_eq!(rt; u7::new(22).checked_div(u7::new(0)), None);
+    assert_eq!(rt;
+        i14::min_value().overflowing_div(i14::new(-1)),
+        (i14::new(-8192), true)
+    );
+    assert_eq!(rt; i7::new(-64).wrapping_neg(), i7::new(-64));
+    assert_eq!(rt; i7::new(-64).saturating_neg(), i7::new(63));
+    assert_eq!(rt; i7::new(-64).checked_neg(), None);
+    assert_eq!(rt; i7::new(-64).overflowing_neg(), (i7::new(-64), true));
+    assert_eq!(rt; i14::new(-4).saturating_pow(3), i14::new(-64));
+    assert_eq!(rt; i14::new(-4).saturating_pow_counted(3).0, i14::new(-64));
+}
+
+#[test]
+fn bits(rt: HostRuntime) {
+    assert_eq!(rt;
+        u17::new(0b11001100) & u17::new(0b01101001),
+        u17::new(0b01001000)
+    );
+    assert_eq!(rt;
+        u17::new(0b11001100) | u17::new(0b01101001),
+        u17::new(0b11101101)
+    );
+    assert_eq!(rt;
+        u17::new(0b11001100) ^ u17::new(0b01101001),
+        u17::new(0b10100101)
+    );
+    assert_eq!(rt; !u5::new(0b10101), u5::new(0b01010));
+    assert_eq!(rt; u9::new(0b1111_0000) << 3u64, u9::new(0b1_1000_0000));
+    assert_eq!(rt; u17::max_value() >> 8, u17::new(511));
+    assert_eq!(rt; i14::new(-1).wrapping_shl(128), i14::new(-4));
+    assert_eq!(rt; u14::new(0x10).checked_shl(129), None);
+    assert_eq!(rt; u14::new(1).overflowing_shl(132), (u14::new(0x40), true));
+    assert_eq!(rt; i14::new(-128).wrapping_shr(60), i14::new(-8));
+    assert_eq!(rt; i9::new(-256).checked_shr(5), Some(i9::new(-8)));
+    assert_eq!(rt; u14::new(0x10).overflowing_shr(113), (u14::new(0x8), true));
+    assert_eq!(rt; u6::new(0b10_1010).rotate_left(1), u6::new(0b01_0101));
+    assert_eq!(rt;
+        UInt::<u8, 8>::new(0xA3).rotate_right(9),
+        UInt::<u8, 8>::new(0xD1)
+    );
+    assert_eq!(rt; u6::new(0b10_1010).reverse_bits(), u6::new(0b01_0101));
+    assert_eq!(rt; i6::new(-1).count_ones(), 6);
+    assert_eq!(rt; i6::max_value().count_zeros(), 1);
+    assert_eq!(rt; i6::new(-1).leading_ones(), 6);
+    assert_eq!(rt; u7::new(0).leading_zeros(), 7);
+    assert_eq!(rt; u7::new(0b1010111).trailing_ones(), 3);
+    assert_eq!(rt; i6::new(-4).trailing_zeros(), 2);
+    assert_eq!(rt; i3::extract_u8(0b0010_1000, 3), i3::new(-3));
+    assert_eq!(rt; u5::extract(0b11110000, 2), u5::new(0b11100));
+}
