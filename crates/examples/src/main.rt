@@ -2,6 +2,7 @@
 //! every width.
 #![tactic(auto)]
 
+mod first;
 mod generic;
 mod header;
 mod register;
@@ -11,6 +12,7 @@ mod steps;
 use std::io;
 
 fn main(rt: HostRuntime) -> io::Result<()> {
+    first::show(&rt)?;
     register::show(&rt)?;
     header::show(&rt)?;
     sensor::show(&rt)?;

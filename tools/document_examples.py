@@ -1,8 +1,8 @@
 #!/usr/bin/env python3
-"""call_examples.py [--write]
+"""document_examples.py [--write]
 
-Tells whether the examples in docs/CALLS.md are those that run as tests. With --write it writes the tests anew from the
-tables; run `rt fmt` in crates/arbitrary_int afterwards.
+Tells whether the examples in docs/CALLS.md are those that run as tests, and the README's those of crates/examples. With
+--write it writes the tests anew from the tables; run `rt fmt` in crates/arbitrary_int afterwards.
 """
 import re
 import sys
@@ -10,6 +10,7 @@ from pathlib import Path
 
 ROOT = Path(__file__).resolve().parent.parent
 TESTS = ROOT / 'crates/arbitrary_int/src/worked/calls.rt'
+FIRST = ROOT / 'crates/examples/src/first.rt'
 
 
 def tables():
@@ -44,13 +45,17 @@ def squeezed(text):
 
 
 def main():
+    wrong = []
     if '--write' in sys.argv[1:]:
         TESTS.write_text(tests())
     elif squeezed(TESTS.read_text()) != squeezed(tests()):
-        print(f'{TESTS}: not the examples of docs/CALLS.md; write them by tools/call_examples.py --write')
-        return 1
-    print('examples of the calls: as they should be')
-    return 0
+        wrong.append(f'{TESTS}: not the examples of docs/CALLS.md; write them by tools/document_examples.py --write')
+    for code in re.findall(r'```rust\n(.*?)```', (ROOT / 'README.md').read_text(), re.S):
+        functions = code.split('\n\n', 1)[1]
+        if functions not in FIRST.read_text():
+            wrong.append(f'{FIRST}: not the example of the README')
+    print('\n'.join(wrong) or 'examples of the documents: as they should be')
+    return 1 if wrong else 0
 
 
 if __name__ == '__main__':
