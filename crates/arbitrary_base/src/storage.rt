@@ -11,8 +11,11 @@ ghost use Rattle.arbitrary_base.specs.BitList.{bits, val, shl, shr, fill};
 use std::fmt::{Debug, Display};
 use std::hash::Hash;
 
-pub mod signed;
-pub mod unsigned;
+pub mod bits128;
+pub mod bits16;
+pub mod bits32;
+pub mod bits64;
+pub mod bits8;
 
 /// Closes the traits of this family: implement them for no other type.
 pub trait Sealed {}

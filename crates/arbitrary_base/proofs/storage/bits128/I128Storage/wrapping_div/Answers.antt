@@ -1,0 +1,12 @@
+use Rattle.std.proofs.Common.{◌∙◌, rules, to_z-of_z}
+use Rattle.std.specs.Prelude.{FitsSigned}
+use Rattle.std.specs.Int.{w128, int_wrapping_div}
+use Rattle.arbitrary_base.proofs.Quotient.{signed-wrapping_div}
+use Rattle.arbitrary_base.proofs.storage.bits128.I128Storage.wrapping_div.Goals as goal
+
+pub returns : goal.returns
+returns c =
+    let f : FitsSigned w128 c.wrapping_div.result = search rules in
+    to_z-of_z f ∙ c.wrapping_div.ensures
+    ∙ (λ i. int_wrapping_div w128 (to_z-of_z c.ranges.self i) (to_z-of_z c.ranges.other i))
+    ∙ signed-wrapping_div w128 c.args.self c.args.other c.ranges.self

@@ -1,0 +1,6 @@
+use Rattle.std.proofs.Common.{arith}
+use Rattle.arbitrary_base.proofs.Primitive.{unsigned-sub}
+use Rattle.arbitrary_base.proofs.storage.bits64.U64Storage.wrapping_sub.Goals as goal
+
+pub returns : goal.returns
+returns c = let f = c.ranges.other.fits in unsigned-sub 64 c.args.self c.args.other (omega arith) (omega arith)

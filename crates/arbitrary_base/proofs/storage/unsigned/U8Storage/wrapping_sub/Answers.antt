@@ -1,6 +1,0 @@
-use Rattle.std.proofs.Common.{arith}
-use Rattle.arbitrary_base.proofs.Primitive.{unsigned-sub}
-use Rattle.arbitrary_base.proofs.storage.unsigned.U8Storage.wrapping_sub.Goals as goal
-
-pub returns : goal.returns
-returns c = let f = c.ranges.other.fits in unsigned-sub 8 c.args.self c.args.other (omega arith) (omega arith)

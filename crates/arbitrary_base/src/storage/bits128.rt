@@ -1,0 +1,180 @@
+//! `u128` and `i128`.
+
+ghost use Rattle.std.specs.Prelude.{refl};
+
+use crate::storage::{
+    BuiltinInteger, PatternOf, Sealed, SignedOf, SignedStorage, Storage, UnsignedStorage,
+};
+
+impl Sealed for u128 {}
+
+impl UnsignedStorage for u128 {
+    ghost unsigned_law = { refl };
+}
+
+impl PatternOf<u128> for u128 {
+    ghost pattern_width_law = { refl };
+}
+
+impl PatternOf<i128> for u128 {
+    ghost pattern_width_law = { refl };
+}
+
+impl BuiltinInteger for u128 {
+    type Unsigned = u128;
+
+    type Signed = i128;
+}
+
+#[tactic(auto, using(crate::proofs::Primitive::unsigned_laws))]
+impl Storage for u128 {
+    ghost use Rattle.std.specs.Prelude.{ℕ, ℤ, false, pos, unsigned_abs, refl};
+    ghost use Rattle.std.proofs.Common.{lit≤};
+    ghost use Rattle.arbitrary_base.specs.Order.{nat_cmp-pos};
+
+    ghost WIDTH = { 128 };
+
+    ghost SIGNED = { false };
+
+    ghost number = { pos };
+
+    ghost of_number = { unsigned_abs };
+
+    ghost round_trip_law = { λ x. refl };
+
+    const WIDTH: usize = 128;
+
+    const SIGNED: bool = false;
+
+    fn pattern(self) -> u128 {
+        self
+    }
+
+    #[tactic(auto, using(crate::proofs::BitSign::unsigned_shifts))]
+    fn shl_by(self, n: usize) -> Self {
+        self << n
+    }
+
+    #[tactic(auto, using(crate::proofs::BitSign::unsigned_shifts))]
+    fn shr_by(self, n: usize) -> Self {
+        self >> n
+    }
+
+    fn from_pattern(pattern: u128) -> Self {
+        pattern
+    }
+
+    fn wrapping_add(self, other: Self) -> Self {
+        self.wrapping_add(other)
+    }
+
+    fn wrapping_sub(self, other: Self) -> Self {
+        self.wrapping_sub(other)
+    }
+
+    fn wrapping_mul(self, other: Self) -> Self {
+        self.wrapping_mul(other)
+    }
+
+    fn wrapping_div(self, other: Self) -> Self {
+        self.wrapping_div(other)
+    }
+
+    fn checked_mul(self, other: Self) -> Option<Self> {
+        self.checked_mul(other)
+    }
+
+    ghost width_law = { (lit≤ tt, lit≤ tt) };
+
+    ghost one_law = { lit≤ tt };
+
+    ghost order_law = { nat_cmp-pos };
+
+    ghost display_law = { λ x. refl };
+}
+
+impl Sealed for i128 {}
+
+impl SignedStorage for i128 {
+    ghost signed_law = { refl };
+}
+
+impl SignedOf<i128> for i128 {
+    ghost signed_width_law = { refl };
+}
+
+impl SignedOf<u128> for i128 {
+    ghost signed_width_law = { refl };
+}
+
+impl BuiltinInteger for i128 {
+    type Unsigned = u128;
+
+    type Signed = i128;
+}
+
+#[tactic(auto, using(crate::proofs::Primitive::signed_laws))]
+impl Storage for i128 {
+    ghost use Rattle.std.specs.Prelude.{ℕ, ℤ, true, refl};
+    ghost use Rattle.std.proofs.Common.{lit≤};
+
+    ghost WIDTH = { 128 };
+
+    ghost SIGNED = { true };
+
+    ghost number = { λ x. x };
+
+    ghost of_number = { λ x. x };
+
+    ghost round_trip_law = { λ x. refl };
+
+    const WIDTH: usize = 128;
+
+    const SIGNED: bool = true;
+
+    fn pattern(self) -> u128 {
+        self.cast_unsigned()
+    }
+
+    #[tactic(auto, using(crate::proofs::BitSign::signed_shifts))]
+    fn shl_by(self, n: usize) -> Self {
+        self << n
+    }
+
+    #[tactic(auto, using(crate::proofs::BitSign::signed_shifts))]
+    fn shr_by(self, n: usize) -> Self {
+        self >> n
+    }
+
+    fn from_pattern(pattern: u128) -> Self {
+        pattern.cast_signed()
+    }
+
+    fn wrapping_add(self, other: Self) -> Self {
+        self.wrapping_add(other)
+    }
+
+    fn wrapping_sub(self, other: Self) -> Self {
+        self.wrapping_sub(other)
+    }
+
+    fn wrapping_mul(self, other: Self) -> Self {
+        self.wrapping_mul(other)
+    }
+
+    fn wrapping_div(self, other: Self) -> Self {
+        self.wrapping_div(other)
+    }
+
+    fn checked_mul(self, other: Self) -> Option<Self> {
+        self.checked_mul(other)
+    }
+
+    ghost width_law = { (lit≤ tt, lit≤ tt) };
+
+    ghost one_law = { lit≤ tt };
+
+    ghost order_law = { λ a b. refl };
+
+    ghost display_law = { λ x. refl };
+}

@@ -1,0 +1,180 @@
+//! `u16` and `i16`.
+
+ghost use Rattle.std.specs.Prelude.{refl};
+
+use crate::storage::{
+    BuiltinInteger, PatternOf, Sealed, SignedOf, SignedStorage, Storage, UnsignedStorage,
+};
+
+impl Sealed for u16 {}
+
+impl UnsignedStorage for u16 {
+    ghost unsigned_law = { refl };
+}
+
+impl PatternOf<u16> for u16 {
+    ghost pattern_width_law = { refl };
+}
+
+impl PatternOf<i16> for u16 {
+    ghost pattern_width_law = { refl };
+}
+
+impl BuiltinInteger for u16 {
+    type Unsigned = u16;
+
+    type Signed = i16;
+}
+
+#[tactic(auto, using(crate::proofs::Primitive::unsigned_laws))]
+impl Storage for u16 {
+    ghost use Rattle.std.specs.Prelude.{ℕ, ℤ, false, pos, unsigned_abs, refl};
+    ghost use Rattle.std.proofs.Common.{lit≤};
+    ghost use Rattle.arbitrary_base.specs.Order.{nat_cmp-pos};
+
+    ghost WIDTH = { 16 };
+
+    ghost SIGNED = { false };
+
+    ghost number = { pos };
+
+    ghost of_number = { unsigned_abs };
+
+    ghost round_trip_law = { λ x. refl };
+
+    const WIDTH: usize = 16;
+
+    const SIGNED: bool = false;
+
+    fn pattern(self) -> u128 {
+        self as u128
+    }
+
+    #[tactic(auto, using(crate::proofs::BitSign::unsigned_shifts))]
+    fn shl_by(self, n: usize) -> Self {
+        self << n
+    }
+
+    #[tactic(auto, using(crate::proofs::BitSign::unsigned_shifts))]
+    fn shr_by(self, n: usize) -> Self {
+        self >> n
+    }
+
+    fn from_pattern(pattern: u128) -> Self {
+        (pattern % (1 << 16)) as u16
+    }
+
+    fn wrapping_add(self, other: Self) -> Self {
+        self.wrapping_add(other)
+    }
+
+    fn wrapping_sub(self, other: Self) -> Self {
+        self.wrapping_sub(other)
+    }
+
+    fn wrapping_mul(self, other: Self) -> Self {
+        self.wrapping_mul(other)
+    }
+
+    fn wrapping_div(self, other: Self) -> Self {
+        self.wrapping_div(other)
+    }
+
+    fn checked_mul(self, other: Self) -> Option<Self> {
+        self.checked_mul(other)
+    }
+
+    ghost width_law = { (lit≤ tt, lit≤ tt) };
+
+    ghost one_law = { lit≤ tt };
+
+    ghost order_law = { nat_cmp-pos };
+
+    ghost display_law = { λ x. refl };
+}
+
+impl Sealed for i16 {}
+
+impl SignedStorage for i16 {
+    ghost signed_law = { refl };
+}
+
+impl SignedOf<i16> for i16 {
+    ghost signed_width_law = { refl };
+}
+
+impl SignedOf<u16> for i16 {
+    ghost signed_width_law = { refl };
+}
+
+impl BuiltinInteger for i16 {
+    type Unsigned = u16;
+
+    type Signed = i16;
+}
+
+#[tactic(auto, using(crate::proofs::Primitive::signed_laws))]
+impl Storage for i16 {
+    ghost use Rattle.std.specs.Prelude.{ℕ, ℤ, true, refl};
+    ghost use Rattle.std.proofs.Common.{lit≤};
+
+    ghost WIDTH = { 16 };
+
+    ghost SIGNED = { true };
+
+    ghost number = { λ x. x };
+
+    ghost of_number = { λ x. x };
+
+    ghost round_trip_law = { λ x. refl };
+
+    const WIDTH: usize = 16;
+
+    const SIGNED: bool = true;
+
+    fn pattern(self) -> u128 {
+        self.cast_unsigned() as u128
+    }
+
+    #[tactic(auto, using(crate::proofs::BitSign::signed_shifts))]
+    fn shl_by(self, n: usize) -> Self {
+        self << n
+    }
+
+    #[tactic(auto, using(crate::proofs::BitSign::signed_shifts))]
+    fn shr_by(self, n: usize) -> Self {
+        self >> n
+    }
+
+    fn from_pattern(pattern: u128) -> Self {
+        ((pattern % (1 << 16)) as u16).cast_signed()
+    }
+
+    fn wrapping_add(self, other: Self) -> Self {
+        self.wrapping_add(other)
+    }
+
+    fn wrapping_sub(self, other: Self) -> Self {
+        self.wrapping_sub(other)
+    }
+
+    fn wrapping_mul(self, other: Self) -> Self {
+        self.wrapping_mul(other)
+    }
+
+    fn wrapping_div(self, other: Self) -> Self {
+        self.wrapping_div(other)
+    }
+
+    fn checked_mul(self, other: Self) -> Option<Self> {
+        self.checked_mul(other)
+    }
+
+    ghost width_law = { (lit≤ tt, lit≤ tt) };
+
+    ghost one_law = { lit≤ tt };
+
+    ghost order_law = { λ a b. refl };
+
+    ghost display_law = { λ x. refl };
+}

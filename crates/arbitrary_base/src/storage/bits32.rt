@@ -1,0 +1,180 @@
+//! `u32` and `i32`.
+
+ghost use Rattle.std.specs.Prelude.{refl};
+
+use crate::storage::{
+    BuiltinInteger, PatternOf, Sealed, SignedOf, SignedStorage, Storage, UnsignedStorage,
+};
+
+impl Sealed for u32 {}
+
+impl UnsignedStorage for u32 {
+    ghost unsigned_law = { refl };
+}
+
+impl PatternOf<u32> for u32 {
+    ghost pattern_width_law = { refl };
+}
+
+impl PatternOf<i32> for u32 {
+    ghost pattern_width_law = { refl };
+}
+
+impl BuiltinInteger for u32 {
+    type Unsigned = u32;
+
+    type Signed = i32;
+}
+
+#[tactic(auto, using(crate::proofs::Primitive::unsigned_laws))]
+impl Storage for u32 {
+    ghost use Rattle.std.specs.Prelude.{ℕ, ℤ, false, pos, unsigned_abs, refl};
+    ghost use Rattle.std.proofs.Common.{lit≤};
+    ghost use Rattle.arbitrary_base.specs.Order.{nat_cmp-pos};
+
+    ghost WIDTH = { 32 };
+
+    ghost SIGNED = { false };
+
+    ghost number = { pos };
+
+    ghost of_number = { unsigned_abs };
+
+    ghost round_trip_law = { λ x. refl };
+
+    const WIDTH: usize = 32;
+
+    const SIGNED: bool = false;
+
+    fn pattern(self) -> u128 {
+        self as u128
+    }
+
+    #[tactic(auto, using(crate::proofs::BitSign::unsigned_shifts))]
+    fn shl_by(self, n: usize) -> Self {
+        self << n
+    }
+
+    #[tactic(auto, using(crate::proofs::BitSign::unsigned_shifts))]
+    fn shr_by(self, n: usize) -> Self {
+        self >> n
+    }
+
+    fn from_pattern(pattern: u128) -> Self {
+        (pattern % (1 << 32)) as u32
+    }
+
+    fn wrapping_add(self, other: Self) -> Self {
+        self.wrapping_add(other)
+    }
+
+    fn wrapping_sub(self, other: Self) -> Self {
+        self.wrapping_sub(other)
+    }
+
+    fn wrapping_mul(self, other: Self) -> Self {
+        self.wrapping_mul(other)
+    }
+
+    fn wrapping_div(self, other: Self) -> Self {
+        self.wrapping_div(other)
+    }
+
+    fn checked_mul(self, other: Self) -> Option<Self> {
+        self.checked_mul(other)
+    }
+
+    ghost width_law = { (lit≤ tt, lit≤ tt) };
+
+    ghost one_law = { lit≤ tt };
+
+    ghost order_law = { nat_cmp-pos };
+
+    ghost display_law = { λ x. refl };
+}
+
+impl Sealed for i32 {}
+
+impl SignedStorage for i32 {
+    ghost signed_law = { refl };
+}
+
+impl SignedOf<i32> for i32 {
+    ghost signed_width_law = { refl };
+}
+
+impl SignedOf<u32> for i32 {
+    ghost signed_width_law = { refl };
+}
+
+impl BuiltinInteger for i32 {
+    type Unsigned = u32;
+
+    type Signed = i32;
+}
+
+#[tactic(auto, using(crate::proofs::Primitive::signed_laws))]
+impl Storage for i32 {
+    ghost use Rattle.std.specs.Prelude.{ℕ, ℤ, true, refl};
+    ghost use Rattle.std.proofs.Common.{lit≤};
+
+    ghost WIDTH = { 32 };
+
+    ghost SIGNED = { true };
+
+    ghost number = { λ x. x };
+
+    ghost of_number = { λ x. x };
+
+    ghost round_trip_law = { λ x. refl };
+
+    const WIDTH: usize = 32;
+
+    const SIGNED: bool = true;
+
+    fn pattern(self) -> u128 {
+        self.cast_unsigned() as u128
+    }
+
+    #[tactic(auto, using(crate::proofs::BitSign::signed_shifts))]
+    fn shl_by(self, n: usize) -> Self {
+        self << n
+    }
+
+    #[tactic(auto, using(crate::proofs::BitSign::signed_shifts))]
+    fn shr_by(self, n: usize) -> Self {
+        self >> n
+    }
+
+    fn from_pattern(pattern: u128) -> Self {
+        ((pattern % (1 << 32)) as u32).cast_signed()
+    }
+
+    fn wrapping_add(self, other: Self) -> Self {
+        self.wrapping_add(other)
+    }
+
+    fn wrapping_sub(self, other: Self) -> Self {
+        self.wrapping_sub(other)
+    }
+
+    fn wrapping_mul(self, other: Self) -> Self {
+        self.wrapping_mul(other)
+    }
+
+    fn wrapping_div(self, other: Self) -> Self {
+        self.wrapping_div(other)
+    }
+
+    fn checked_mul(self, other: Self) -> Option<Self> {
+        self.checked_mul(other)
+    }
+
+    ghost width_law = { (lit≤ tt, lit≤ tt) };
+
+    ghost one_law = { lit≤ tt };
+
+    ghost order_law = { λ a b. refl };
+
+    ghost display_law = { λ x. refl };
+}
