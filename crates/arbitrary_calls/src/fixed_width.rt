@@ -330,8 +330,7 @@ pub trait FixedWidth: Integer {
         counts::trailing_zeros(self.kept(), Self::BITS)
     }
 
-    /// The value whose bits are the `BITS` bits of `value` from place `start_bit` on. All of them must
-    /// be among its 8 bits. The width is valid.
+    /// The value of the `BITS` bits of `value` from place `start_bit` on, all among its 8. The width is valid.
     final fn extract_u8(value: u8, start_bit: usize) -> Self
         requires width { Self.valid }
         requires within { start_bit + Self.BITS ≤ 8 }
@@ -340,8 +339,7 @@ pub trait FixedWidth: Integer {
         Self::from_kept(extraction::extract(value, start_bit, Self::BITS))
     }
 
-    /// The value whose bits are the `BITS` bits of `value` from place `start_bit` on. All of them must
-    /// be among its 16 bits. The width is valid.
+    /// The value of the `BITS` bits of `value` from place `start_bit` on, all among its 16. The width is valid.
     final fn extract_u16(value: u16, start_bit: usize) -> Self
         requires width { Self.valid }
         requires within { start_bit + Self.BITS ≤ 16 }
@@ -350,8 +348,7 @@ pub trait FixedWidth: Integer {
         Self::from_kept(extraction::extract(value, start_bit, Self::BITS))
     }
 
-    /// The value whose bits are the `BITS` bits of `value` from place `start_bit` on. All of them must
-    /// be among its 32 bits. The width is valid.
+    /// The value of the `BITS` bits of `value` from place `start_bit` on, all among its 32. The width is valid.
     final fn extract_u32(value: u32, start_bit: usize) -> Self
         requires width { Self.valid }
         requires within { start_bit + Self.BITS ≤ 32 }
@@ -360,8 +357,7 @@ pub trait FixedWidth: Integer {
         Self::from_kept(extraction::extract(value, start_bit, Self::BITS))
     }
 
-    /// The value whose bits are the `BITS` bits of `value` from place `start_bit` on. All of them must
-    /// be among its 64 bits. The width is valid.
+    /// The value of the `BITS` bits of `value` from place `start_bit` on, all among its 64. The width is valid.
     final fn extract_u64(value: u64, start_bit: usize) -> Self
         requires width { Self.valid }
         requires within { start_bit + Self.BITS ≤ 64 }
@@ -370,8 +366,7 @@ pub trait FixedWidth: Integer {
         Self::from_kept(extraction::extract(value, start_bit, Self::BITS))
     }
 
-    /// The value whose bits are the `BITS` bits of `value` from place `start_bit` on. All of them must
-    /// be among its 128 bits. The width is valid.
+    /// The value of the `BITS` bits of `value` from place `start_bit` on, all among its 128. The width is valid.
     final fn extract_u128(value: u128, start_bit: usize) -> Self
         requires width { Self.valid }
         requires within { start_bit + Self.BITS ≤ 128 }
@@ -380,8 +375,7 @@ pub trait FixedWidth: Integer {
         Self::from_kept(extraction::extract(value, start_bit, Self::BITS))
     }
 
-    /// The value whose bits are the `BITS` bits of `value` from place `start_bit` on. All of them must
-    /// be among its 8 bits. The width is valid.
+    /// The value of the `BITS` bits of `value` from place `start_bit` on, all among its 8. The width is valid.
     final fn extract_i8(value: i8, start_bit: usize) -> Self
         requires width { Self.valid }
         requires within { start_bit + Self.BITS ≤ 8 }
@@ -390,8 +384,7 @@ pub trait FixedWidth: Integer {
         Self::from_kept(extraction::extract(value, start_bit, Self::BITS))
     }
 
-    /// The value whose bits are the `BITS` bits of `value` from place `start_bit` on. All of them must
-    /// be among its 16 bits. The width is valid.
+    /// The value of the `BITS` bits of `value` from place `start_bit` on, all among its 16. The width is valid.
     final fn extract_i16(value: i16, start_bit: usize) -> Self
         requires width { Self.valid }
         requires within { start_bit + Self.BITS ≤ 16 }
@@ -400,8 +393,7 @@ pub trait FixedWidth: Integer {
         Self::from_kept(extraction::extract(value, start_bit, Self::BITS))
     }
 
-    /// The value whose bits are the `BITS` bits of `value` from place `start_bit` on. All of them must
-    /// be among its 32 bits. The width is valid.
+    /// The value of the `BITS` bits of `value` from place `start_bit` on, all among its 32. The width is valid.
     final fn extract_i32(value: i32, start_bit: usize) -> Self
         requires width { Self.valid }
         requires within { start_bit + Self.BITS ≤ 32 }
@@ -410,8 +402,7 @@ pub trait FixedWidth: Integer {
         Self::from_kept(extraction::extract(value, start_bit, Self::BITS))
     }
 
-    /// The value whose bits are the `BITS` bits of `value` from place `start_bit` on. All of them must
-    /// be among its 64 bits. The width is valid.
+    /// The value of the `BITS` bits of `value` from place `start_bit` on, all among its 64. The width is valid.
     final fn extract_i64(value: i64, start_bit: usize) -> Self
         requires width { Self.valid }
         requires within { start_bit + Self.BITS ≤ 64 }
@@ -420,8 +411,7 @@ pub trait FixedWidth: Integer {
         Self::from_kept(extraction::extract(value, start_bit, Self::BITS))
     }
 
-    /// The value whose bits are the `BITS` bits of `value` from place `start_bit` on. All of them must
-    /// be among its 128 bits. The width is valid.
+    /// The value of the `BITS` bits of `value` from place `start_bit` on, all among its 128. The width is valid.
     final fn extract_i128(value: i128, start_bit: usize) -> Self
         requires width { Self.valid }
         requires within { start_bit + Self.BITS ≤ 128 }
