@@ -1,21 +1,9 @@
-//! Bitwise operators, shifts, rotations, counts and extraction.
+//! Shifts, rotations, counts and extraction.
 
 use crate::prelude::*;
 
 #[test]
-fn bitwise_operators(rt: HostRuntime) {
-    let a = u17::new(0b11001100);
-    let b = u17::new(0b01101001);
-    assert_eq!(rt; (a & b).value(), 0b01001000);
-    assert_eq!(rt; (a | b).value(), 0b11101101);
-    assert_eq!(rt; (a ^ b).value(), 0b10100101);
-    assert_eq!(rt; (!u5::new(0b10101)).value(), 0b01010);
-}
-
-#[test]
 fn shift_operators(rt: HostRuntime) {
-    assert_eq!(rt; (u9::new(0b1111_0000) << 3u64).value(), 0b1_1000_0000);
-    assert_eq!(rt; (u17::max_value() >> 8).value(), 511);
     assert_eq!(rt;
         i17::from_bits(0b1_00000000_00000000) >> 8,
         i17::from_bits(0b1_11111111_00000000)
@@ -27,38 +15,30 @@ fn shift_operators(rt: HostRuntime) {
 
 #[test]
 fn shifts_by_the_amount_modulo_the_width(rt: HostRuntime) {
-    assert_eq!(rt; i14::new(-1).wrapping_shl(128).value(), -4);
     assert_eq!(rt; u14::new(128).wrapping_shr(128).value(), 32);
-    assert_eq!(rt; i14::new(-128).wrapping_shr(60).value(), -8);
     assert_eq!(rt; u14::new(1).wrapping_shl(u32::MAX).value(), 8);
     assert_eq!(rt; i1::new(-1).wrapping_shl(5).value(), -1);
 }
 
 #[test]
 fn shifts_that_tell_of_an_amount_of_the_width_or_more(rt: HostRuntime) {
-    assert_eq!(rt; u14::new(1).overflowing_shl(132), (u14::new(0x40), true));
     assert_eq!(rt;
         u14::max_value().overflowing_shl(1),
         (u14::new(0x3FFE), false)
     );
     assert_eq!(rt; u14::new(1).overflowing_shl(u32::MAX), (u14::new(8), true));
     assert_eq!(rt; i14::new(0x1).overflowing_shl(15), (i14::new(0x2), true));
-    assert_eq!(rt; u14::new(0x10).overflowing_shr(113), (u14::new(0x8), true));
     assert_eq!(rt; u14::new(0x10).checked_shl(13), Some(u14::new(0)));
-    assert_eq!(rt; u14::new(0x10).checked_shl(129), None);
     assert_eq!(rt; u14::new(1).checked_shl(u32::MAX), None);
     assert_eq!(rt; i1::new(-1).checked_shl(1), None);
 }
 
 #[test]
-fn rotations_and_reversal(rt: HostRuntime) {
+fn rotations_at_full_width(rt: HostRuntime) {
     let octet = UInt::<u8, 8>::new(0xA3);
     for (amount, turned) in [(0, 0xA3), (8, 0xA3), (4, 0x3A)] {
         assert_eq!(rt; octet.rotate_left(amount).value(), turned, "by {amount}");
     }
-    assert_eq!(rt; octet.rotate_right(9).value(), 0xD1);
-    assert_eq!(rt; u6::new(0b10_1010).rotate_left(1).value(), 0b01_0101);
-    assert_eq!(rt; u6::new(0b10_1010).reverse_bits().value(), 0b01_0101);
     assert_eq!(rt;
         UInt::<u128, 128>::new(1).rotate_left(u32::MAX).value(),
         1 << 127
@@ -67,19 +47,8 @@ fn rotations_and_reversal(rt: HostRuntime) {
 
 #[test]
 fn counts(rt: HostRuntime) {
-    assert_eq!(rt;
-        (i6::new(-1).leading_ones(), i6::new(-1).leading_zeros()),
-        (6, 0)
-    );
-    assert_eq!(rt;
-        (i6::max_value().count_zeros(), i6::new(-4).trailing_zeros()),
-        (1, 2)
-    );
-    assert_eq!(rt;
-        (u7::new(0).leading_zeros(), u7::new(0).trailing_zeros()),
-        (7, 7)
-    );
-    assert_eq!(rt; u7::new(0b1010111).trailing_ones(), 3);
+    assert_eq!(rt; i6::new(-1).leading_zeros(), 0);
+    assert_eq!(rt; u7::new(0).trailing_zeros(), 7);
     assert_eq!(rt; i1::new(-1).count_zeros(), 0);
     let least = Int::<i128, 128>::min_value();
     assert_eq!(rt; (least.trailing_zeros(), least.leading_ones()), (127, 1));
@@ -87,7 +56,6 @@ fn counts(rt: HostRuntime) {
 
 #[test]
 fn extraction(rt: HostRuntime) {
-    assert_eq!(rt; u5::extract(0b11110000, 2).value(), 0b11100);
     assert_eq!(rt; u5::extract_u32(0xF2F6_0000, 22).value(), 0b01011);
     assert_eq!(rt; u6::extract_u32(0b1010100000, 4).value(), 0b101010);
     assert_eq!(rt; u5::extract_u16(0b11110000_11110110, 6).value(), 0b00011);
@@ -95,6 +63,5 @@ fn extraction(rt: HostRuntime) {
     assert_eq!(rt; u1::extract_u128(1 << 127, 127).value(), 1);
     assert_eq!(rt; i5::extract_u32(0b0011_1010, 1).value(), -3);
     assert_eq!(rt; i5::extract_u64(0b0011_1110, 1).value(), -1);
-    assert_eq!(rt; i3::extract_u8(0b0010_1000, 3).value(), -3);
     assert_eq!(rt; i1::extract_u8(1, 0).value(), -1);
 }

@@ -8,9 +8,11 @@ fn making_a_value_and_reading_it(rt: HostRuntime) {
     assert_eq!(rt; u14::max_value(), u14::new(16383));
     assert_eq!(rt; i7::zero(), i7::new(0));
     assert_eq!(rt; u7::BITS, 7);
+    assert_eq!(rt; i7::IS_SIGNED, true);
     assert_eq!(rt; UInt::<u8, 9>::is_valid_width(), false);
     assert_eq!(rt; u7::mask(), 0x7F);
     assert_eq!(rt; u7::new(100).value(), 100);
+    assert_eq!(rt; u7::new_unchecked(100), u7::new(100));
     assert_eq!(rt; u7::try_new(128), Err(TryNewError));
     assert_eq!(rt; u14::from_u16(300), u14::new(300));
     assert_eq!(rt; i7::new(-3).value(), -3);
@@ -18,12 +20,19 @@ fn making_a_value_and_reading_it(rt: HostRuntime) {
     assert_eq!(rt; u5::masked_new(i4::new(-1)), u5::new(31));
     assert_eq!(rt; u14::new(200).as_::<i7>(), i7::new(-56));
     assert_eq!(rt; i7::new(-1).as_u8(), 255);
+    assert_eq!(rt; i4::new(-1).to_unsigned(), u4::new(15));
+    assert_eq!(rt; i4::from_unsigned(u4::new(15)), i4::new(-1));
+    assert_eq!(rt; i7::new(-1).extended(), u128::MAX);
+    assert_eq!(rt; u7::from_extended(300), u7::new(44));
     assert_eq!(rt; u5::new(0b11011).widen::<6>(), u6::new(0b11011));
     assert_eq!(rt; i3::new(-1).to_bits(), 0b111);
     assert_eq!(rt; i3::from_bits(0b111), i3::new(-1));
+    assert_eq!(rt; i3::from_bits_unchecked(0b111), i3::new(-1));
     assert_eq!(rt; i3::try_from_bits(0b1111), Err(TryNewError));
     assert_eq!(rt; i7::new(0).is_positive(), false);
     assert_eq!(rt; i7::new(-1).is_negative(), true);
+    assert_eq!(rt; u7::new(3) == u7::new(3), true);
+    assert_eq!(rt; i7::new(-1) < i7::new(0), true);
 }
 
 #[test]

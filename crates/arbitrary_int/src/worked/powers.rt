@@ -18,7 +18,6 @@ fn powers_end_at_the_range(rt: HostRuntime) {
             "to {exponent}"
         );
     }
-    assert_eq!(rt; i14::new(-4).saturating_pow(3).value(), -64);
 }
 
 #[test]
