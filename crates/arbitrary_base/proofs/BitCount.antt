@@ -1,38 +1,41 @@
 -- Counts of bit lists, against std's counts of a number's digits.
 use Rattle.std.proofs.Common.{◌≡◌, ℕ, zero, suc, ◌+◌, ◌*◌, ◌^◌, ◌<◌, ◌≤◌, min, Bool, true, false, not, List, [], ◌∷◌, ◌++◌, reverse, length, refl, sym, ap, ◌∙◌, subst, arith, lt_of_lt_of_le}
 use Rattle.std.proofs.lemmas.List.{length-reverse, reverse-reverse, map-append}
+use Rattle.std.proofs.lemmas.List.Sums.{sum_by-cons, prefix_len-le-length}
 use Rattle.std.proofs.Math.Pow.{pow_mono}
 use Rattle.std.proofs.Math.Nat.{pow-suc}
 use Rattle.std.specs.Int.Count.{ones as set_digits, ones_step, count_leading_zeros, count_trailing_zeros, leading_of_zero, leading_length, leading_unique}
-use Rattle.arbitrary_base.specs.BitList.{digit, num, bits_not, ones, front, tail}
+use Rattle.arbitrary_base.specs.BitList.{digit, num, differs, bits_not, ones, front, tail}
 use Rattle.arbitrary_base.proofs.BitNumber.{num-lt_of, num-append, cons-mod, cons-div}
 use Rattle.arbitrary_base.proofs.BitShift.{reverse-cons}
+
+ones-cons : (b : Bool) (l : List Bool) → ones (b ∷ l) ≡ digit b + ones l
+ones-cons b l = sum_by-cons digit b l
 
 pub ones-num : (l : List Bool) → set_digits (num l) ≡ ones l
 unfolding set_digits
 ones-num [] = refl
-ones-num (b ∷ l) = ones_step (num (b ∷ l)) ∙ rw (cons-mod b (num l), cons-div b (num l), ones-num l) refl
+ones-num (b ∷ l) = ones_step (num (b ∷ l)) ∙ rw (cons-mod b (num l), cons-div b (num l), ones-num l) (sym (ones-cons b l))
 
 pub ones-not : (l : List Bool) → ones l + ones (bits_not l) ≡ length l
 ones-not [] = refl
-ones-not (true ∷ l) = omega (arith, ones-not l)
-ones-not (false ∷ l) = omega (arith, ones-not l)
-
-pub front-le : (b : Bool) (l : List Bool) → front b l ≤ length l
-front-le b [] = omega arith
-front-le true (true ∷ l) = omega (arith, front-le true l)
-front-le true (false ∷ l) = omega arith
-front-le false (false ∷ l) = omega (arith, front-le false l)
-front-le false (true ∷ l) = omega arith
+ones-not (b ∷ l) =
+    let turned : ones (bits_not (b ∷ l)) ≡ digit (not b) + ones (bits_not l) = ones-cons (not b) (bits_not l) in
+    let one : digit b + digit (not b) ≡ 1 = one-of b in
+    omega (arith, ones-cons b l, turned, one, ones-not l)
+  where
+    one-of : (b : Bool) → digit b + digit (not b) ≡ 1
+    one-of true = refl
+    one-of false = refl
 
 pub tail-le : (b : Bool) (l : List Bool) → tail b l ≤ length l
-tail-le b l = omega (arith, front-le b (reverse l), length-reverse l)
+tail-le b l = omega (arith, prefix_len-le-length (λ a. not (differs a b)) (reverse l), length-reverse l)
 
 -- ---- ones, by the zeros of what is turned over
 
 pub front-not : (l : List Bool) → front true l ≡ front false (bits_not l)
 front-not [] = refl
-front-not (true ∷ l) = ap suc (front-not l)
+front-not (true ∷ l) = ap (λ (n : ℕ). 1 + n) (front-not l)
 front-not (false ∷ l) = refl
 
 reverse-not : (l : List Bool) → reverse (bits_not l) ≡ bits_not (reverse l)
@@ -49,7 +52,7 @@ pub trailing-num : (l : List Bool) → count_trailing_zeros (length l) (num l) �
 unfolding count_trailing_zeros
 trailing-num [] = refl
 trailing-num (true ∷ l) = rw (cons-mod true (num l)) refl
-trailing-num (false ∷ l) = rw (cons-mod false (num l), cons-div false (num l), trailing-num l) refl
+trailing-num (false ∷ l) = rw (cons-mod false (num l), cons-div false (num l), trailing-num l) (omega arith)
 
 -- a run that the list bounds
 pub front-append : (l m : List Bool) → min (front false (l ++ m)) (length l) ≡ front false l
@@ -80,7 +83,7 @@ leading-reverse (true ∷ r) =
     leading-none (length r) (num (reverse (true ∷ r))) (omega (arith, num-reverse_cons true r)) (num-reverse_lt (true ∷ r))
 leading-reverse (false ∷ r) =
     ap (count_leading_zeros (suc (length r))) (let e : num (reverse (false ∷ r)) ≡ num (reverse r) = omega (arith, num-reverse_cons false r) in e)
-    ∙ leading-more (length r) (num (reverse r)) (num-reverse_lt r) ∙ ap suc (leading-reverse r)
+    ∙ leading-more (length r) (num (reverse r)) (num-reverse_lt r) ∙ ap suc (leading-reverse r) ∙ omega arith
 
 pub leading-num : (l : List Bool) → count_leading_zeros (length l) (num l) ≡ tail false l
 leading-num l =

@@ -4,6 +4,7 @@ use Rattle.std.specs.Ordering.{int_eq}
 use Rattle.std.proofs.Common.{arith, refl, ap, sym, ◌∙◌}
 use Rattle.std.proofs.lemmas.Int.{ints}
 use Rattle.std.proofs.lemmas.List.{reverse-reverse}
+use Rattle.std.proofs.lemmas.List.Sums.{prefix_len-le-length}
 use Rattle.std.proofs.Math.IntN.{*ℤ_comm}
 use Rattle.arbitrary_base.specs.Range.{InRange}
 use Rattle.arbitrary_base.specs.Residue.{Congruent, wrap}
@@ -12,7 +13,7 @@ use Rattle.arbitrary_base.proofs.Ring.{add-mul_z, mul_assoc_z}
 use Rattle.arbitrary_base.proofs.Congruence.{Congruent-refl, Congruent-add, Congruent-mul}
 use Rattle.arbitrary_base.proofs.Wrap.{wrap-of_in_range, wrap-in_range, wrap-congruent, wrap-unique, wrap-same}
 use Rattle.arbitrary_base.proofs.BitShift.{rotr-rotl, items-items}
-use Rattle.arbitrary_base.proofs.BitCount.{ones-not, front-le, tail-le}
+use Rattle.arbitrary_base.proofs.BitCount.{ones-not, tail-le}
 use Rattle.arbitrary_base.proofs.BitValue.{val-bits_in_range, bits-val}
 
 pub is-wrap : (s : Bool) (B : ℕ) (x y : ℤ) → 1 ≤ B → InRange s B y → Congruent B y x → y ≡ wrap s B x
@@ -83,4 +84,4 @@ checked-quotient_tells s B x y checked w overflow h e f = by_divisor (int_eq y (
 
 pub ruleset checked_rules = (checked-tells, checked-quotient_tells)
 
-pub ruleset bit_list_rules = (val-bits_in_range, bits-val, rotr-rotl, reverse-reverse, ones-not, front-le, tail-le, items-items)
+pub ruleset bit_list_rules = (val-bits_in_range, bits-val, rotr-rotl, reverse-reverse, ones-not, prefix_len-le-length, tail-le, items-items)

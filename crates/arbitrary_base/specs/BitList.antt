@@ -1,5 +1,6 @@
 -- Numbers as lists of bits, the lowest bit first.
 use Rattle.std.specs.Prelude.{ℕ, zero, suc, ◌+◌, ◌-◌, ◌*◌, ◌/◌, ◌%◌, Bool, true, false, not, ◌&&◌, ◌||◌, ◌==◌, if◌then◌else◌, List, [], ◌∷◌, ◌++◌, map, reverse, length, take, drop, replicate, ℤ, pos, negsuc}
+use Rattle.std.specs.List.{count_by, prefix_len}
 use Rattle.arbitrary_base.specs.Residue.{wrap}
 
 abbrev pub is_odd : ℤ → Bool
@@ -17,8 +18,7 @@ bits zero x = []
 bits (suc k) x = is_odd x ∷ bits k (half x)
 
 abbrev pub digit : Bool → ℕ
-digit false = 0
-digit true = 1
+digit b = if b then 1 else 0
 
 -- the number from 0 up that has these bits
 abbrev pub num : List Bool → ℕ
@@ -85,13 +85,11 @@ rotr l k = drop k l ++ take k l
 
 -- how many items are one
 abbrev pub ones : List Bool → ℕ
-ones [] = 0
-ones (b ∷ l) = digit b + ones l
+ones l = count_by (λ b. b) l
 
 -- the length of the longest run of b at the front
 abbrev pub front : Bool → List Bool → ℕ
-front b [] = 0
-front b (a ∷ l) = if differs a b then 0 else suc (front b l)
+front b l = prefix_len (λ a. not (differs a b)) l
 
 -- and at the end
 abbrev pub tail : Bool → List Bool → ℕ

@@ -21,8 +21,8 @@ pub fn run_tested<R: FixedWidth>(steps: &[Step], registers: &mut [R]) -> Option<
     }
 }
 
-/// Runs the steps on registers of two types. Where these have one sign and one width, and the registers the
-/// same numbers, both runs leave the same numbers and end alike, whatever primitives keep them.
+/// Runs the steps on registers of two types of one sign and one width, which have the same numbers. Both runs
+/// leave the same numbers and end alike, whatever primitives keep them.
 pub fn run_in_both<A: FixedWidth, B: FixedWidth>(
     steps: &[Step],
     left: &mut [A],
@@ -32,8 +32,10 @@ pub fn run_in_both<A: FixedWidth, B: FixedWidth>(
     requires sign { A.IS_SIGNED ≡ B.IS_SIGNED }
     requires width { A.BITS ≡ B.BITS }
     requires alike { map A.number left.old ≡ map B.number right.old }
-    ensures registers { map A.number left.new ≡ map B.number right.new }
-    ensures endings { result.0 ≡ result.1 }
+    ensures registers { map A.number left.new ≡ (RunOf A.IS_SIGNED A.BITS steps.now (map A.number left.old)).0 }
+    ensures ending { result.0 ≡ (RunOf A.IS_SIGNED A.BITS steps.now (map A.number left.old)).1 }
+    ensures same_registers { map B.number right.new ≡ map A.number left.new }
+    ensures same_ending { result.1 ≡ result.0 }
 {
     (run(steps, left), run(steps, right))
 }
