@@ -13,6 +13,7 @@ pub mod BitValue
 pub mod BitPattern
 pub mod BitSign
 pub mod BitResult
+pub mod LowBits
 pub mod LawProof
 pub mod Powers
 pub mod Squaring

@@ -1,10 +1,10 @@
 -- The laws of what wraps and of bit lists, as statements. `laws` proves them.
-use Rattle.std.specs.Prelude.{◌≡◌, ◌≢◌, ◌↔◌, ℕ, ℤ, Bool, List, Option, Some, None, pos, length, reverse, int_div, IsTrue, if◌then◌else◌, ◌||◌, ◌+◌, ◌≤◌, ◌+ℤ◌, ◌*ℤ◌}
+use Rattle.std.specs.Prelude.{◌≡◌, ◌≢◌, ◌↔◌, ℕ, ℤ, Bool, List, Option, Some, None, pos, length, reverse, int_div, IsTrue, if◌then◌else◌, ◌||◌, ◌+◌, ◌≤◌, ◌<◌, ◌+ℤ◌, ◌-ℤ◌, ◌*ℤ◌}
 use Rattle.std.specs.Ordering.{int_eq}
 use Rattle.arbitrary_base.specs.Range.{InRange}
 use Rattle.arbitrary_base.specs.Residue.{Congruent, wrap}
 use Rattle.arbitrary_base.specs.Exact.{ExactOrNone, QuotientOrNone}
-use Rattle.arbitrary_base.specs.BitList.{bits, val, rotl, rotr, ones, front, tail, bits_not, items}
+use Rattle.arbitrary_base.specs.BitList.{bits, val, bits_and, bits_or, bits_xor, shl, rotl, rotr, ones, front, tail, bits_not, items}
 
 -- ---- what `wrap` is
 
@@ -76,3 +76,38 @@ EndRunsFit = (b : Bool) (l : List Bool) → tail b l ≤ length l
 -- items t .. t + A - 1 of items s .. s + B - 1 are items s + t .. s + t + A - 1
 abbrev pub ExtractionComposes : Type 0
 ExtractionComposes = (s t A B : ℕ) (l : List Bool) → t + A ≤ B → items t A (items s B l) ≡ items (s + t) A l
+
+-- ---- between two widths: s and A are the sign and the width of the narrow type, t and B those of the wide one
+
+abbrev pub SumsKeepLowBits : Type 0
+SumsKeepLowBits = (s t : Bool) (A B : ℕ) (x y : ℤ) → 1 ≤ A → A ≤ B
+    → wrap s A (wrap t B (x +ℤ y)) ≡ wrap s A (wrap s A x +ℤ wrap s A y)
+
+abbrev pub DifferencesKeepLowBits : Type 0
+DifferencesKeepLowBits = (s t : Bool) (A B : ℕ) (x y : ℤ) → 1 ≤ A → A ≤ B
+    → wrap s A (wrap t B (x -ℤ y)) ≡ wrap s A (wrap s A x -ℤ wrap s A y)
+
+abbrev pub ProductsKeepLowBits : Type 0
+ProductsKeepLowBits = (s t : Bool) (A B : ℕ) (x y : ℤ) → 1 ≤ A → A ≤ B
+    → wrap s A (wrap t B (x *ℤ y)) ≡ wrap s A (wrap s A x *ℤ wrap s A y)
+
+abbrev pub AndKeepsLowBits : Type 0
+AndKeepsLowBits = (s t : Bool) (A B : ℕ) (x y : ℤ) → 1 ≤ A → A ≤ B
+    → wrap s A (val t (bits_and (bits B x) (bits B y))) ≡ val s (bits_and (bits A (wrap s A x)) (bits A (wrap s A y)))
+
+abbrev pub OrKeepsLowBits : Type 0
+OrKeepsLowBits = (s t : Bool) (A B : ℕ) (x y : ℤ) → 1 ≤ A → A ≤ B
+    → wrap s A (val t (bits_or (bits B x) (bits B y))) ≡ val s (bits_or (bits A (wrap s A x)) (bits A (wrap s A y)))
+
+abbrev pub XorKeepsLowBits : Type 0
+XorKeepsLowBits = (s t : Bool) (A B : ℕ) (x y : ℤ) → 1 ≤ A → A ≤ B
+    → wrap s A (val t (bits_xor (bits B x) (bits B y))) ≡ val s (bits_xor (bits A (wrap s A x)) (bits A (wrap s A y)))
+
+abbrev pub ComplementsKeepLowBits : Type 0
+ComplementsKeepLowBits = (s t : Bool) (A B : ℕ) (x : ℤ) → 1 ≤ A → A ≤ B
+    → wrap s A (val t (bits_not (bits B x))) ≡ val s (bits_not (bits A (wrap s A x)))
+
+-- the amount is below the narrow width
+abbrev pub LeftShiftsKeepLowBits : Type 0
+LeftShiftsKeepLowBits = (s t : Bool) (A B k : ℕ) (x : ℤ) → A ≤ B → k < A
+    → wrap s A (val t (shl (bits B x) k)) ≡ val s (shl (bits A (wrap s A x)) k)

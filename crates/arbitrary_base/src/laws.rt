@@ -1,6 +1,6 @@
 //! The laws of the definitions that the contracts cite. Each function proves its clauses, and does nothing.
 
-ghost use Rattle.arbitrary_base.specs.Laws.{WrapIsInRange, WrapIsCongruent, WrapIsUnique, WrappedSumsCommute, WrappedSumsAssociate, WrappedProductsCommute, WrappedProductsAssociate, WrappedProductsDistribute, CheckedTellsOverflow, CheckedQuotientTellsOverflow, ValueOfBits, BitsOfValue, RotationsUndo, ReversalUndoesItself, OnesAddUp, FrontRunsFit, EndRunsFit, ExtractionComposes};
+ghost use Rattle.arbitrary_base.specs.Laws.{WrapIsInRange, WrapIsCongruent, WrapIsUnique, WrappedSumsCommute, WrappedSumsAssociate, WrappedProductsCommute, WrappedProductsAssociate, WrappedProductsDistribute, CheckedTellsOverflow, CheckedQuotientTellsOverflow, ValueOfBits, BitsOfValue, RotationsUndo, ReversalUndoesItself, OnesAddUp, FrontRunsFit, EndRunsFit, ExtractionComposes, SumsKeepLowBits, DifferencesKeepLowBits, ProductsKeepLowBits, AndKeepsLowBits, OrKeepsLowBits, XorKeepsLowBits, ComplementsKeepLowBits, LeftShiftsKeepLowBits};
 
 /// What `wrap` is: the one number of the type that is congruent modulo `2 ^ bits`.
 #[tactic(auto, using(crate::proofs::LawProof::wrap_rules))]
@@ -40,4 +40,18 @@ pub fn bit_list_laws()
     ensures front_runs { FrontRunsFit }
     ensures end_runs { EndRunsFit }
     ensures extraction { ExtractionComposes }
+{}
+
+/// What a low-bit operation answers at a wide type, wrapped at a narrow one, is what it answers at the narrow type
+/// on its sources wrapped there, whatever the two signs.
+#[tactic(auto, using(crate::proofs::LowBits::low_bit_rules))]
+pub fn low_bit_laws()
+    ensures sums { SumsKeepLowBits }
+    ensures differences { DifferencesKeepLowBits }
+    ensures products { ProductsKeepLowBits }
+    ensures and { AndKeepsLowBits }
+    ensures or { OrKeepsLowBits }
+    ensures xor { XorKeepsLowBits }
+    ensures complements { ComplementsKeepLowBits }
+    ensures left_shifts { LeftShiftsKeepLowBits }
 {}

@@ -21,11 +21,11 @@ pub run-start : (s : Bool) (B : ℕ) (steps : List Step) (regs : List ℤ)
     → RunOf s B steps regs ≡ later 0 (RunOf s B (drop 0 steps) regs)
 run-start s B steps regs = sym (later-zero (RunOf s B steps regs))
 
-RunOf-ok : (s : Bool) (B : ℕ) (step : Step) (steps : List Step) (regs new : List ℤ)
+pub RunOf-ok : (s : Bool) (B : ℕ) (step : Step) (steps : List Step) (regs new : List ℤ)
     → meaning s B step regs ≡ Ok new → RunOf s B (step ∷ steps) regs ≡ later 1 (RunOf s B steps new)
 RunOf-ok s B step steps regs new e = rw (e, RunOf) refl
 
-RunOf-err : (s : Bool) (B : ℕ) (step : Step) (steps : List Step) (regs : List ℤ) (why : Why)
+pub RunOf-err : (s : Bool) (B : ℕ) (step : Step) (steps : List Step) (regs : List ℤ) (why : Why)
     → meaning s B step regs ≡ Err why → RunOf s B (step ∷ steps) regs ≡ (regs, Err (record { at = 0; why = why }))
 RunOf-err s B step steps regs why e = rw (e, RunOf) refl
 

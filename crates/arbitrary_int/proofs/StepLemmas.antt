@@ -20,7 +20,7 @@ use Rattle.arbitrary_int.specs.declared.steps.Why.TheVariants.{Refused}
 
 -- ---- answers that may be refused
 
-in_range-true : (s : Bool) (B : ℕ) (x : ℤ) → InRange s B x → in_range s B x ≡ true
+pub in_range-true : (s : Bool) (B : ℕ) (x : ℤ) → InRange s B x → in_range s B x ≡ true
 unfolding in_range
 in_range-true s B x f =
     let a : int_le (lo s B) x ≡ true = grind (arith, ints) in

@@ -1,5 +1,6 @@
 pub mod Step
 pub mod Run
+pub mod Widths
 -- The words that the contracts of this crate, and of those that it passes on, cite.
 pub use Rattle.arbitrary_base.specs.Range
 pub use Rattle.arbitrary_base.specs.Residue

@@ -6,6 +6,7 @@ pub mod prelude;
 pub mod runs;
 pub mod steps;
 pub mod traits;
+pub mod widths;
 #[cfg(test)]
 mod worked;
 
@@ -17,6 +18,7 @@ pub use crate::steps::Step;
 pub use crate::steps::Stop;
 pub use crate::steps::TwoOp;
 pub use crate::steps::Why;
+pub use crate::widths::run_wide;
 pub use arbitrary_base::error::TryNewError;
 pub use arbitrary_base::watched::Watched;
 pub use arbitrary_core::aliases::signed::i1;

@@ -1,9 +1,10 @@
 //! Lists of steps on registers.
 
-ghost use Rattle.std.specs.Prelude.{◌≡◌, ◌↔◌, ◌<◌, map, length, pos, IsTrue, MatchResult, Ok, Err};
+ghost use Rattle.std.specs.Prelude.{◌≡◌, ◌↔◌, ◌<◌, ℕ, Bool, map, length, pos, IsTrue, MatchResult, Ok, Err};
 ghost use Rattle.std.specs.Ordering.{int_eq};
 ghost use Rattle.arbitrary_int.specs.Step.{StepWithin, answer_of, by_meaning, meaning, one_meaning, target_of, two_meaning};
 ghost use Rattle.arbitrary_int.specs.Run.{RunOf, WellFormed};
+ghost use Rattle.arbitrary_int.specs.Widths.{OnlyCheckedArithmetic, RangeWithin, carried_out};
 
 use crate::steps::{ByOp, OneOp, Step, Stop, TwoOp, Why};
 use arbitrary_calls::fixed_width::FixedWidth;
@@ -175,11 +176,16 @@ fn apply<R: FixedWidth>(step: &Step, registers: &mut [R]) -> Result<(), Why>
 /// Afterwards the numbers of the registers, and the ending, are those that `RunOf` gives: the
 /// arithmetic of whole numbers and bit lists, whatever the storage. The caller shows that each register
 /// number is below the number of registers (test it by `well_formed`).
+///
+/// Where the list has only checked sums, differences, products and quotients, the steps that were carried out
+/// give the same numbers, and no stop, at every type whose range has that of `R`.
 #[tactic(auto, using(crate::proofs::RunLemmas::runs))]
 pub fn run<R: FixedWidth>(steps: &[Step], registers: &mut [R]) -> Result<(), Stop>
     requires { WellFormed steps.now (length registers.old) }
     ensures registers { map R.number registers.new ≡ (RunOf R.IS_SIGNED R.BITS steps.now (map R.number registers.old)).0 }
     ensures ending { result ≡ (RunOf R.IS_SIGNED R.BITS steps.now (map R.number registers.old)).1 }
+    ensures wider { OnlyCheckedArithmetic steps.now → (s : Bool) (B : ℕ) → RangeWithin R.IS_SIGNED R.BITS s B
+        → RunOf s B (carried_out result steps.now) (map R.number registers.old) ≡ (map R.number registers.new, Ok tt) }
 {
     for (at, step) in steps.iter().enumerate() {
         if let Err(why) = apply(step, registers) {

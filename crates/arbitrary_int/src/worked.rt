@@ -6,3 +6,4 @@ mod calls;
 mod ends;
 mod powers;
 mod steps;
+mod widths;

@@ -10,7 +10,7 @@ use Rattle.bitrun.specs.Numeral.{value_named}
 use Rattle.bitrun.specs.Kind.{sign_of, width_of, kind_named}
 use Rattle.bitrun.specs.Operation.{step_named}
 use Rattle.bitrun.specs.Form.{Form, BadLine, HasNoBadLine, HasForm, HasRegistersForm, HasStepForm, FirstBad, IsValue, IsStep, StepsFault, LinesFault, FormFault, has_words}
-use Rattle.bitrun.specs.Answer.{IsAnswer, IsAnswerAt}
+use Rattle.bitrun.specs.Answer.{IsAnswer, IsAnswerAt, text_for}
 use Rattle.bitrun.specs.declared.fault.Fault.{Fault}
 use Rattle.bitrun.specs.declared.fault.Fault.TheVariants as faults
 use Rattle.bitrun.specs.declared.kind.Kind.{Kind}
@@ -105,7 +105,7 @@ module _ (input : List ℕ) (first : List (List ℕ)) (kind : Kind) (named : kin
     fault_of_lines faults.Write h = absurd h
 
     -- and so is an answer
-    pub answer_of_lines : (text : List ℕ) → IsAnswerAt (sign_of kind) (width_of kind) second later text → IsAnswer input text
+    pub answer_of_lines : (text : List ℕ) → IsAnswerAt (sign_of kind) (width_of kind) (text_for kind) second later text → IsAnswer input text
     answer_of_lines text answer = record {
       kind = kind;
       registers = answer.registers;

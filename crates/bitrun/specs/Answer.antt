@@ -2,14 +2,16 @@
 use Rattle.std.specs.Prelude.{◌≡◌, ℕ, List, [], ◌∷◌, ◌++◌, Bool, filter, length, map, Result, Ok, Err, ⊤, ℤ, codes, decimal}
 use Rattle.std.specs.Fmt.{signed_decimal}
 use Rattle.std.specs.List.{AllZip, join_with_byte}
+use Rattle.arbitrary_int.specs.Residue.{wrap}
 use Rattle.arbitrary_int.specs.Run.{RunOf}
 use Rattle.arbitrary_int.specs.declared.steps.Step.{Step}
 use Rattle.arbitrary_int.specs.declared.steps.Stop.{Stop}
 use Rattle.arbitrary_int.specs.declared.steps.Why.{Why}
 use Rattle.arbitrary_int.specs.declared.steps.Why.TheVariants.{Refused, ZeroDivisor}
 use Rattle.bitrun.specs.Form.{Form, IsValue, IsStep, has_words}
-use Rattle.bitrun.specs.Kind.{sign_of, width_of}
+use Rattle.bitrun.specs.Kind.{type_sign, type_width, narrow_of, sign_of, width_of}
 use Rattle.bitrun.specs.declared.kind.Kind.{Kind}
+use Rattle.bitrun.specs.declared.kind.Kind.TheVariants as kinds
 
 abbrev pub cause_text : Why → List ℕ
 cause_text Refused = codes "refused"
@@ -20,26 +22,38 @@ abbrev pub ending_text : Result ⊤ Stop → List ℕ
 ending_text (Ok u) = codes "done"
 ending_text (Err stop) = codes "stopped at " ++ decimal stop.at ++ codes ": " ++ cause_text stop.why
 
--- the registers with one space between, and how the run ended
+-- the registers with one space between
+abbrev pub registers_text : List ℤ → List ℕ
+registers_text registers = join_with_byte 32 (map signed_decimal registers)
+
+-- the registers, and how the run ended
 abbrev pub answer_text : List ℤ × Result ⊤ Stop → List ℕ
-answer_text run = join_with_byte 32 (map signed_decimal run.0) ++ 10 ∷ (ending_text run.1 ++ 10 ∷ [])
+answer_text run = registers_text run.0 ++ 10 ∷ (ending_text run.1 ++ 10 ∷ [])
+
+-- the registers, what is left of them at the sign s and the width B, and how the run ended
+abbrev pub wide_answer_text : Bool → ℕ → List ℤ × Result ⊤ Stop → List ℕ
+wide_answer_text s B run = registers_text run.0 ++ 10 ∷ answer_text (map (wrap s B) run.0, run.1)
+
+abbrev pub text_for : Kind → List ℤ × Result ⊤ Stop → List ℕ
+text_for (kinds.Run type) = answer_text
+text_for (kinds.Wide pair) = wide_answer_text (type_sign (narrow_of pair)) (type_width (narrow_of pair))
 
 pub record IsAnswer (input text : List ℕ) : Type 0 where
   pub kind : Kind
   pub registers : List ℤ
   pub steps : List Step
   pub form : Form input kind registers steps
-  pub written : text ≡ answer_text (RunOf (sign_of kind) (width_of kind) steps registers)
+  pub written : text ≡ text_for kind (RunOf (sign_of kind) (width_of kind) steps registers)
 
 -- ---- what the parts of the writer say
 
 abbrev pub after_space : ℤ → List ℕ
 after_space x = 32 ∷ signed_decimal x
 
--- the answer of the lines from the second on, where the first names a type of the sign s and the width B
-pub record IsAnswerAt (s : Bool) (B : ℕ) (second : List (List ℕ)) (later : List (List (List ℕ))) (text : List ℕ) : Type 0 where
+-- the answer of the lines from the second on, where the first names a type of the sign s and the width B, and a way to write a run
+pub record IsAnswerAt (s : Bool) (B : ℕ) (write : List ℤ × Result ⊤ Stop → List ℕ) (second : List (List ℕ)) (later : List (List (List ℕ))) (text : List ℕ) : Type 0 where
   pub registers : List ℤ
   pub steps : List Step
   pub holds_registers : AllZip (IsValue s B) second registers
   pub names_steps : AllZip (IsStep (length registers)) (filter has_words later) steps
-  pub written : text ≡ answer_text (RunOf s B steps registers)
+  pub written : text ≡ write (RunOf s B steps registers)

@@ -6,15 +6,15 @@ ghost use Rattle.std.specs.Fmt.{signed_decimal};
 ghost use Rattle.bitrun.specs.Text.{Left};
 ghost use Rattle.bitrun.specs.Kind.{sign_of, width_of};
 ghost use Rattle.bitrun.specs.Form.{LinesFault, FormFault};
-ghost use Rattle.bitrun.specs.Answer.{after_space, cause_text, ending_text, answer_text, IsAnswer, IsAnswerAt};
+ghost use Rattle.bitrun.specs.Answer.{after_space, cause_text, ending_text, registers_text, answer_text, wide_answer_text, text_for, IsAnswer, IsAnswerAt};
 
 use crate::decimal::push_decimal;
 use crate::fault::Fault;
-use crate::kind::{Kind, kind_named};
+use crate::kind::{Kind, WidePair, RegisterType, kind_named};
 use crate::parsing::{registers, steps};
 use crate::text::Cursor;
 use arbitrary_int::traits::{FixedWidth, Integer};
-use arbitrary_int::{Stop, Why, i1, i7, i14, i120, run, u1, u7, u14, u120};
+use arbitrary_int::{Stop, Why, i1, i7, i14, i120, run, run_wide, u1, u7, u14, u120};
 use std::alloc::{AllocError, Allocator};
 
 /// The whole answer to an input.
@@ -43,18 +43,22 @@ fn answer_with<'a, A: Allocator>(
     lines: &mut Cursor,
 ) -> Result<Vec<u8, &'a A>, Fault>
     requires { length lines.old.later ≤ 65536 }
-    ensures found { IfOk result (λ text. IsAnswerAt (sign_of kind) (width_of kind) lines.old.words lines.old.later text.items) }
+    ensures found { IfOk result (λ text. IsAnswerAt (sign_of kind) (width_of kind) (text_for kind) lines.old.words lines.old.later text.items) }
     ensures fault { IfErr result (LinesFault (sign_of kind) (width_of kind) lines.old.words lines.old.later) }
 {
     match kind {
-        Kind::U1 => answer_at::<u1, A>(alloc, lines),
-        Kind::I1 => answer_at::<i1, A>(alloc, lines),
-        Kind::U7 => answer_at::<u7, A>(alloc, lines),
-        Kind::I7 => answer_at::<i7, A>(alloc, lines),
-        Kind::U14 => answer_at::<u14, A>(alloc, lines),
-        Kind::I14 => answer_at::<i14, A>(alloc, lines),
-        Kind::U120 => answer_at::<u120, A>(alloc, lines),
-        Kind::I120 => answer_at::<i120, A>(alloc, lines),
+        Kind::Run(RegisterType::U1) => answer_at::<u1, A>(alloc, lines),
+        Kind::Run(RegisterType::I1) => answer_at::<i1, A>(alloc, lines),
+        Kind::Run(RegisterType::U7) => answer_at::<u7, A>(alloc, lines),
+        Kind::Run(RegisterType::I7) => answer_at::<i7, A>(alloc, lines),
+        Kind::Run(RegisterType::U14) => answer_at::<u14, A>(alloc, lines),
+        Kind::Run(RegisterType::I14) => answer_at::<i14, A>(alloc, lines),
+        Kind::Run(RegisterType::U120) => answer_at::<u120, A>(alloc, lines),
+        Kind::Run(RegisterType::I120) => answer_at::<i120, A>(alloc, lines),
+        Kind::Wide(WidePair::U14U7) => wide_answer_at::<u14, u7, A>(alloc, lines),
+        Kind::Wide(WidePair::U14I7) => wide_answer_at::<u14, i7, A>(alloc, lines),
+        Kind::Wide(WidePair::I14U7) => wide_answer_at::<i14, u7, A>(alloc, lines),
+        Kind::Wide(WidePair::I120U14) => wide_answer_at::<i120, u14, A>(alloc, lines),
     }
 }
 
@@ -66,7 +70,7 @@ fn answer_at<'a, R: FixedWidth, A: Allocator>(
     requires width { R.valid }
     requires narrow { R.BITS ≤ 120 }
     requires short { length lines.old.later ≤ 65536 }
-    ensures found { IfOk result (λ text. IsAnswerAt R.IS_SIGNED R.BITS lines.old.words lines.old.later text.items) }
+    ensures found { IfOk result (λ text. IsAnswerAt R.IS_SIGNED R.BITS answer_text lines.old.words lines.old.later text.items) }
     ensures fault { IfErr result (LinesFault R.IS_SIGNED R.BITS lines.old.words lines.old.later) }
 {
     let Some(registers) = registers::<R, A>(alloc, lines)? else {
@@ -76,6 +80,59 @@ fn answer_at<'a, R: FixedWidth, A: Allocator>(
     let steps = steps(alloc, registers.len(), lines)?;
     let ending = run(steps.as_slice(), registers.as_mut_slice());
     Ok(text_of(alloc, registers.as_slice(), ending)?)
+}
+
+/// The answer of the lines from the second on, with registers of the type `W`, whose low bits `N` tells.
+fn wide_answer_at<'a, W: FixedWidth, N: FixedWidth, A: Allocator>(
+    alloc: &'a A,
+    lines: &mut Cursor,
+) -> Result<Vec<u8, &'a A>, Fault>
+    requires wide_width { W.valid }
+    requires wide_fits { W.BITS ≤ 120 }
+    requires narrow_width { N.valid }
+    requires narrow_fits { N.BITS ≤ 120 }
+    requires short { length lines.old.later ≤ 65536 }
+    ensures found { IfOk result (λ text. IsAnswerAt W.IS_SIGNED W.BITS (wide_answer_text N.IS_SIGNED N.BITS) lines.old.words lines.old.later text.items) }
+    ensures fault { IfErr result (LinesFault W.IS_SIGNED W.BITS lines.old.words lines.old.later) }
+{
+    let Some(registers) = registers::<W, A>(alloc, lines)? else {
+        return Err(Fault::Line(2));
+    };
+    let mut wide = registers;
+    let steps = steps(alloc, wide.len(), lines)?;
+    let mut narrow = zeros::<N, A>(alloc, wide.len())?;
+    let ending = run_wide(steps.as_slice(), wide.as_mut_slice(), narrow.as_mut_slice());
+    Ok(wide_text_of(alloc, wide.as_slice(), narrow.as_slice(), ending)?)
+}
+
+/// So many zeros.
+fn zeros<'a, N: FixedWidth, A: Allocator>(
+    alloc: &'a A,
+    count: usize,
+) -> Result<Vec<N, &'a A>, AllocError>
+    requires { N.valid }
+    ensures { IfOk result (λ zeros. length zeros.items ≡ count) }
+{
+    Ok(vec![in alloc; N::zero(); count]?)
+}
+
+/// The wide and the narrow registers in decimal, and how the run ended.
+fn wide_text_of<'a, W: FixedWidth, N: FixedWidth, A: Allocator>(
+    alloc: &'a A,
+    wide: &[W],
+    narrow: &[N],
+    ending: Result<(), Stop>,
+) -> Result<Vec<u8, &'a A>, AllocError>
+    requires wide_fits { W.BITS ≤ 120 }
+    requires narrow_fits { N.BITS ≤ 120 }
+    ensures { IfOk result (λ text. text.items ≡ registers_text (map W.number wide.now) ++ 10 ∷ answer_text (map N.number narrow.now, ending)) }
+{
+    let mut text = Vec::new(alloc);
+    push_registers(&mut text, wide)?;
+    text.push(b'\n')?;
+    push_registers(&mut text, narrow)?;
+    push_ending(&mut text, ending)?;
+    Ok(text)
 }
 
 /// The registers in decimal, and how the run ended.

@@ -1,5 +1,5 @@
-//! How the library is used: a device's register, a packet header, a sensor, a list of steps, and code for
-//! every width.
+//! How the library is used: a device's register, a packet header, a sensor, lists of steps at one width
+//! and at two, and code for every width.
 #![tactic(auto)]
 
 mod first;
@@ -8,6 +8,7 @@ mod header;
 mod register;
 mod sensor;
 mod steps;
+mod widths;
 
 use std::io;
 
@@ -17,5 +18,6 @@ fn main(rt: HostRuntime) -> io::Result<()> {
     header::show(&rt)?;
     sensor::show(&rt)?;
     steps::show(&rt)?;
+    widths::show(&rt)?;
     generic::show(&rt)
 }

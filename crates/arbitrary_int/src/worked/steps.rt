@@ -4,7 +4,7 @@ use crate::prelude::*;
 use crate::{Step, Stop, TwoOp, Why, run, well_formed};
 
 /// The step of an operation on two registers.
-fn two(op: TwoOp, to: usize, left: usize, right: usize) -> Step {
+pub fn two(op: TwoOp, to: usize, left: usize, right: usize) -> Step {
     Step::Two {
         op,
         to,

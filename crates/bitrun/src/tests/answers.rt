@@ -9,9 +9,11 @@ const STOPPED: &[u8] = b"run u7\n100 50 0\nwadd 2 0 1\ncadd 0 0 1\n";
 
 const BAD: &[u8] = b"run u7\n100 50 0\nwadd 2 0 1\nwadd 3 0 1\n";
 
+const WIDE: &[u8] = b"wide u14 i7\n200 300\nwmul 0 0 1\nnot 1 1\n";
+
 #[test]
 fn answers(rt: HostRuntime) -> Result<(), Fail> {
-    let rows: [(&[u8], &[u8]); 22] = [
+    let rows: [(&[u8], &[u8]); 26] = [
         (STOPPED, b"100 50 22\nstopped at 1: refused\n"),
         (b"run u7\n\n", b"\ndone\n"),
         (b"run u14\n16383 200\nwadd 0 0 1", b"199 200\ndone\n"),
@@ -61,6 +63,16 @@ fn answers(rt: HostRuntime) -> Result<(), Fail> {
             b"run u7\n0000000000000000000000000000000000000000000000000000000000007",
             b"7\ndone\n",
         ),
+        (WIDE, b"10848 16083\n-32 -45\ndone\n"),
+        (
+            b"wide i120 u14\n-1 16384\nwsub 0 0 1",
+            b"-16385 16384\n16383 0\ndone\n",
+        ),
+        (
+            b"wide u14 u7\n200 16383\ncadd 0 0 1",
+            b"200 16383\n72 127\nstopped at 0: refused\n",
+        ),
+        (b"wide i14 u7\n\n", b"\n\ndone\n"),
     ];
     for (input, answer) in rows {
         let mut reader = Watched::new(input);
@@ -75,12 +87,16 @@ fn answers(rt: HostRuntime) -> Result<(), Fail> {
 
 #[test]
 fn bad_lines(rt: HostRuntime) -> Result<(), Fail> {
-    let rows: [(&[u8], usize); 24] = [
+    let rows: [(&[u8], usize); 28] = [
         (b"", 1),
         (b"\nrun u7\n", 1),
         (b"RUN u7\n1", 1),
         (b"run u8\n1", 1),
         (b"wide u7 u14\n1", 1),
+        (b"wide u14\n1", 1),
+        (b"wide u14 u7 u7\n1", 1),
+        (b"run u14 u7\n1", 1),
+        (b"wide u14 u7\n16384", 2),
         (b"run u7\n", 2),
         (b"run u7\n128", 2),
         (b"run i1\n1", 2),
@@ -133,7 +149,11 @@ fn longest_input(rt: HostRuntime) -> Result<(), Fail> {
 
 #[test]
 fn memory_is_refused(rt: HostRuntime) -> Result<(), Fail> {
-    for (input, outcome) in [(STOPPED, Ok(())), (BAD, Err(Fault::Line(4)))] {
+    for (input, outcome) in [
+        (STOPPED, Ok(())),
+        (WIDE, Ok(())),
+        (BAD, Err(Fault::Line(4))),
+    ] {
         let mut refused = 0;
         for step in 1..200usize {
             let heap = LocalHeap::new(rt.alloc(), 32 * step)?;

@@ -1,0 +1,59 @@
+//! Lists of steps on wide registers of which the low bits are wanted.
+
+ghost use Rattle.std.specs.Prelude.{◌≡◌, ◌<◌, ◌≤◌, map, length, Ok};
+ghost use Rattle.arbitrary_base.specs.Residue.{wrap};
+ghost use Rattle.arbitrary_int.specs.Run.{RunOf, WellFormed};
+ghost use Rattle.arbitrary_int.specs.Widths.{OnlyLowBits};
+
+use crate::runs::run;
+use crate::steps::{Step, Stop};
+use arbitrary_calls::fixed_width::FixedWidth;
+use arbitrary_traits::integer::Integer;
+
+/// The low bits of `wide`, at the type of `narrow`.
+fn low_bits_of<W: Integer, N: Integer>(wide: W, narrow: N) -> N
+    ensures number { N.number result ≡ wrap N.IS_SIGNED N.BITS (W.number wide) }
+    ensures width { 1 ≤ N.BITS }
+{
+    // shows that the width is valid
+    let _pattern = narrow.extended();
+    N::masked_new(wide)
+}
+
+/// Each narrow register becomes what is left of the wide one.
+#[tactic(auto, using(crate::proofs::LowBitRuns::narrowed))]
+fn narrow_all<W: Integer, N: Integer>(wide: &[W], narrow: &mut [N])
+    requires { length wide.now ≡ length narrow.old }
+    ensures low { map N.number narrow.new ≡ map (wrap N.IS_SIGNED N.BITS) (map W.number wide.now) }
+    ensures width { 0 < length narrow.old → 1 ≤ N.BITS }
+{
+    for (at, low) in narrow.iter_mut().enumerate() {
+        *low = low_bits_of(wide[at], *low);
+    }
+}
+
+/// `run` on the wide registers; then, with and without a stop, each narrow register is what is left of the
+/// wide one: its number, wrapped.
+///
+/// Where each step is a low-bit step of the narrow width (`IsLowBit` lists them), and that width is no more
+/// than the wide one, there is no stop, and the narrow registers are what masking first and running narrow
+/// gives. The two signs and storages may be any. The caller shows that each register number is below the
+/// number of wide registers (test it by `well_formed`), and that there are as many narrow ones.
+pub fn run_wide<W: FixedWidth, N: FixedWidth>(
+    steps: &[Step],
+    wide: &mut [W],
+    narrow: &mut [N],
+) -> Result<(), Stop>
+    requires well_formed { WellFormed steps.now (length wide.old) }
+    requires same_length { length wide.old ≡ length narrow.old }
+    ensures registers { map W.number wide.new ≡ (RunOf W.IS_SIGNED W.BITS steps.now (map W.number wide.old)).0 }
+    ensures ending { result ≡ (RunOf W.IS_SIGNED W.BITS steps.now (map W.number wide.old)).1 }
+    ensures low { map N.number narrow.new ≡ map (wrap N.IS_SIGNED N.BITS) (map W.number wide.new) }
+    ensures low_run { N.BITS ≤ W.BITS → OnlyLowBits N.BITS steps.now
+        → RunOf N.IS_SIGNED N.BITS steps.now (map (wrap N.IS_SIGNED N.BITS) (map W.number wide.old)) ≡ (map N.number narrow.new, Ok tt) }
+    ensures low_ending { N.BITS ≤ W.BITS → OnlyLowBits N.BITS steps.now → result ≡ Ok tt }
+{
+    let ending = run(steps, wide);
+    narrow_all(wide, narrow);
+    ending
+}

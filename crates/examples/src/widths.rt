@@ -1,0 +1,68 @@
+//! The same steps at two widths: a wide register of which the low bits are wanted, and a list of checked
+//! steps that is moved to a wider type.
+
+ghost use Rattle.std.specs.Prelude.{◌≡◌, ◌*ℤ◌, true, map, length, Ok};
+ghost use Rattle.arbitrary_int.specs.Residue.{wrap};
+ghost use Rattle.arbitrary_int.specs.Run.{WellFormed};
+ghost use Rattle.arbitrary_int.specs.Widths.{OnlyCheckedArithmetic, RangeWithin};
+
+use arbitrary_int::prelude::*;
+use arbitrary_int::{Step, Stop, TwoOp, run, run_wide};
+use std::io;
+
+/// The low 7 bits of a product of 14 bits. They are the product of the factors' own low 7 bits.
+pub fn low_product(a: u14, b: u14) -> i7
+    ensures { result ≡ wrap true 7 (wrap true 7 a *ℤ wrap true 7 b) }
+{
+    let steps = [Step::Two {
+        op: TwoOp::WrappingMul,
+        to: 0,
+        left: 0,
+        right: 1,
+    }];
+    let mut wide = [a, b];
+    let mut narrow = [i7::new(0), i7::new(0)];
+    let _ending = run_wide(&steps, &mut wide, &mut narrow);
+    narrow[0]
+}
+
+/// Runs sums, differences, products and quotients on registers of one type, and again on the same numbers at
+/// a wider type. Where the first run has no stop, the second has none either, and leaves the same numbers.
+pub fn moved<A: FixedWidth, B: FixedWidth>(
+    steps: &[Step],
+    registers: &mut [A],
+    wider: &mut [B],
+) -> (Result<(), Stop>, Result<(), Stop>)
+    requires within { WellFormed steps.now (length registers.old) }
+    requires arithmetic { OnlyCheckedArithmetic steps.now }
+    requires range { RangeWithin A.IS_SIGNED A.BITS B.IS_SIGNED B.BITS }
+    requires alike { map A.number registers.old ≡ map B.number wider.old }
+    ensures same_ending { result.0 ≡ Ok tt → result.1 ≡ Ok tt }
+    ensures same_registers { result.0 ≡ Ok tt → map B.number wider.new ≡ map A.number registers.new }
+{
+    (run(steps, registers), run(steps, wider))
+}
+
+/// Prints a product's low bits, and registers of 7 and of 14 bits after the same steps.
+pub fn show(rt: &impl Print) -> io::Result<()> {
+    println!(rt; "{}", low_product(u14::new(200), u14::new(300)))?;
+    let steps = [
+        Step::Two {
+            op: TwoOp::CheckedMul,
+            to: 0,
+            left: 0,
+            right: 1,
+        },
+        Step::Two {
+            op: TwoOp::CheckedSub,
+            to: 1,
+            left: 1,
+            right: 0,
+        },
+    ];
+    let mut registers = [i7::new(-7), i7::new(7)];
+    let mut wider = [i14::new(-7), i14::new(7)];
+    let _endings = moved(&steps, &mut registers, &mut wider);
+    let (left, right) = (&registers[..], &wider[..]);
+    println!(rt; "{} {} {} {}", left[0], left[1], right[0], right[1])
+}
