@@ -1,13 +1,15 @@
-//! How the library is used: a device's register, a packet header, a sensor, a list of steps, and code for
-//! every width.
+//! How the library is used: a device's register, a packet header, a sensor, a list of steps, code for
+//! every width, and fields in a record.
 #![tactic(auto)]
 
+mod can;
 mod first;
 mod generic;
 mod header;
 mod register;
 mod sensor;
 mod steps;
+mod timer;
 
 use std::io;
 
@@ -17,5 +19,7 @@ fn main(rt: HostRuntime) -> io::Result<()> {
     header::show(&rt)?;
     sensor::show(&rt)?;
     steps::show(&rt)?;
-    generic::show(&rt)
+    generic::show(&rt)?;
+    timer::show(&rt)?;
+    can::show(&rt)
 }
