@@ -9,6 +9,7 @@ pub mod Clamp
 pub mod BitNumber
 pub mod BitShift
 pub mod BitCount
+pub mod BitField
 pub mod BitValue
 pub mod BitPattern
 pub mod BitSign

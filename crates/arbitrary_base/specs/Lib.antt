@@ -3,6 +3,7 @@ pub mod Residue
 pub mod Saturation
 pub mod Exact
 pub mod BitList
+pub mod BitField
 pub mod Power
 pub mod Order
 pub mod Watching

@@ -8,6 +8,7 @@ pub mod constructors;
 pub mod conversions;
 pub mod division;
 pub mod extraction;
+pub mod fields;
 pub mod operators;
 pub mod runs;
 pub mod shifts;

@@ -1,0 +1,87 @@
+-- Fields in a word of 128 bits, and lists of puts into such fields.
+use Rattle.std.specs.Prelude.{◌≡◌, ℕ, ◌+◌, ◌-◌, ◌≤◌, ◌<◌, ◌^◌, Bool, false, List, [], ◌∷◌, ◌++◌, length, take, drop, get_or, pos, All, AllPairs, Contains, IsPermutation}
+use Rattle.arbitrary_base.specs.BitList.{bits, num, items}
+
+-- the bits of the field that begins at bit `start` and is `width` bits wide
+unfoldable pub field_bits : ℕ → ℕ → ℕ → List Bool
+field_bits word start width = items start width (bits 128 (pos word))
+
+-- a list with l in its places from start on
+abbrev pub placed : ℕ → List Bool → List Bool → List Bool
+placed start l whole = take start whole ++ l ++ drop (start + length l) whole
+
+-- the word whose 128 bits are those of this one, with l in the places from start on
+unfoldable pub with_field : ℕ → ℕ → List Bool → ℕ
+with_field word start l = num (placed start l (bits 128 (pos word)))
+
+unfoldable pub bit_of : ℕ → ℕ → Bool
+bit_of word i = get_or (bits 128 (pos word)) i false
+
+-- bit i is one of the `width` bits from bit `start` on
+abbrev pub IsInField : ℕ → ℕ → ℕ → Type 0
+IsInField start width i = (start ≤ i) × (i < start + width)
+
+-- no bit lies in both fields
+abbrev pub AreDisjoint : ℕ → ℕ → ℕ → ℕ → Type 0
+AreDisjoint start width other_start other_width = (i : ℕ) → IsInField start width i → ¬ (IsInField other_start other_width i)
+
+-- ---- one put
+
+-- a bit of the field is that of the list
+abbrev pub PutSetsItsBits : Type 0
+PutSetsItsBits = (word start : ℕ) (l : List Bool) (i : ℕ) → start + length l ≤ 128 → IsInField start (length l) i
+    → bit_of (with_field word start l) i ≡ get_or l (i - start) false
+
+-- any other bit is as it was
+abbrev pub PutKeepsOtherBits : Type 0
+PutKeepsOtherBits = (word start : ℕ) (l : List Bool) (i : ℕ) → start + length l ≤ 128 → ¬ (IsInField start (length l) i)
+    → bit_of (with_field word start l) i ≡ bit_of word i
+
+-- what is read back is what was put
+abbrev pub FieldAfterPut : Type 0
+FieldAfterPut = (word start : ℕ) (l : List Bool) → start + length l ≤ 128 → field_bits (with_field word start l) start (length l) ≡ l
+
+-- ---- lists of puts
+
+-- bits, and where they are put
+pub record Put : Type 0 where
+  pub start : ℕ
+  pub bits : List Bool
+
+abbrev pub Fits : Put → Type 0
+Fits put = put.start + length put.bits ≤ 128
+
+abbrev pub Covers : ℕ → Put → Type 0
+Covers i put = IsInField put.start (length put.bits) i
+
+abbrev pub AreApart : Put → Put → Type 0
+AreApart p q = AreDisjoint p.start (length p.bits) q.start (length q.bits)
+
+-- the word after these puts, the first of them first
+abbrev pub after_puts : ℕ → List Put → ℕ
+after_puts word [] = word
+after_puts word (put ∷ later) = after_puts (with_field word put.start put.bits) later
+
+-- a bit of one of the fields is that of the list that was put there
+abbrev pub PutsSetTheirBits : Type 0
+PutsSetTheirBits = (word : ℕ) (puts : List Put) (put : Put) (i : ℕ) → All Fits puts → AllPairs AreApart puts → Contains puts put
+    → Covers i put → bit_of (after_puts word puts) i ≡ get_or put.bits (i - put.start) false
+
+-- a bit of none of them is as it was
+abbrev pub PutsKeepOtherBits : Type 0
+PutsKeepOtherBits = (word : ℕ) (puts : List Put) (i : ℕ) → All Fits puts → All (λ put. ¬ (Covers i put)) puts
+    → bit_of (after_puts word puts) i ≡ bit_of word i
+
+-- so each field reads as what was put there, whatever was put into the others before and after
+abbrev pub FieldAfterPuts : Type 0
+FieldAfterPuts = (word : ℕ) (puts : List Put) (put : Put) → All Fits puts → AllPairs AreApart puts → Contains puts put
+    → field_bits (after_puts word puts) put.start (length put.bits) ≡ put.bits
+
+-- and their order doesn't matter
+abbrev pub PutsInAnyOrder : Type 0
+PutsInAnyOrder = (word : ℕ) (puts others : List Put) → word < 2 ^ 128 → All Fits puts → AllPairs AreApart puts → IsPermutation puts others
+    → after_puts word puts ≡ after_puts word others
+
+abbrev pub DisjointPutsCommute : Type 0
+DisjointPutsCommute = (word : ℕ) (p q : Put) → Fits p → Fits q → AreApart p q
+    → after_puts word (p ∷ q ∷ []) ≡ after_puts word (q ∷ p ∷ [])

@@ -1,0 +1,77 @@
+//! Fields in a record of 128 bits: a packet's header, a device's register, an instruction.
+#![tactic(auto)]
+
+ghost use Rattle.std.specs.Prelude.{◌≡◌, ◌+◌, ◌≤◌, ◌^◌, ◌↔◌, ℕ, pos, IsTrue};
+ghost use Rattle.arbitrary_int.specs.BitField.{AreDisjoint, field_bits, with_field};
+ghost use Rattle.arbitrary_int.specs.BitList.{bits as bits_of, val};
+
+use arbitrary_int::traits::FixedWidth;
+
+#[cfg(test)]
+mod worked;
+
+/// A record of 128 bits. Bit 0 is the lowest.
+#[derive(Clone, Copy, Debug, PartialEq, Eq)]
+pub struct Record {
+    pub bits: u128,
+}
+
+impl Record {
+    /// The value of the field of `F::BITS` bits from bit `start` on. The field ends at or before bit 128, and
+    /// the width is valid.
+    pub fn get<F: FixedWidth>(&self, start: usize) -> F
+        requires width { F.valid }
+        requires within { start + F.BITS ≤ 128 }
+        ensures { F.number result ≡ val F.IS_SIGNED (field_bits self.now.bits start F.BITS) }
+    {
+        F::extract_u128(self.bits, start)
+    }
+
+    /// Puts the value's bits into the field of `F::BITS` bits from bit `start` on. The field ends at or before
+    /// bit 128. All other bits stay.
+    pub fn put<F: FixedWidth>(&mut self, start: usize, value: F)
+        requires { start + F.BITS ≤ 128 }
+        ensures bits { self.new.bits ≡ with_field self.old.bits start (bits_of F.BITS (F.number value)) }
+        ensures read_back { val F.IS_SIGNED (field_bits self.new.bits start F.BITS) ≡ F.number value }
+
+        // Each field below this one, and each above, reads as before.
+        ensures below { (other width : ℕ) → other + width ≤ start
+            → field_bits self.new.bits other width ≡ field_bits self.old.bits other width }
+        ensures above { (other width : ℕ) → start + F.BITS ≤ other
+            → field_bits self.new.bits other width ≡ field_bits self.old.bits other width }
+    {
+        self.bits = replaced(self.bits, start, F::BITS, value.extended());
+    }
+}
+
+/// The pattern whose low `count` bits are one.
+fn ones(count: usize) -> u128
+    requires { count ≤ 128 }
+    ensures { result + 1 ≡ 2 ^ count }
+{
+    if count == 128 {
+        u128::MAX
+    } else {
+        (1 << count) - 1
+    }
+}
+
+/// The word with the low `count` bits of the pattern from bit `start` on.
+fn replaced(word: u128, start: usize, count: usize, pattern: u128) -> u128
+    requires some { 1 ≤ count }
+    requires within { start + count ≤ 128 }
+    ensures { result ≡ with_field word start (bits_of count (pos pattern)) }
+{
+    let low = ones(count);
+    (word & !(low << start)) | ((pattern & low) << start)
+}
+
+/// Whether no bit lies in both of the fields, each given by its start and its width. Each ends at or before
+/// bit 128.
+pub fn disjoint(start1: usize, width1: usize, start2: usize, width2: usize) -> bool
+    requires first { start1 + width1 ≤ 128 }
+    requires second { start2 + width2 ≤ 128 }
+    ensures { IsTrue result ↔ AreDisjoint start1 width1 start2 width2 }
+{
+    width1 == 0 || width2 == 0 || start1 + width1 <= start2 || start2 + width2 <= start1
+}

@@ -1,0 +1,96 @@
+//! The identifier of a CAN frame: 29 bits, which SAE J1939 divides into fields.
+//!
+//! | Bits     | Field              | Type  |
+//! |----------|--------------------|-------|
+//! | 26 to 28 | priority           | `u3`  |
+//! | 25       | extended data page | `u1`  |
+//! | 24       | data page          | `u1`  |
+//! | 16 to 23 | PDU format         | `u8`  |
+//! | 8 to 15  | PDU specific       | `u8`  |
+//! | 0 to 7   | source address     | `u8`  |
+
+ghost use Rattle.std.specs.Prelude.{◌≡◌, pos, false};
+ghost use Rattle.arbitrary_int.specs.BitField.{field_bits};
+ghost use Rattle.arbitrary_int.specs.BitList.{val};
+
+use arbitrary_int::prelude::*;
+use bit_fields::Record;
+use std::io;
+
+/// What an identifier says.
+#[derive(Clone, Copy, Debug, PartialEq, Eq)]
+pub struct Identifier {
+    /// 0 goes first.
+    pub priority: u3,
+    pub extended_data_page: u1,
+    pub data_page: u1,
+    pub format: UInt<u8, 8>,
+    /// The destination's address where the format is below 240.
+    pub specific: UInt<u8, 8>,
+    pub source: UInt<u8, 8>,
+}
+
+impl Identifier {
+    /// The fields of the identifier in the low 29 bits.
+    pub fn read(record: &Record) -> Identifier
+        ensures priority { result.priority ≡ val false (field_bits record.now.bits 26 3) }
+        ensures extended_data_page { result.extended_data_page ≡ val false (field_bits record.now.bits 25 1) }
+        ensures data_page { result.data_page ≡ val false (field_bits record.now.bits 24 1) }
+        ensures format { result.format ≡ val false (field_bits record.now.bits 16 8) }
+        ensures specific { result.specific ≡ val false (field_bits record.now.bits 8 8) }
+        ensures source { result.source ≡ val false (field_bits record.now.bits 0 8) }
+    {
+        Identifier {
+            priority: record.get(26),
+            extended_data_page: record.get(25),
+            data_page: record.get(24),
+            format: record.get(16),
+            specific: record.get(8),
+            source: record.get(0),
+        }
+    }
+
+    /// Writes the fields into the low 29 bits. The other bits stay.
+    pub fn write(self, record: &mut Record)
+        ensures priority { val false (field_bits record.new.bits 26 3) ≡ self.priority }
+        ensures extended_data_page { val false (field_bits record.new.bits 25 1) ≡ self.extended_data_page }
+        ensures data_page { val false (field_bits record.new.bits 24 1) ≡ self.data_page }
+        ensures format { val false (field_bits record.new.bits 16 8) ≡ self.format }
+        ensures specific { val false (field_bits record.new.bits 8 8) ≡ self.specific }
+        ensures source { val false (field_bits record.new.bits 0 8) ≡ self.source }
+        ensures others { field_bits record.new.bits 29 99 ≡ field_bits record.old.bits 29 99 }
+    {
+        record.put(26, self.priority);
+        record.put(25, self.extended_data_page);
+        record.put(24, self.data_page);
+        record.put(16, self.format);
+        record.put(8, self.specific);
+        record.put(0, self.source);
+    }
+}
+
+/// What is read back is what was written.
+pub fn written_and_read(identifier: Identifier, record: &mut Record) -> Identifier
+    ensures { result ≡ identifier }
+{
+    identifier.write(record);
+    Identifier::read(record)
+}
+
+/// Prints the fields of an identifier, and the identifier with the least priority and another source.
+pub fn show(rt: &impl Print) -> io::Result<()> {
+    let mut record = Record { bits: 0x18FE_F100 };
+    let identifier = Identifier::read(&record);
+    println!(rt;
+        "{} {} {} {} {} {}",
+        identifier.priority,
+        identifier.extended_data_page,
+        identifier.data_page,
+        identifier.format,
+        identifier.specific,
+        identifier.source
+    )?;
+    record.put(26, u3::new(7));
+    record.put(0, UInt::<u8, 8>::new(0x21));
+    println!(rt; "{:x}", record.bits)
+}
