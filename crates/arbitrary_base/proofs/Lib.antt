@@ -16,3 +16,8 @@ pub mod BitResult
 pub mod LawProof
 pub mod Powers
 pub mod Squaring
+pub mod Wrapped
+pub mod BitArithmetic
+pub mod Undone
+pub mod Shifted
+pub mod Extracted
