@@ -1,12 +1,12 @@
 -- Counts of bit lists, against std's counts of a number's digits.
-use Rattle.std.proofs.Common.{◌≡◌, ℕ, zero, suc, ◌+◌, ◌*◌, ◌^◌, ◌<◌, ◌≤◌, min, Bool, true, false, not, List, [], ◌∷◌, ◌++◌, reverse, length, refl, sym, ap, ◌∙◌, subst, arith, lt_of_lt_of_le}
+use Rattle.std.proofs.Common.{◌≡◌, ℕ, zero, suc, ℤ, ◌+◌, ◌*◌, ◌^◌, ◌<◌, ◌≤◌, min, Bool, true, false, not, List, [], ◌∷◌, ◌++◌, reverse, length, refl, sym, ap, ◌∙◌, subst, arith, lt_of_lt_of_le}
 use Rattle.std.proofs.lemmas.List.{length-reverse, reverse-reverse, map-append}
 use Rattle.std.proofs.lemmas.List.Sums.{sum_by-cons, prefix_len-le-length}
 use Rattle.std.proofs.Math.Pow.{pow_mono}
 use Rattle.std.proofs.Math.Nat.{pow-suc}
 use Rattle.std.specs.Int.Count.{ones as set_digits, ones_step, count_leading_zeros, count_trailing_zeros, leading_of_zero, leading_length, leading_unique}
-use Rattle.arbitrary_base.specs.BitList.{digit, num, differs, bits_not, ones, front, tail}
-use Rattle.arbitrary_base.proofs.BitNumber.{num-lt_of, num-append, cons-mod, cons-div}
+use Rattle.arbitrary_base.specs.BitList.{bits, digit, num, differs, bits_not, ones, front, tail}
+use Rattle.arbitrary_base.proofs.BitNumber.{length-bits, num-lt_of, num-append, cons-mod, cons-div}
 use Rattle.arbitrary_base.proofs.BitShift.{reverse-cons}
 
 ones-cons : (b : Bool) (l : List Bool) → ones (b ∷ l) ≡ digit b + ones l
@@ -97,3 +97,16 @@ leading-wide (suc d) k n h =
     ap (λ (x : ℕ). count_leading_zeros x n) (let e : suc d + k ≡ suc (d + k) = omega arith in e)
     ∙ leading-more (d + k) n (lt_of_lt_of_le h (pow_mono (let e : k ≤ d + k = omega arith in e)))
     ∙ omega (arith, leading-wide d k n h)
+
+-- ---- at most as many as there are bits
+
+pub ones-fit : (B : ℕ) (x : ℤ) → ones (bits B x) ≤ B
+ones-fit B x = let e = ones-not (bits B x) in let n = length-bits B x in omega arith
+
+pub front-fits : (b : Bool) (B : ℕ) (x : ℤ) → front b (bits B x) ≤ B
+front-fits b B x = let e = prefix_len-le-length (λ (a : Bool). not (differs a b)) (bits B x) in let n = length-bits B x in omega arith
+
+pub tail-fits : (b : Bool) (B : ℕ) (x : ℤ) → tail b (bits B x) ≤ B
+tail-fits b B x = let e = tail-le b (bits B x) in let n = length-bits B x in omega arith
+
+pub ruleset counted = (ones-fit, front-fits, tail-fits)

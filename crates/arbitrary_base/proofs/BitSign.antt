@@ -41,7 +41,7 @@ shr-natural w n k h l =
     (length-bits w (pos (n / 2 ^ k)) ∙ sym (length-shr (bits w (pos n)) k false (omega (arith, length-bits w (pos n))) ∙ length-bits w (pos n)))
     (num-bits_small w (n / 2 ^ k) (lt_of_le_of_lt (shr_le n k) l) ∙ sym (num-shr (bits w (pos n)) k ∙ ap (λ (x : ℕ). x / 2 ^ k) (num-bits_small w n l)))
 
-bits-int_shr : (s : Bool) (B k : ℕ) (x : ℤ) → 1 ≤ B → k ≤ B → InRange s B x → bits B (int_shr x k) ≡ shr (bits B x) k (fill s (bits B x))
+pub bits-int_shr : (s : Bool) (B k : ℕ) (x : ℤ) → 1 ≤ B → k ≤ B → InRange s B x → bits B (int_shr x k) ≡ shr (bits B x) k (fill s (bits B x))
 bits-int_shr false B k (pos n) h g r = let t = r.high in let p = pow_pos B in shr-natural B n k g (omega (arith, ints))
 bits-int_shr false B k (negsuc n) h g r = let t = r.low in absurd (omega (arith, ints))
 bits-int_shr true B k (pos n) h g r =
@@ -56,7 +56,7 @@ bits-int_shr true B k (negsuc n) h g r =
     rw (bits-negsuc B (n / 2 ^ k), bits-negsuc B n, last-not (bits B (pos n)) (omega (arith, length-bits B (pos n))), last-natural B n h small, shr-natural B n k g (omega (arith, pow_half B h)))
     (sym (shr-not (bits B (pos n)) k false))
 
-InRange-int_shr : (s : Bool) (B k : ℕ) (x : ℤ) → InRange s B x → InRange s B (int_shr x k)
+pub InRange-int_shr : (s : Bool) (B k : ℕ) (x : ℤ) → InRange s B x → InRange s B (int_shr x k)
 InRange-int_shr false B k (pos n) r = let t = r.high in let d = shr_le n k in record { low = omega (arith, ints); high = omega (arith, ints) }
 InRange-int_shr false B k (negsuc n) r = let t = r.low in absurd (omega (arith, ints))
 InRange-int_shr true B k (pos n) r = let t = r.high in let d = shr_le n k in record { low = omega (arith, ints); high = omega (arith, ints) }
@@ -66,7 +66,7 @@ InRange-int_shr true B k (negsuc n) r =
     let p = pow_pos (B - 1) in
     record { low = omega (arith, ints); high = omega (arith, ints) }
 
-val-shr : (s : Bool) (B k : ℕ) (x : ℤ) → 1 ≤ B → k ≤ B → InRange s B x → val s (shr (bits B x) k (fill s (bits B x))) ≡ int_shr x k
+pub val-shr : (s : Bool) (B k : ℕ) (x : ℤ) → 1 ≤ B → k ≤ B → InRange s B x → val s (shr (bits B x) k (fill s (bits B x))) ≡ int_shr x k
 val-shr s B k x h g r =
     ap (val s) (sym (bits-int_shr s B k x h g r)) ∙ val-bits s B (int_shr x k) h ∙ wrap-of_in_range s B (int_shr x k) h (InRange-int_shr s B k x r)
 

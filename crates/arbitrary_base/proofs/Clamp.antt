@@ -23,13 +23,16 @@ clamp-in_range s B x y f e =
     let b : int_lt (hi s B) x ≡ false = let h = f.high in grind (arith, ints) in
     rw (a, b) e
 
-clamp-below : (s : Bool) (B : ℕ) (x : ℤ) → x <ℤ lo s B → clamp s B x ≡ lo s B
+pub clamp-fits : (s : Bool) (B : ℕ) (x : ℤ) → InRange s B x → clamp s B x ≡ x
+clamp-fits s B x h = sym (clamp-in_range s B x x h refl)
+
+pub clamp-below : (s : Bool) (B : ℕ) (x : ℤ) → x <ℤ lo s B → clamp s B x ≡ lo s B
 unfolding clamp
 clamp-below s B x f =
     let a : int_lt x (lo s B) ≡ true = grind (arith, ints) in
     rw a refl
 
-clamp-above : (s : Bool) (B : ℕ) (x : ℤ) → 1 ≤ B → hi s B <ℤ x → clamp s B x ≡ hi s B
+pub clamp-above : (s : Bool) (B : ℕ) (x : ℤ) → 1 ≤ B → hi s B <ℤ x → clamp s B x ≡ hi s B
 unfolding clamp
 clamp-above s B x h f =
     let e = span s B h in
@@ -38,6 +41,18 @@ clamp-above s B x h f =
     let a : int_lt x (lo s B) ≡ false = grind (arith, ints) in
     let b : int_lt (hi s B) x ≡ true = grind (arith, ints) in
     rw (a, b) refl
+
+-- what stays in range, as a caller sees it
+pub clamped-kept : (s : Bool) (B : ℕ) (x z : ℤ) → InRange s B x → z ≡ clamp s B x → z ≡ x
+clamped-kept s B x z h e = e ∙ clamp-fits s B x h
+
+pub clamped-above : (s : Bool) (B : ℕ) (x z : ℤ) → 1 ≤ B → hi s B <ℤ x → z ≡ clamp s B x → z ≡ hi s B
+clamped-above s B x z h f e = e ∙ clamp-above s B x h f
+
+pub clamped-below : (s : Bool) (B : ℕ) (x z : ℤ) → x <ℤ lo s B → z ≡ clamp s B x → z ≡ lo s B
+clamped-below s B x z f e = e ∙ clamp-below s B x f
+
+pub ruleset clamped = (clamp-fits, clamp-below, clamp-above)
 
 -- a number out of range, on the side that the flag tells
 pub clamp-out : (s : Bool) (B : ℕ) (x : ℤ) (low : Bool) → 1 ≤ B → (InRange s B x → ⊥) → (low ≡ true → x ≤ℤ pos 0) → (low ≡ false → lo s B ≤ℤ x)

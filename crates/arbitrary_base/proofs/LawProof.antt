@@ -1,57 +1,74 @@
 -- The laws of specs/Laws: those that no other proof needs are proved here, and `laws` cites all by these names.
-use Rattle.std.specs.Prelude.{◌≡◌, ◌≢◌, ◌↔◌, ℕ, ℤ, Bool, true, false, pos, Option, Some, None, int_div, IsTrue, if◌then◌else◌, ◌||◌, ◌+ℤ◌, ◌*ℤ◌, ◌≤◌}
+use Rattle.std.specs.Prelude.{◌≡◌, ◌≢◌, ◌↔◌, ℕ, zero, suc, ℤ, Bool, true, false, pos, Option, Some, None, int_div, int_le, IsTrue, if◌then◌else◌, ◌&&◌, ◌||◌, ◌+ℤ◌, ◌-ℤ◌, ◌*ℤ◌, ◌≤◌, ◌<◌}
 use Rattle.std.specs.Ordering.{int_eq}
 use Rattle.std.proofs.Common.{arith, refl, ap, sym, ◌∙◌}
 use Rattle.std.proofs.lemmas.Int.{ints}
 use Rattle.std.proofs.lemmas.List.{reverse-reverse}
 use Rattle.std.proofs.lemmas.List.Sums.{prefix_len-le-length}
 use Rattle.std.proofs.Math.IntN.{*ℤ_comm}
-use Rattle.arbitrary_base.specs.Range.{InRange}
+use Rattle.arbitrary_base.specs.Range.{InRange, in_range, lo, hi}
 use Rattle.arbitrary_base.specs.Residue.{Congruent, wrap}
 use Rattle.arbitrary_base.specs.Exact.{ExactOrNone, QuotientOrNone}
 use Rattle.arbitrary_base.proofs.Ring.{add-mul_z, mul_assoc_z}
 use Rattle.arbitrary_base.proofs.Congruence.{Congruent-refl, Congruent-add, Congruent-mul}
-use Rattle.arbitrary_base.proofs.Wrap.{wrap-of_in_range, wrap-in_range, wrap-congruent, wrap-unique, wrap-same}
+use Rattle.arbitrary_base.proofs.Wrap.{residue-lt, wrap-of_in_range, wrap-in_range, wrap-congruent, wrap-unique, wrap-same}
 use Rattle.arbitrary_base.proofs.BitShift.{rotr-rotl, items-items}
 use Rattle.arbitrary_base.proofs.BitCount.{ones-not, tail-le}
-use Rattle.arbitrary_base.proofs.BitValue.{val-bits_in_range, bits-val}
+use Rattle.arbitrary_base.proofs.BitNumber.{length-bits}
+use Rattle.arbitrary_base.proofs.BitValue.{val-bits_in_range, bits-val, num-bits_residue}
+use Rattle.arbitrary_base.proofs.Clamp.{clamp-fits, clamp-above, clamp-below}
+use Rattle.arbitrary_base.proofs.Extracted.{field-items}
+
+pub wrap-within : (s : Bool) (B : ℕ) (x : ℤ) → InRange s B (wrap s B x)
+unfolding wrap
+wrap-within false zero x = let r = residue-lt 0 (x -ℤ lo false 0) in record { low = omega (arith, ints); high = omega (arith, ints) }
+wrap-within true zero x = let r = residue-lt 0 (x -ℤ lo true 0) in record { low = omega (arith, ints); high = omega (arith, ints) }
+wrap-within s (suc k) x = wrap-in_range s (suc k) x (omega arith)
 
 pub is-wrap : (s : Bool) (B : ℕ) (x y : ℤ) → 1 ≤ B → InRange s B y → Congruent B y x → y ≡ wrap s B x
 is-wrap s B x y h f c = sym (wrap-unique s B x y h f c)
 
-pub ruleset wrap_rules = (wrap-congruent, is-wrap)
+pub ruleset wrap_rules = (wrap-within, wrap-congruent, is-wrap, wrap-of_in_range)
+
+-- congruent numbers wrap alike, at a width of 0 too, where one number is left
+wrap-alike : (s : Bool) (B : ℕ) (x y : ℤ) → Congruent B x y → wrap s B x ≡ wrap s B y
+unfolding wrap
+wrap-alike s zero x y c =
+    let r = residue-lt 0 (x -ℤ lo s 0) in
+    let t = residue-lt 0 (y -ℤ lo s 0) in
+    ap (λ (n : ℕ). lo s 0 +ℤ pos n) (omega arith)
+wrap-alike s (suc k) x y c = wrap-same s (suc k) x y (omega arith) c
 
 -- what is added, or multiplied by, may wrap first
-sum-left : (s : Bool) (B : ℕ) (x y : ℤ) → 1 ≤ B → wrap s B (wrap s B x +ℤ y) ≡ wrap s B (x +ℤ y)
-sum-left s B x y h = wrap-same s B _ _ h (Congruent-add B _ x y y (wrap-congruent s B x) (Congruent-refl B y))
+sum-left : (s : Bool) (B : ℕ) (x y : ℤ) → wrap s B (wrap s B x +ℤ y) ≡ wrap s B (x +ℤ y)
+sum-left s B x y = wrap-alike s B _ _ (Congruent-add B _ x y y (wrap-congruent s B x) (Congruent-refl B y))
 
-sum-right : (s : Bool) (B : ℕ) (x y : ℤ) → 1 ≤ B → wrap s B (x +ℤ wrap s B y) ≡ wrap s B (x +ℤ y)
-sum-right s B x y h = wrap-same s B _ _ h (Congruent-add B x x _ y (Congruent-refl B x) (wrap-congruent s B y))
+sum-right : (s : Bool) (B : ℕ) (x y : ℤ) → wrap s B (x +ℤ wrap s B y) ≡ wrap s B (x +ℤ y)
+sum-right s B x y = wrap-alike s B _ _ (Congruent-add B x x _ y (Congruent-refl B x) (wrap-congruent s B y))
 
-product-left : (s : Bool) (B : ℕ) (x y : ℤ) → 1 ≤ B → wrap s B (wrap s B x *ℤ y) ≡ wrap s B (x *ℤ y)
-product-left s B x y h = wrap-same s B _ _ h (Congruent-mul B _ x y y (wrap-congruent s B x) (Congruent-refl B y))
+product-left : (s : Bool) (B : ℕ) (x y : ℤ) → wrap s B (wrap s B x *ℤ y) ≡ wrap s B (x *ℤ y)
+product-left s B x y = wrap-alike s B _ _ (Congruent-mul B _ x y y (wrap-congruent s B x) (Congruent-refl B y))
 
-product-right : (s : Bool) (B : ℕ) (x y : ℤ) → 1 ≤ B → wrap s B (x *ℤ wrap s B y) ≡ wrap s B (x *ℤ y)
-product-right s B x y h = wrap-same s B _ _ h (Congruent-mul B x x _ y (Congruent-refl B x) (wrap-congruent s B y))
+product-right : (s : Bool) (B : ℕ) (x y : ℤ) → wrap s B (x *ℤ wrap s B y) ≡ wrap s B (x *ℤ y)
+product-right s B x y = wrap-alike s B _ _ (Congruent-mul B x x _ y (Congruent-refl B x) (wrap-congruent s B y))
 
 pub sums-commute : (s : Bool) (B : ℕ) (x y : ℤ) → wrap s B (x +ℤ y) ≡ wrap s B (y +ℤ x)
 sums-commute s B x y = ap (wrap s B) (omega (arith, ints))
 
-pub sums-associate : (s : Bool) (B : ℕ) (x y z : ℤ) → 1 ≤ B → wrap s B (wrap s B (x +ℤ y) +ℤ z) ≡ wrap s B (x +ℤ wrap s B (y +ℤ z))
-sums-associate s B x y z h = sum-left s B (x +ℤ y) z h ∙ ap (wrap s B) (omega (arith, ints)) ∙ sym (sum-right s B x (y +ℤ z) h)
+pub sums-associate : (s : Bool) (B : ℕ) (x y z : ℤ) → wrap s B (wrap s B (x +ℤ y) +ℤ z) ≡ wrap s B (x +ℤ wrap s B (y +ℤ z))
+sums-associate s B x y z = sum-left s B (x +ℤ y) z ∙ ap (wrap s B) (omega (arith, ints)) ∙ sym (sum-right s B x (y +ℤ z))
 
 pub products-commute : (s : Bool) (B : ℕ) (x y : ℤ) → wrap s B (x *ℤ y) ≡ wrap s B (y *ℤ x)
 products-commute s B x y = ap (wrap s B) (*ℤ_comm x y)
 
-pub products-associate : (s : Bool) (B : ℕ) (x y z : ℤ) → 1 ≤ B → wrap s B (wrap s B (x *ℤ y) *ℤ z) ≡ wrap s B (x *ℤ wrap s B (y *ℤ z))
-products-associate s B x y z h = product-left s B (x *ℤ y) z h ∙ ap (wrap s B) (mul_assoc_z x y z) ∙ sym (product-right s B x (y *ℤ z) h)
+pub products-associate : (s : Bool) (B : ℕ) (x y z : ℤ) → wrap s B (wrap s B (x *ℤ y) *ℤ z) ≡ wrap s B (x *ℤ wrap s B (y *ℤ z))
+products-associate s B x y z = product-left s B (x *ℤ y) z ∙ ap (wrap s B) (mul_assoc_z x y z) ∙ sym (product-right s B x (y *ℤ z))
 
-pub products-distribute : (s : Bool) (B : ℕ) (x y z : ℤ) → 1 ≤ B
-    → wrap s B (x *ℤ wrap s B (y +ℤ z)) ≡ wrap s B (wrap s B (x *ℤ y) +ℤ wrap s B (x *ℤ z))
-products-distribute s B x y z h =
+pub products-distribute : (s : Bool) (B : ℕ) (x y z : ℤ) → wrap s B (x *ℤ wrap s B (y +ℤ z)) ≡ wrap s B (wrap s B (x *ℤ y) +ℤ wrap s B (x *ℤ z))
+products-distribute s B x y z =
     let e : x *ℤ (y +ℤ z) ≡ x *ℤ y +ℤ x *ℤ z = *ℤ_comm x (y +ℤ z) ∙ add-mul_z y z x ∙ (λ i. *ℤ_comm y x i +ℤ *ℤ_comm z x i) in
-    product-right s B x (y +ℤ z) h ∙ ap (wrap s B) e
-    ∙ sym (sum-left s B (x *ℤ y) (wrap s B (x *ℤ z)) h ∙ sum-right s B (x *ℤ y) (x *ℤ z) h)
+    product-right s B x (y +ℤ z) ∙ ap (wrap s B) e
+    ∙ sym (sum-left s B (x *ℤ y) (wrap s B (x *ℤ z)) ∙ sum-right s B (x *ℤ y) (x *ℤ z))
 
 pub ruleset wrapped_arithmetic_rules = (sums-commute, sums-associate, products-commute, products-associate, products-distribute)
 
@@ -84,4 +101,10 @@ checked-quotient_tells s B x y checked w overflow h e f = by_divisor (int_eq y (
 
 pub ruleset checked_rules = (checked-tells, checked-quotient_tells)
 
-pub ruleset bit_list_rules = (val-bits_in_range, bits-val, rotr-rotl, reverse-reverse, ones-not, prefix_len-le-length, tail-le, items-items)
+pub in_range-tells : (s : Bool) (B : ℕ) (x : ℤ) → IsTrue (in_range s B x) ↔ InRange s B x
+unfolding in_range
+in_range-tells s B x = ((λ t. record { low = grind (arith, ints); high = grind (arith, ints) }), (λ f. let l = f.low in let h = f.high in grind (arith, ints)))
+
+pub ruleset range_rules = (in_range-tells, clamp-fits, clamp-above, clamp-below)
+
+pub ruleset bit_list_rules = (length-bits, num-bits_residue, field-items, val-bits_in_range, bits-val, rotr-rotl, reverse-reverse, ones-not, prefix_len-le-length, tail-le, items-items)

@@ -18,3 +18,8 @@ pub mod LowBits
 pub mod LawProof
 pub mod Powers
 pub mod Squaring
+pub mod Wrapped
+pub mod BitArithmetic
+pub mod Undone
+pub mod Shifted
+pub mod Extracted

@@ -1,15 +1,17 @@
 -- The laws of what wraps and of bit lists, as statements. `laws` proves them.
-use Rattle.std.specs.Prelude.{◌≡◌, ◌≢◌, ◌↔◌, ℕ, ℤ, Bool, List, Option, Some, None, pos, length, reverse, int_div, IsTrue, if◌then◌else◌, ◌||◌, ◌+◌, ◌≤◌, ◌<◌, ◌+ℤ◌, ◌-ℤ◌, ◌*ℤ◌}
+use Rattle.std.specs.Prelude.{◌≡◌, ◌≢◌, ◌↔◌, ℕ, ℤ, Bool, List, Option, Some, None, pos, length, reverse, int_div, IsTrue, if◌then◌else◌, ◌||◌, ◌+◌, ◌≤◌, ◌<◌, ◌+ℤ◌, ◌-ℤ◌, ◌*ℤ◌, false, ◌^◌, ◌<ℤ◌}
 use Rattle.std.specs.Ordering.{int_eq}
-use Rattle.arbitrary_base.specs.Range.{InRange}
-use Rattle.arbitrary_base.specs.Residue.{Congruent, wrap}
+use Rattle.arbitrary_base.specs.Range.{InRange, in_range, lo, hi}
+use Rattle.arbitrary_base.specs.Residue.{Congruent, residue, wrap}
+use Rattle.arbitrary_base.specs.Field.{field}
+use Rattle.arbitrary_base.specs.Saturation.{clamp}
 use Rattle.arbitrary_base.specs.Exact.{ExactOrNone, QuotientOrNone}
-use Rattle.arbitrary_base.specs.BitList.{bits, val, bits_and, bits_or, bits_xor, shl, rotl, rotr, ones, front, tail, bits_not, items}
+use Rattle.arbitrary_base.specs.BitList.{bits, val, bits_and, bits_or, bits_xor, shl, rotl, rotr, ones, front, tail, bits_not, items, num}
 
 -- ---- what `wrap` is
 
 abbrev pub WrapIsInRange : Type 0
-WrapIsInRange = (s : Bool) (B : ℕ) (x : ℤ) → 1 ≤ B → InRange s B (wrap s B x)
+WrapIsInRange = (s : Bool) (B : ℕ) (x : ℤ) → InRange s B (wrap s B x)
 
 abbrev pub WrapIsCongruent : Type 0
 WrapIsCongruent = (s : Bool) (B : ℕ) (x : ℤ) → Congruent B (wrap s B x) x
@@ -18,22 +20,39 @@ WrapIsCongruent = (s : Bool) (B : ℕ) (x : ℤ) → Congruent B (wrap s B x) x
 abbrev pub WrapIsUnique : Type 0
 WrapIsUnique = (s : Bool) (B : ℕ) (x y : ℤ) → 1 ≤ B → InRange s B y → Congruent B y x → y ≡ wrap s B x
 
+abbrev pub WrapKeeps : Type 0
+WrapKeeps = (s : Bool) (B : ℕ) (x : ℤ) → 1 ≤ B → InRange s B x → wrap s B x ≡ x
+
+-- ---- the range, and the nearest number in it
+
+abbrev pub TestTellsRange : Type 0
+TestTellsRange = (s : Bool) (B : ℕ) (x : ℤ) → IsTrue (in_range s B x) ↔ InRange s B x
+
+abbrev pub ClampKeeps : Type 0
+ClampKeeps = (s : Bool) (B : ℕ) (x : ℤ) → InRange s B x → clamp s B x ≡ x
+
+abbrev pub ClampEndsAbove : Type 0
+ClampEndsAbove = (s : Bool) (B : ℕ) (x : ℤ) → 1 ≤ B → hi s B <ℤ x → clamp s B x ≡ hi s B
+
+abbrev pub ClampEndsBelow : Type 0
+ClampEndsBelow = (s : Bool) (B : ℕ) (x : ℤ) → x <ℤ lo s B → clamp s B x ≡ lo s B
+
 -- ---- sums and products that wrap
 
 abbrev pub WrappedSumsCommute : Type 0
 WrappedSumsCommute = (s : Bool) (B : ℕ) (x y : ℤ) → wrap s B (x +ℤ y) ≡ wrap s B (y +ℤ x)
 
 abbrev pub WrappedSumsAssociate : Type 0
-WrappedSumsAssociate = (s : Bool) (B : ℕ) (x y z : ℤ) → 1 ≤ B → wrap s B (wrap s B (x +ℤ y) +ℤ z) ≡ wrap s B (x +ℤ wrap s B (y +ℤ z))
+WrappedSumsAssociate = (s : Bool) (B : ℕ) (x y z : ℤ) → wrap s B (wrap s B (x +ℤ y) +ℤ z) ≡ wrap s B (x +ℤ wrap s B (y +ℤ z))
 
 abbrev pub WrappedProductsCommute : Type 0
 WrappedProductsCommute = (s : Bool) (B : ℕ) (x y : ℤ) → wrap s B (x *ℤ y) ≡ wrap s B (y *ℤ x)
 
 abbrev pub WrappedProductsAssociate : Type 0
-WrappedProductsAssociate = (s : Bool) (B : ℕ) (x y z : ℤ) → 1 ≤ B → wrap s B (wrap s B (x *ℤ y) *ℤ z) ≡ wrap s B (x *ℤ wrap s B (y *ℤ z))
+WrappedProductsAssociate = (s : Bool) (B : ℕ) (x y z : ℤ) → wrap s B (wrap s B (x *ℤ y) *ℤ z) ≡ wrap s B (x *ℤ wrap s B (y *ℤ z))
 
 abbrev pub WrappedProductsDistribute : Type 0
-WrappedProductsDistribute = (s : Bool) (B : ℕ) (x y z : ℤ) → 1 ≤ B → wrap s B (x *ℤ wrap s B (y +ℤ z)) ≡ wrap s B (wrap s B (x *ℤ y) +ℤ wrap s B (x *ℤ z))
+WrappedProductsDistribute = (s : Bool) (B : ℕ) (x y z : ℤ) → wrap s B (x *ℤ wrap s B (y +ℤ z)) ≡ wrap s B (wrap s B (x *ℤ y) +ℤ wrap s B (x *ℤ z))
 
 -- ---- checked and overflowing answers
 
@@ -51,6 +70,12 @@ CheckedQuotientTellsOverflow = (s : Bool) (B : ℕ) (x y : ℤ) (checked : Optio
     → checked ≡ (if int_eq y (pos 0) || overflow then None else Some wrapped)
 
 -- ---- bit lists and the numbers that have them
+
+abbrev pub LengthOfBits : Type 0
+LengthOfBits = (B : ℕ) (x : ℤ) → length (bits B x) ≡ B
+
+abbrev pub NumberOfBits : Type 0
+NumberOfBits = (B : ℕ) (x : ℤ) → num (bits B x) ≡ residue B x
 
 abbrev pub ValueOfBits : Type 0
 ValueOfBits = (s : Bool) (B : ℕ) (x : ℤ) → 1 ≤ B → InRange s B x → val s (bits B x) ≡ x
@@ -76,6 +101,11 @@ EndRunsFit = (b : Bool) (l : List Bool) → tail b l ≤ length l
 -- items t .. t + A - 1 of items s .. s + B - 1 are items s + t .. s + t + A - 1
 abbrev pub ExtractionComposes : Type 0
 ExtractionComposes = (s t A B : ℕ) (l : List Bool) → t + A ≤ B → items t A (items s B l) ≡ items (s + t) A l
+
+-- a field of a word of W bits is what is extracted from it
+abbrev pub FieldIsExtracted : Type 0
+FieldIsExtracted = (W start width word : ℕ) → 1 ≤ width → start + width ≤ W → word < 2 ^ W
+    → val false (items start width (bits W (pos word))) ≡ field word start width
 
 -- ---- between two widths: s and A are the sign and the width of the narrow type, t and B those of the wide one
 

@@ -1,5 +1,6 @@
 pub mod Range
 pub mod Residue
+pub mod Field
 pub mod Saturation
 pub mod Exact
 pub mod BitList

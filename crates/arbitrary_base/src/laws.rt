@@ -1,7 +1,7 @@
 //! The laws of the definitions that the contracts cite. Each function proves its clauses, and does nothing.
 
 ghost use Rattle.arbitrary_base.specs.BitField.{PutSetsItsBits, PutKeepsOtherBits, FieldAfterPut, PutsSetTheirBits, PutsKeepOtherBits, FieldAfterPuts, PutsInAnyOrder, DisjointPutsCommute};
-ghost use Rattle.arbitrary_base.specs.Laws.{WrapIsInRange, WrapIsCongruent, WrapIsUnique, WrappedSumsCommute, WrappedSumsAssociate, WrappedProductsCommute, WrappedProductsAssociate, WrappedProductsDistribute, CheckedTellsOverflow, CheckedQuotientTellsOverflow, ValueOfBits, BitsOfValue, RotationsUndo, ReversalUndoesItself, OnesAddUp, FrontRunsFit, EndRunsFit, ExtractionComposes, SumsKeepLowBits, DifferencesKeepLowBits, ProductsKeepLowBits, AndKeepsLowBits, OrKeepsLowBits, XorKeepsLowBits, ComplementsKeepLowBits, LeftShiftsKeepLowBits};
+ghost use Rattle.arbitrary_base.specs.Laws.{WrapIsInRange, WrapIsCongruent, WrapIsUnique, WrappedSumsCommute, WrappedSumsAssociate, WrappedProductsCommute, WrappedProductsAssociate, WrappedProductsDistribute, CheckedTellsOverflow, CheckedQuotientTellsOverflow, ValueOfBits, BitsOfValue, RotationsUndo, ReversalUndoesItself, OnesAddUp, FrontRunsFit, EndRunsFit, ExtractionComposes, SumsKeepLowBits, DifferencesKeepLowBits, ProductsKeepLowBits, AndKeepsLowBits, OrKeepsLowBits, XorKeepsLowBits, ComplementsKeepLowBits, LeftShiftsKeepLowBits, WrapKeeps, TestTellsRange, ClampKeeps, ClampEndsAbove, ClampEndsBelow, LengthOfBits, NumberOfBits, FieldIsExtracted};
 
 /// What `wrap` is: the one number of the type that is congruent modulo `2 ^ bits`.
 #[tactic(auto, using(crate::proofs::LawProof::wrap_rules))]
@@ -9,6 +9,17 @@ pub fn wrap_laws()
     ensures in_range { WrapIsInRange }
     ensures congruent { WrapIsCongruent }
     ensures unique { WrapIsUnique }
+    ensures keeps { WrapKeeps }
+{}
+
+/// `in_range` tells whether a number is in range; `clamp` keeps those that are, and takes the others to
+/// the end of the range that is nearest.
+#[tactic(auto, using(crate::proofs::LawProof::range_rules))]
+pub fn range_laws()
+    ensures test { TestTellsRange }
+    ensures keeps { ClampKeeps }
+    ensures above { ClampEndsAbove }
+    ensures below { ClampEndsBelow }
 {}
 
 /// Sums and products that wrap commute and associate, and the products distribute over the sums.
@@ -30,9 +41,11 @@ pub fn checked_laws()
 {}
 
 /// A number in range and its bits tell each other; rotations and reversals undo each other; the counts
-/// fit the list; a part of a part is a part.
+/// fit the list; a part of a part is a part, and what is extracted from a word is a field of it.
 #[tactic(auto, using(crate::proofs::LawProof::bit_list_rules))]
 pub fn bit_list_laws()
+    ensures length { LengthOfBits }
+    ensures number { NumberOfBits }
     ensures value_of_bits { ValueOfBits }
     ensures bits_of_value { BitsOfValue }
     ensures rotations { RotationsUndo }
@@ -41,6 +54,7 @@ pub fn bit_list_laws()
     ensures front_runs { FrontRunsFit }
     ensures end_runs { EndRunsFit }
     ensures extraction { ExtractionComposes }
+    ensures field { FieldIsExtracted }
 {}
 
 /// What a low-bit operation answers at a wide type, wrapped at a narrow one, is what it answers at the narrow type

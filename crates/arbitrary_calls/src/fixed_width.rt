@@ -1,8 +1,9 @@
 //! What every integer of fixed width can do, each call written once for both types.
 
-ghost use Rattle.std.specs.Prelude.{◌≡◌, ◌≢◌, ◌↔◌, ◌≤◌, ◌+◌, ◌-◌, ◌*◌, ◌%◌, ◌+ℤ◌, ◌-ℤ◌, ◌*ℤ◌, pos, IsTrue, IsNone, IfSome, false, true, int_div, reverse};
-ghost use Rattle.arbitrary_base.specs.Range.{InRange};
-ghost use Rattle.arbitrary_base.specs.Residue.{wrap};
+ghost use Rattle.std.specs.Prelude.{◌≡◌, ◌≢◌, ◌↔◌, ◌≤◌, ◌+◌, ◌-◌, ◌*◌, ◌/◌, ◌%◌, ◌^◌, ◌≤ℤ◌, ◌<ℤ◌, ◌+ℤ◌, ◌-ℤ◌, ◌*ℤ◌, ℤ, pos, unsigned_abs, IsTrue, IsNone, IfSome, false, true, int_div, reverse};
+ghost use Rattle.arbitrary_base.specs.Range.{InRange, lo, hi};
+ghost use Rattle.arbitrary_base.specs.Residue.{Congruent, wrap};
+ghost use Rattle.arbitrary_base.specs.Field.{IsField};
 ghost use Rattle.arbitrary_base.specs.Saturation.{clamp};
 ghost use Rattle.arbitrary_base.specs.Exact.{ExactOrNone, QuotientOrNone};
 ghost use Rattle.arbitrary_base.specs.Power.{power, binary_digits};
@@ -57,15 +58,23 @@ pub trait FixedWidth: Integer {
         → Self.number r ≡ val Self.IS_SIGNED (bits_not (bits Self.BITS (Self.number a))) };
 
     /// The sum, wrapped.
+    #[tactic(auto, using(arbitrary_base::proofs::Wrapped::wrapped))]
     final fn wrapping_add(self, rhs: Self) -> Self
-        ensures { Self.number result ≡ wrap Self.IS_SIGNED Self.BITS (Self.number self +ℤ Self.number rhs) }
+        ensures value { Self.number result ≡ wrap Self.IS_SIGNED Self.BITS (Self.number self +ℤ Self.number rhs) }
+        ensures kept { InRange Self.IS_SIGNED Self.BITS (Self.number self +ℤ Self.number rhs) → Self.number result ≡ Self.number self +ℤ Self.number rhs }
+        ensures congruent { Congruent Self.BITS (Self.number result) (Self.number self +ℤ Self.number rhs) }
+        ensures undo { (y : ℤ) → InRange Self.IS_SIGNED Self.BITS y → Self.number self ≡ wrap Self.IS_SIGNED Self.BITS (y -ℤ Self.number rhs) → Self.number result ≡ y }
     {
         Self::from_kept(wrapping::add(self.kept(), rhs.kept(), Self::BITS))
     }
 
     /// The sum, or the end of the range that is nearest to it.
+    #[tactic(auto, using(arbitrary_base::proofs::Clamp::clamped))]
     final fn saturating_add(self, rhs: Self) -> Self
-        ensures { Self.number result ≡ clamp Self.IS_SIGNED Self.BITS (Self.number self +ℤ Self.number rhs) }
+        ensures value { Self.number result ≡ clamp Self.IS_SIGNED Self.BITS (Self.number self +ℤ Self.number rhs) }
+        ensures kept { InRange Self.IS_SIGNED Self.BITS (Self.number self +ℤ Self.number rhs) → Self.number result ≡ Self.number self +ℤ Self.number rhs }
+        ensures above { hi Self.IS_SIGNED Self.BITS <ℤ (Self.number self +ℤ Self.number rhs) → Self.number result ≡ hi Self.IS_SIGNED Self.BITS }
+        ensures below { (Self.number self +ℤ Self.number rhs) <ℤ lo Self.IS_SIGNED Self.BITS → Self.number result ≡ lo Self.IS_SIGNED Self.BITS }
     {
         Self::from_kept(saturating::add(self.kept(), rhs.kept(), Self::BITS))
     }
@@ -81,24 +90,35 @@ pub trait FixedWidth: Integer {
     }
 
     /// The sum, wrapped, and whether the exact one is out of range.
+    #[tactic(auto, using(arbitrary_base::proofs::Wrapped::wrapped))]
     final fn overflowing_add(self, rhs: Self) -> (Self, bool)
         ensures value { Self.number result.0 ≡ wrap Self.IS_SIGNED Self.BITS (Self.number self +ℤ Self.number rhs) }
         ensures overflow { IsTrue result.1 ↔ ¬ (InRange Self.IS_SIGNED Self.BITS (Self.number self +ℤ Self.number rhs)) }
+        ensures kept { InRange Self.IS_SIGNED Self.BITS (Self.number self +ℤ Self.number rhs) → Self.number result.0 ≡ Self.number self +ℤ Self.number rhs }
+        ensures congruent { Congruent Self.BITS (Self.number result.0) (Self.number self +ℤ Self.number rhs) }
     {
         let (sum, overflow) = overflowing::add(self.kept(), rhs.kept(), Self::BITS);
         (Self::from_kept(sum), overflow)
     }
 
     /// The difference, wrapped.
+    #[tactic(auto, using(arbitrary_base::proofs::Wrapped::wrapped))]
     final fn wrapping_sub(self, rhs: Self) -> Self
-        ensures { Self.number result ≡ wrap Self.IS_SIGNED Self.BITS (Self.number self -ℤ Self.number rhs) }
+        ensures value { Self.number result ≡ wrap Self.IS_SIGNED Self.BITS (Self.number self -ℤ Self.number rhs) }
+        ensures kept { InRange Self.IS_SIGNED Self.BITS (Self.number self -ℤ Self.number rhs) → Self.number result ≡ Self.number self -ℤ Self.number rhs }
+        ensures congruent { Congruent Self.BITS (Self.number result) (Self.number self -ℤ Self.number rhs) }
+        ensures undo { (y : ℤ) → InRange Self.IS_SIGNED Self.BITS y → Self.number self ≡ wrap Self.IS_SIGNED Self.BITS (y +ℤ Self.number rhs) → Self.number result ≡ y }
     {
         Self::from_kept(wrapping::sub(self.kept(), rhs.kept(), Self::BITS))
     }
 
     /// The difference, or the end of the range that is nearest to it.
+    #[tactic(auto, using(arbitrary_base::proofs::Clamp::clamped))]
     final fn saturating_sub(self, rhs: Self) -> Self
-        ensures { Self.number result ≡ clamp Self.IS_SIGNED Self.BITS (Self.number self -ℤ Self.number rhs) }
+        ensures value { Self.number result ≡ clamp Self.IS_SIGNED Self.BITS (Self.number self -ℤ Self.number rhs) }
+        ensures kept { InRange Self.IS_SIGNED Self.BITS (Self.number self -ℤ Self.number rhs) → Self.number result ≡ Self.number self -ℤ Self.number rhs }
+        ensures above { hi Self.IS_SIGNED Self.BITS <ℤ (Self.number self -ℤ Self.number rhs) → Self.number result ≡ hi Self.IS_SIGNED Self.BITS }
+        ensures below { (Self.number self -ℤ Self.number rhs) <ℤ lo Self.IS_SIGNED Self.BITS → Self.number result ≡ lo Self.IS_SIGNED Self.BITS }
     {
         Self::from_kept(saturating::sub(self.kept(), rhs.kept(), Self::BITS))
     }
@@ -114,24 +134,34 @@ pub trait FixedWidth: Integer {
     }
 
     /// The difference, wrapped, and whether the exact one is out of range.
+    #[tactic(auto, using(arbitrary_base::proofs::Wrapped::wrapped))]
     final fn overflowing_sub(self, rhs: Self) -> (Self, bool)
         ensures value { Self.number result.0 ≡ wrap Self.IS_SIGNED Self.BITS (Self.number self -ℤ Self.number rhs) }
         ensures overflow { IsTrue result.1 ↔ ¬ (InRange Self.IS_SIGNED Self.BITS (Self.number self -ℤ Self.number rhs)) }
+        ensures kept { InRange Self.IS_SIGNED Self.BITS (Self.number self -ℤ Self.number rhs) → Self.number result.0 ≡ Self.number self -ℤ Self.number rhs }
+        ensures congruent { Congruent Self.BITS (Self.number result.0) (Self.number self -ℤ Self.number rhs) }
     {
         let (difference, overflow) = overflowing::sub(self.kept(), rhs.kept(), Self::BITS);
         (Self::from_kept(difference), overflow)
     }
 
     /// The product, wrapped.
+    #[tactic(auto, using(arbitrary_base::proofs::Wrapped::wrapped))]
     final fn wrapping_mul(self, rhs: Self) -> Self
-        ensures { Self.number result ≡ wrap Self.IS_SIGNED Self.BITS (Self.number self *ℤ Self.number rhs) }
+        ensures value { Self.number result ≡ wrap Self.IS_SIGNED Self.BITS (Self.number self *ℤ Self.number rhs) }
+        ensures kept { InRange Self.IS_SIGNED Self.BITS (Self.number self *ℤ Self.number rhs) → Self.number result ≡ Self.number self *ℤ Self.number rhs }
+        ensures congruent { Congruent Self.BITS (Self.number result) (Self.number self *ℤ Self.number rhs) }
     {
         Self::from_kept(wrapping::mul(self.kept(), rhs.kept(), Self::BITS))
     }
 
     /// The product, or the end of the range that is nearest to it.
+    #[tactic(auto, using(arbitrary_base::proofs::Clamp::clamped))]
     final fn saturating_mul(self, rhs: Self) -> Self
-        ensures { Self.number result ≡ clamp Self.IS_SIGNED Self.BITS (Self.number self *ℤ Self.number rhs) }
+        ensures value { Self.number result ≡ clamp Self.IS_SIGNED Self.BITS (Self.number self *ℤ Self.number rhs) }
+        ensures kept { InRange Self.IS_SIGNED Self.BITS (Self.number self *ℤ Self.number rhs) → Self.number result ≡ Self.number self *ℤ Self.number rhs }
+        ensures above { hi Self.IS_SIGNED Self.BITS <ℤ (Self.number self *ℤ Self.number rhs) → Self.number result ≡ hi Self.IS_SIGNED Self.BITS }
+        ensures below { (Self.number self *ℤ Self.number rhs) <ℤ lo Self.IS_SIGNED Self.BITS → Self.number result ≡ lo Self.IS_SIGNED Self.BITS }
     {
         Self::from_kept(saturating::mul(self.kept(), rhs.kept(), Self::BITS))
     }
@@ -147,26 +177,35 @@ pub trait FixedWidth: Integer {
     }
 
     /// The product, wrapped, and whether the exact one is out of range.
+    #[tactic(auto, using(arbitrary_base::proofs::Wrapped::wrapped))]
     final fn overflowing_mul(self, rhs: Self) -> (Self, bool)
         ensures value { Self.number result.0 ≡ wrap Self.IS_SIGNED Self.BITS (Self.number self *ℤ Self.number rhs) }
         ensures overflow { IsTrue result.1 ↔ ¬ (InRange Self.IS_SIGNED Self.BITS (Self.number self *ℤ Self.number rhs)) }
+        ensures kept { InRange Self.IS_SIGNED Self.BITS (Self.number self *ℤ Self.number rhs) → Self.number result.0 ≡ Self.number self *ℤ Self.number rhs }
+        ensures congruent { Congruent Self.BITS (Self.number result.0) (Self.number self *ℤ Self.number rhs) }
     {
         let (product, overflow) = overflowing::mul(self.kept(), rhs.kept(), Self::BITS);
         (Self::from_kept(product), overflow)
     }
 
     /// The quotient, wrapped. The divisor is not zero.
+    #[tactic(auto, using(arbitrary_base::proofs::Wrapped::wrapped))]
     final fn wrapping_div(self, rhs: Self) -> Self
         requires { Self.number rhs ≢ pos 0 }
-        ensures { Self.number result ≡ wrap Self.IS_SIGNED Self.BITS (int_div (Self.number self) (Self.number rhs)) }
+        ensures value { Self.number result ≡ wrap Self.IS_SIGNED Self.BITS (int_div (Self.number self) (Self.number rhs)) }
+        ensures kept { InRange Self.IS_SIGNED Self.BITS (int_div (Self.number self) (Self.number rhs)) → Self.number result ≡ int_div (Self.number self) (Self.number rhs) }
     {
         Self::from_kept(wrapping::div(self.kept(), rhs.kept(), Self::BITS))
     }
 
     /// The quotient, or the end of the range that is nearest to it. The divisor is not zero.
+    #[tactic(auto, using(arbitrary_base::proofs::Clamp::clamped))]
     final fn saturating_div(self, rhs: Self) -> Self
         requires { Self.number rhs ≢ pos 0 }
-        ensures { Self.number result ≡ clamp Self.IS_SIGNED Self.BITS (int_div (Self.number self) (Self.number rhs)) }
+        ensures value { Self.number result ≡ clamp Self.IS_SIGNED Self.BITS (int_div (Self.number self) (Self.number rhs)) }
+        ensures kept { InRange Self.IS_SIGNED Self.BITS (int_div (Self.number self) (Self.number rhs)) → Self.number result ≡ int_div (Self.number self) (Self.number rhs) }
+        ensures above { hi Self.IS_SIGNED Self.BITS <ℤ (int_div (Self.number self) (Self.number rhs)) → Self.number result ≡ hi Self.IS_SIGNED Self.BITS }
+        ensures below { (int_div (Self.number self) (Self.number rhs)) <ℤ lo Self.IS_SIGNED Self.BITS → Self.number result ≡ lo Self.IS_SIGNED Self.BITS }
     {
         Self::from_kept(saturating::div(self.kept(), rhs.kept(), Self::BITS))
     }
@@ -182,28 +221,38 @@ pub trait FixedWidth: Integer {
     }
 
     /// The quotient, wrapped, and whether the exact one is out of range. The divisor is not zero.
+    #[tactic(auto, using(arbitrary_base::proofs::Wrapped::wrapped))]
     final fn overflowing_div(self, rhs: Self) -> (Self, bool)
         requires { Self.number rhs ≢ pos 0 }
         ensures value { Self.number result.0 ≡ wrap Self.IS_SIGNED Self.BITS (int_div (Self.number self) (Self.number rhs)) }
         ensures overflow { IsTrue result.1 ↔ ¬ (InRange Self.IS_SIGNED Self.BITS (int_div (Self.number self) (Self.number rhs))) }
+        ensures kept { InRange Self.IS_SIGNED Self.BITS (int_div (Self.number self) (Self.number rhs)) → Self.number result.0 ≡ int_div (Self.number self) (Self.number rhs) }
     {
         let (quotient, overflow) = overflowing::div(self.kept(), rhs.kept(), Self::BITS);
         (Self::from_kept(quotient), overflow)
     }
 
     /// `self` to the power `exp`, or the end of the range that is nearest to it. 0 to the power 0 is 1.
+    #[tactic(auto, using(arbitrary_base::proofs::Clamp::clamped))]
     final fn saturating_pow(self, exp: u32) -> Self
-        ensures { Self.number result ≡ clamp Self.IS_SIGNED Self.BITS (power (Self.number self) exp) }
+        ensures value { Self.number result ≡ clamp Self.IS_SIGNED Self.BITS (power (Self.number self) exp) }
+        ensures kept { InRange Self.IS_SIGNED Self.BITS (power (Self.number self) exp) → Self.number result ≡ power (Self.number self) exp }
+        ensures above { hi Self.IS_SIGNED Self.BITS <ℤ (power (Self.number self) exp) → Self.number result ≡ hi Self.IS_SIGNED Self.BITS }
+        ensures below { (power (Self.number self) exp) <ℤ lo Self.IS_SIGNED Self.BITS → Self.number result ≡ lo Self.IS_SIGNED Self.BITS }
     {
         Self::from_kept(power::saturating_pow(self.kept(), exp, Self::BITS))
     }
 
     /// The same value, and how many multiplications in the storage it took: at most two for each binary
     /// digit of `exp`, so at most 64.
+    #[tactic(auto, using(arbitrary_base::proofs::Clamp::clamped))]
     final fn saturating_pow_counted(self, exp: u32) -> (Self, u32)
         ensures value { Self.number result.0 ≡ clamp Self.IS_SIGNED Self.BITS (power (Self.number self) exp) }
         ensures count { result.1 ≤ 2 * binary_digits exp }
         ensures bound { result.1 ≤ 64 }
+        ensures kept { InRange Self.IS_SIGNED Self.BITS (power (Self.number self) exp) → Self.number result.0 ≡ power (Self.number self) exp }
+        ensures above { hi Self.IS_SIGNED Self.BITS <ℤ (power (Self.number self) exp) → Self.number result.0 ≡ hi Self.IS_SIGNED Self.BITS }
+        ensures below { (power (Self.number self) exp) <ℤ lo Self.IS_SIGNED Self.BITS → Self.number result.0 ≡ lo Self.IS_SIGNED Self.BITS }
     {
         let (power, count) = power::saturating_pow_counted(self.kept(), exp, Self::BITS);
         (Self::from_kept(power), count)
@@ -211,7 +260,9 @@ pub trait FixedWidth: Integer {
 
     /// The bits moved `amount` modulo `BITS` places toward the high end: zeros come in below, and what passes the end is lost.
     final fn wrapping_shl(self, amount: u32) -> Self
-        ensures { Self.number result ≡ val Self.IS_SIGNED (shl (bits Self.BITS (Self.number self)) (amount % Self.BITS)) }
+        ensures value { Self.number result ≡ val Self.IS_SIGNED (shl (bits Self.BITS (Self.number self)) (amount % Self.BITS)) }
+        ensures plain { Self.IS_SIGNED ≡ false → Self.number result ≡ pos (unsigned_abs (Self.number self) * 2 ^ (amount % Self.BITS) % 2 ^ Self.BITS) }
+        ensures congruent { Congruent Self.BITS (Self.number result) (Self.number self *ℤ pos (2 ^ (amount % Self.BITS))) }
     {
         Self::from_kept(shifts::shl(self.kept(), amount as usize % Self::BITS, Self::BITS))
     }
@@ -221,6 +272,8 @@ pub trait FixedWidth: Integer {
     final fn checked_shl(self, amount: u32) -> Option<Self>
         ensures refused { IsNone result ↔ (Self.BITS ≤ amount) }
         ensures value { IfSome result (λ r. Self.number r ≡ val Self.IS_SIGNED (shl (bits Self.BITS (Self.number self)) amount)) }
+        ensures plain { Self.IS_SIGNED ≡ false → IfSome result (λ r. Self.number r ≡ pos (unsigned_abs (Self.number self) * 2 ^ amount % 2 ^ Self.BITS)) }
+        ensures congruent { IfSome result (λ r. Congruent Self.BITS (Self.number r) (Self.number self *ℤ pos (2 ^ amount))) }
     {
         if (amount as usize) < Self::BITS {
             Some(Self::from_kept(shifts::shl(self.kept(), amount as usize, Self::BITS)))
@@ -233,13 +286,19 @@ pub trait FixedWidth: Integer {
     final fn overflowing_shl(self, amount: u32) -> (Self, bool)
         ensures value { Self.number result.0 ≡ val Self.IS_SIGNED (shl (bits Self.BITS (Self.number self)) (amount % Self.BITS)) }
         ensures overflow { IsTrue result.1 ↔ (Self.BITS ≤ amount) }
+        ensures plain { Self.IS_SIGNED ≡ false → Self.number result.0 ≡ pos (unsigned_abs (Self.number self) * 2 ^ (amount % Self.BITS) % 2 ^ Self.BITS) }
+        ensures congruent { Congruent Self.BITS (Self.number result.0) (Self.number self *ℤ pos (2 ^ (amount % Self.BITS))) }
     {
         (self.wrapping_shl(amount), amount as usize >= Self::BITS)
     }
 
     /// The bits moved `amount` modulo `BITS` places toward the low end: copies of the sign come in above, or zeros where the type has none.
     final fn wrapping_shr(self, amount: u32) -> Self
-        ensures { Self.number result ≡ val Self.IS_SIGNED (shr (bits Self.BITS (Self.number self)) (amount % Self.BITS) (fill Self.IS_SIGNED (bits Self.BITS (Self.number self)))) }
+        ensures value { Self.number result ≡ val Self.IS_SIGNED (shr (bits Self.BITS (Self.number self)) (amount % Self.BITS) (fill Self.IS_SIGNED (bits Self.BITS (Self.number self)))) }
+        ensures quotient { Self.IS_SIGNED ≡ false → Self.number result ≡ int_div (Self.number self) (pos (2 ^ (amount % Self.BITS))) }
+        ensures low { (Self.number result *ℤ pos (2 ^ (amount % Self.BITS))) ≤ℤ Self.number self }
+        ensures high { Self.number self <ℤ (Self.number result *ℤ pos (2 ^ (amount % Self.BITS)) +ℤ pos (2 ^ (amount % Self.BITS))) }
+        ensures range { InRange Self.IS_SIGNED (Self.BITS - (amount % Self.BITS)) (Self.number result) }
     {
         Self::from_kept(shifts::shr(self.kept(), amount as usize % Self::BITS, Self::BITS))
     }
@@ -249,6 +308,10 @@ pub trait FixedWidth: Integer {
     final fn checked_shr(self, amount: u32) -> Option<Self>
         ensures refused { IsNone result ↔ (Self.BITS ≤ amount) }
         ensures value { IfSome result (λ r. Self.number r ≡ val Self.IS_SIGNED (shr (bits Self.BITS (Self.number self)) amount (fill Self.IS_SIGNED (bits Self.BITS (Self.number self))))) }
+        ensures quotient { Self.IS_SIGNED ≡ false → IfSome result (λ r. Self.number r ≡ int_div (Self.number self) (pos (2 ^ amount))) }
+        ensures low { IfSome result (λ r. (Self.number r *ℤ pos (2 ^ amount)) ≤ℤ Self.number self) }
+        ensures high { IfSome result (λ r. Self.number self <ℤ (Self.number r *ℤ pos (2 ^ amount) +ℤ pos (2 ^ amount))) }
+        ensures range { IfSome result (λ r. InRange Self.IS_SIGNED (Self.BITS - amount) (Self.number r)) }
     {
         if (amount as usize) < Self::BITS {
             Some(Self::from_kept(shifts::shr(self.kept(), amount as usize, Self::BITS)))
@@ -261,6 +324,10 @@ pub trait FixedWidth: Integer {
     final fn overflowing_shr(self, amount: u32) -> (Self, bool)
         ensures value { Self.number result.0 ≡ val Self.IS_SIGNED (shr (bits Self.BITS (Self.number self)) (amount % Self.BITS) (fill Self.IS_SIGNED (bits Self.BITS (Self.number self)))) }
         ensures overflow { IsTrue result.1 ↔ (Self.BITS ≤ amount) }
+        ensures quotient { Self.IS_SIGNED ≡ false → Self.number result.0 ≡ int_div (Self.number self) (pos (2 ^ (amount % Self.BITS))) }
+        ensures low { (Self.number result.0 *ℤ pos (2 ^ (amount % Self.BITS))) ≤ℤ Self.number self }
+        ensures high { Self.number self <ℤ (Self.number result.0 *ℤ pos (2 ^ (amount % Self.BITS)) +ℤ pos (2 ^ (amount % Self.BITS))) }
+        ensures range { InRange Self.IS_SIGNED (Self.BITS - (amount % Self.BITS)) (Self.number result.0) }
     {
         (self.wrapping_shr(amount), amount as usize >= Self::BITS)
     }
@@ -268,7 +335,8 @@ pub trait FixedWidth: Integer {
     /// The bits moved `amount` modulo `BITS` places toward the high end. What passes the end comes back
     /// below.
     final fn rotate_left(self, amount: u32) -> Self
-        ensures { Self.number result ≡ val Self.IS_SIGNED (rotl (bits Self.BITS (Self.number self)) (amount % Self.BITS)) }
+        ensures value { Self.number result ≡ val Self.IS_SIGNED (rotl (bits Self.BITS (Self.number self)) (amount % Self.BITS)) }
+        ensures undo { (y : ℤ) → InRange Self.IS_SIGNED Self.BITS y → Self.number self ≡ val Self.IS_SIGNED (rotr (bits Self.BITS y) (amount % Self.BITS)) → Self.number result ≡ y }
     {
         Self::from_kept(rotations::rotate_left(self.kept(), amount, Self::BITS))
     }
@@ -276,101 +344,130 @@ pub trait FixedWidth: Integer {
     /// The bits moved `amount` modulo `BITS` places toward the low end. What passes the end comes back
     /// above.
     final fn rotate_right(self, amount: u32) -> Self
-        ensures { Self.number result ≡ val Self.IS_SIGNED (rotr (bits Self.BITS (Self.number self)) (amount % Self.BITS)) }
+        ensures value { Self.number result ≡ val Self.IS_SIGNED (rotr (bits Self.BITS (Self.number self)) (amount % Self.BITS)) }
+        ensures undo { (y : ℤ) → InRange Self.IS_SIGNED Self.BITS y → Self.number self ≡ val Self.IS_SIGNED (rotl (bits Self.BITS y) (amount % Self.BITS)) → Self.number result ≡ y }
     {
         Self::from_kept(rotations::rotate_right(self.kept(), amount, Self::BITS))
     }
 
     /// The bits from the high end to the low one.
     final fn reverse_bits(self) -> Self
-        ensures { Self.number result ≡ val Self.IS_SIGNED (reverse (bits Self.BITS (Self.number self))) }
+        ensures value { Self.number result ≡ val Self.IS_SIGNED (reverse (bits Self.BITS (Self.number self))) }
+        ensures undo { (y : ℤ) → InRange Self.IS_SIGNED Self.BITS y → Self.number self ≡ val Self.IS_SIGNED (reverse (bits Self.BITS y)) → Self.number result ≡ y }
     {
         Self::from_kept(rotations::reverse_bits(self.kept(), Self::BITS))
     }
 
     /// How many of the bits are one.
+    #[tactic(auto, using(arbitrary_base::proofs::BitCount::counted))]
     final fn count_ones(self) -> u32
-        ensures { result ≡ ones (bits Self.BITS (Self.number self)) }
+        ensures value { result ≡ ones (bits Self.BITS (Self.number self)) }
+        ensures bound { result ≤ Self.BITS }
     {
         counts::count_ones(self.kept(), Self::BITS)
     }
 
     /// How many of the bits are zero.
+    #[tactic(auto, using(arbitrary_base::proofs::BitCount::counted))]
     final fn count_zeros(self) -> u32
-        ensures { result ≡ Self.BITS - ones (bits Self.BITS (Self.number self)) }
+        ensures value { result ≡ Self.BITS - ones (bits Self.BITS (Self.number self)) }
+        ensures bound { result ≤ Self.BITS }
     {
         counts::count_zeros(self.kept(), Self::BITS)
     }
 
     /// How many bits at the high end are one before the first that is zero, or all of them.
+    #[tactic(auto, using(arbitrary_base::proofs::BitCount::counted))]
     final fn leading_ones(self) -> u32
-        ensures { result ≡ tail true (bits Self.BITS (Self.number self)) }
+        ensures value { result ≡ tail true (bits Self.BITS (Self.number self)) }
+        ensures bound { result ≤ Self.BITS }
     {
         counts::leading_ones(self.kept(), Self::BITS)
     }
 
     /// How many bits at the high end are zero before the first that is one, or all of them.
+    #[tactic(auto, using(arbitrary_base::proofs::BitCount::counted))]
     final fn leading_zeros(self) -> u32
-        ensures { result ≡ tail false (bits Self.BITS (Self.number self)) }
+        ensures value { result ≡ tail false (bits Self.BITS (Self.number self)) }
+        ensures bound { result ≤ Self.BITS }
     {
         counts::leading_zeros(self.kept(), Self::BITS)
     }
 
     /// How many bits at the low end are one before the first that is zero, or all of them.
+    #[tactic(auto, using(arbitrary_base::proofs::BitCount::counted))]
     final fn trailing_ones(self) -> u32
-        ensures { result ≡ front true (bits Self.BITS (Self.number self)) }
+        ensures value { result ≡ front true (bits Self.BITS (Self.number self)) }
+        ensures bound { result ≤ Self.BITS }
     {
         counts::trailing_ones(self.kept(), Self::BITS)
     }
 
     /// How many bits at the low end are zero before the first that is one, or all of them.
+    #[tactic(auto, using(arbitrary_base::proofs::BitCount::counted))]
     final fn trailing_zeros(self) -> u32
-        ensures { result ≡ front false (bits Self.BITS (Self.number self)) }
+        ensures value { result ≡ front false (bits Self.BITS (Self.number self)) }
+        ensures bound { result ≤ Self.BITS }
     {
         counts::trailing_zeros(self.kept(), Self::BITS)
     }
 
     /// The value of the `BITS` bits of `value` from place `start_bit` on, all among its 8. The width is valid.
+    #[tactic(auto, using(arbitrary_base::proofs::Extracted::fields))]
     final fn extract_u8(value: u8, start_bit: usize) -> Self
         requires width { Self.valid }
         requires within { start_bit + Self.BITS ≤ 8 }
-        ensures { Self.number result ≡ val Self.IS_SIGNED (items start_bit Self.BITS (bits 8 (pos value))) }
+        ensures value { Self.number result ≡ val Self.IS_SIGNED (items start_bit Self.BITS (bits 8 (pos value))) }
+        ensures plain { Self.IS_SIGNED ≡ false → Self.number result ≡ pos (value / 2 ^ start_bit % 2 ^ Self.BITS) }
+        ensures congruent { Congruent Self.BITS (Self.number result) (pos (value / 2 ^ start_bit)) }
     {
         Self::from_kept(extraction::extract(value, start_bit, Self::BITS))
     }
 
     /// The value of the `BITS` bits of `value` from place `start_bit` on, all among its 16. The width is valid.
+    #[tactic(auto, using(arbitrary_base::proofs::Extracted::fields))]
     final fn extract_u16(value: u16, start_bit: usize) -> Self
         requires width { Self.valid }
         requires within { start_bit + Self.BITS ≤ 16 }
-        ensures { Self.number result ≡ val Self.IS_SIGNED (items start_bit Self.BITS (bits 16 (pos value))) }
+        ensures value { Self.number result ≡ val Self.IS_SIGNED (items start_bit Self.BITS (bits 16 (pos value))) }
+        ensures plain { Self.IS_SIGNED ≡ false → Self.number result ≡ pos (value / 2 ^ start_bit % 2 ^ Self.BITS) }
+        ensures congruent { Congruent Self.BITS (Self.number result) (pos (value / 2 ^ start_bit)) }
     {
         Self::from_kept(extraction::extract(value, start_bit, Self::BITS))
     }
 
     /// The value of the `BITS` bits of `value` from place `start_bit` on, all among its 32. The width is valid.
+    #[tactic(auto, using(arbitrary_base::proofs::Extracted::fields))]
     final fn extract_u32(value: u32, start_bit: usize) -> Self
         requires width { Self.valid }
         requires within { start_bit + Self.BITS ≤ 32 }
-        ensures { Self.number result ≡ val Self.IS_SIGNED (items start_bit Self.BITS (bits 32 (pos value))) }
+        ensures value { Self.number result ≡ val Self.IS_SIGNED (items start_bit Self.BITS (bits 32 (pos value))) }
+        ensures plain { Self.IS_SIGNED ≡ false → Self.number result ≡ pos (value / 2 ^ start_bit % 2 ^ Self.BITS) }
+        ensures congruent { Congruent Self.BITS (Self.number result) (pos (value / 2 ^ start_bit)) }
     {
         Self::from_kept(extraction::extract(value, start_bit, Self::BITS))
     }
 
     /// The value of the `BITS` bits of `value` from place `start_bit` on, all among its 64. The width is valid.
+    #[tactic(auto, using(arbitrary_base::proofs::Extracted::fields))]
     final fn extract_u64(value: u64, start_bit: usize) -> Self
         requires width { Self.valid }
         requires within { start_bit + Self.BITS ≤ 64 }
-        ensures { Self.number result ≡ val Self.IS_SIGNED (items start_bit Self.BITS (bits 64 (pos value))) }
+        ensures value { Self.number result ≡ val Self.IS_SIGNED (items start_bit Self.BITS (bits 64 (pos value))) }
+        ensures plain { Self.IS_SIGNED ≡ false → Self.number result ≡ pos (value / 2 ^ start_bit % 2 ^ Self.BITS) }
+        ensures congruent { Congruent Self.BITS (Self.number result) (pos (value / 2 ^ start_bit)) }
     {
         Self::from_kept(extraction::extract(value, start_bit, Self::BITS))
     }
 
     /// The value of the `BITS` bits of `value` from place `start_bit` on, all among its 128. The width is valid.
+    #[tactic(auto, using(arbitrary_base::proofs::Extracted::fields))]
     final fn extract_u128(value: u128, start_bit: usize) -> Self
         requires width { Self.valid }
         requires within { start_bit + Self.BITS ≤ 128 }
-        ensures { Self.number result ≡ val Self.IS_SIGNED (items start_bit Self.BITS (bits 128 (pos value))) }
+        ensures value { Self.number result ≡ val Self.IS_SIGNED (items start_bit Self.BITS (bits 128 (pos value))) }
+        ensures plain { Self.IS_SIGNED ≡ false → Self.number result ≡ pos (value / 2 ^ start_bit % 2 ^ Self.BITS) }
+        ensures congruent { Congruent Self.BITS (Self.number result) (pos (value / 2 ^ start_bit)) }
     {
         Self::from_kept(extraction::extract(value, start_bit, Self::BITS))
     }
@@ -379,7 +476,8 @@ pub trait FixedWidth: Integer {
     final fn extract_i8(value: i8, start_bit: usize) -> Self
         requires width { Self.valid }
         requires within { start_bit + Self.BITS ≤ 8 }
-        ensures { Self.number result ≡ val Self.IS_SIGNED (items start_bit Self.BITS (bits 8 value)) }
+        ensures value { Self.number result ≡ val Self.IS_SIGNED (items start_bit Self.BITS (bits 8 value)) }
+        ensures field { IsField start_bit Self.BITS value (Self.number result) }
     {
         Self::from_kept(extraction::extract(value, start_bit, Self::BITS))
     }
@@ -388,7 +486,8 @@ pub trait FixedWidth: Integer {
     final fn extract_i16(value: i16, start_bit: usize) -> Self
         requires width { Self.valid }
         requires within { start_bit + Self.BITS ≤ 16 }
-        ensures { Self.number result ≡ val Self.IS_SIGNED (items start_bit Self.BITS (bits 16 value)) }
+        ensures value { Self.number result ≡ val Self.IS_SIGNED (items start_bit Self.BITS (bits 16 value)) }
+        ensures field { IsField start_bit Self.BITS value (Self.number result) }
     {
         Self::from_kept(extraction::extract(value, start_bit, Self::BITS))
     }
@@ -397,7 +496,8 @@ pub trait FixedWidth: Integer {
     final fn extract_i32(value: i32, start_bit: usize) -> Self
         requires width { Self.valid }
         requires within { start_bit + Self.BITS ≤ 32 }
-        ensures { Self.number result ≡ val Self.IS_SIGNED (items start_bit Self.BITS (bits 32 value)) }
+        ensures value { Self.number result ≡ val Self.IS_SIGNED (items start_bit Self.BITS (bits 32 value)) }
+        ensures field { IsField start_bit Self.BITS value (Self.number result) }
     {
         Self::from_kept(extraction::extract(value, start_bit, Self::BITS))
     }
@@ -406,7 +506,8 @@ pub trait FixedWidth: Integer {
     final fn extract_i64(value: i64, start_bit: usize) -> Self
         requires width { Self.valid }
         requires within { start_bit + Self.BITS ≤ 64 }
-        ensures { Self.number result ≡ val Self.IS_SIGNED (items start_bit Self.BITS (bits 64 value)) }
+        ensures value { Self.number result ≡ val Self.IS_SIGNED (items start_bit Self.BITS (bits 64 value)) }
+        ensures field { IsField start_bit Self.BITS value (Self.number result) }
     {
         Self::from_kept(extraction::extract(value, start_bit, Self::BITS))
     }
@@ -415,7 +516,8 @@ pub trait FixedWidth: Integer {
     final fn extract_i128(value: i128, start_bit: usize) -> Self
         requires width { Self.valid }
         requires within { start_bit + Self.BITS ≤ 128 }
-        ensures { Self.number result ≡ val Self.IS_SIGNED (items start_bit Self.BITS (bits 128 value)) }
+        ensures value { Self.number result ≡ val Self.IS_SIGNED (items start_bit Self.BITS (bits 128 value)) }
+        ensures field { IsField start_bit Self.BITS value (Self.number result) }
     {
         Self::from_kept(extraction::extract(value, start_bit, Self::BITS))
     }

@@ -1,8 +1,8 @@
 //! Signed integers of any width, in two's complement.
 
-ghost use Rattle.std.specs.Prelude.{◌≡◌, ◌↔◌, ◌<◌, ◌≤◌, ◌-ℤ◌, ◌≤ℤ◌, ◌<ℤ◌, ◌^◌, pos, neg_ℤ, IsTrue, MatchResult, ⊤};
-ghost use Rattle.arbitrary_base.specs.Range.{InRange, IsValidWidth};
-ghost use Rattle.arbitrary_base.specs.Residue.{residue, wrap};
+ghost use Rattle.std.specs.Prelude.{◌≡◌, ◌↔◌, ◌<◌, ◌≤◌, ◌-ℤ◌, ◌≤ℤ◌, ◌<ℤ◌, ◌^◌, pos, neg_ℤ, IsTrue, IfOk, MatchResult, ⊤};
+ghost use Rattle.arbitrary_base.specs.Range.{InRange, IsValidWidth, hi};
+ghost use Rattle.arbitrary_base.specs.Residue.{residue, wrap, Congruent};
 ghost use Rattle.arbitrary_base.specs.Saturation.{clamp};
 ghost use Rattle.arbitrary_base.specs.Exact.{ExactOrNone};
 
@@ -108,7 +108,8 @@ where
     /// is all of the storage's bits.
     pub fn mask() -> T
         requires width { IsValidWidth BITS T.WIDTH }
-        ensures { T.number result ≡ wrap T.SIGNED T.WIDTH (pos (2 ^ BITS) -ℤ pos 1) }
+        ensures value { T.number result ≡ wrap T.SIGNED T.WIDTH (pos (2 ^ BITS) -ℤ pos 1) }
+        ensures plain { BITS < T.WIDTH → T.number result ≡ pos (2 ^ BITS) -ℤ pos 1 }
     {
         T::from_pattern(ones(BITS))
     }
@@ -126,6 +127,7 @@ where
     #[tactic(auto, using(arbitrary_base::proofs::Narrow::patterns))]
     pub fn to_bits(self) -> T::Unsigned
         ensures value { T.Unsigned.number result ≡ pos (residue BITS self) }
+        ensures congruent { Congruent BITS (T.Unsigned.number result) self }
         ensures width { IsValidWidth BITS T.WIDTH }
         ensures range { InRange T.Unsigned.SIGNED BITS (T.Unsigned.number result) }
     {
@@ -134,12 +136,13 @@ where
 
     /// The value that has these bits. The caller shows that the width is valid and that the pattern
     /// is below `2 ^ BITS` (or calls `try_from_bits`).
-    #[tactic(auto, using(arbitrary_base::proofs::Narrow::patterns))]
+    #[tactic(auto, using(arbitrary_base::proofs::Narrow::patterns, arbitrary_base::proofs::Wrapped::wrapped))]
     pub fn from_bits(bits: T::Unsigned) -> Self
         requires width { IsValidWidth BITS T.WIDTH }
         requires range { InRange T.Unsigned.SIGNED BITS (T.Unsigned.number bits) }
         ensures bits { pos (residue BITS result) ≡ T.Unsigned.number bits }
         ensures number { result ≡ wrap T.SIGNED BITS (T.Unsigned.number bits) }
+        ensures congruent { Congruent BITS result (T.Unsigned.number bits) }
     {
         Int::<T, BITS>::new(convert(bits, BITS))
     }
@@ -151,6 +154,7 @@ where
         requires range { InRange T.Unsigned.SIGNED BITS (T.Unsigned.number bits) }
         ensures bits { pos (residue BITS result) ≡ T.Unsigned.number bits }
         ensures number { result ≡ wrap T.SIGNED BITS (T.Unsigned.number bits) }
+        ensures congruent { Congruent BITS result (T.Unsigned.number bits) }
     {
         Int::<T, BITS>::from_bits(bits)
     }
@@ -159,9 +163,11 @@ where
     #[tactic(auto, using(arbitrary_base::proofs::Narrow::patterns))]
     pub fn try_from_bits(bits: T::Unsigned) -> Result<Self, TryNewError>
         requires width { IsValidWidth BITS T.WIDTH }
-        ensures { MatchResult result
+        ensures bits { MatchResult result
             (λ x. InRange T.Unsigned.SIGNED BITS (T.Unsigned.number bits) × (pos (residue BITS x) ≡ T.Unsigned.number bits))
             (λ _. ¬ (InRange T.Unsigned.SIGNED BITS (T.Unsigned.number bits))) }
+        ensures number { IfOk result (λ x. x ≡ wrap T.SIGNED BITS (T.Unsigned.number bits)) }
+        ensures congruent { IfOk result (λ x. Congruent BITS x (T.Unsigned.number bits)) }
     {
         if is_in_range(bits, BITS) {
             Ok(Int::<T, BITS>::from_bits(bits))
@@ -186,15 +192,21 @@ where
     }
 
     /// The negated number, wrapped.
+    #[tactic(auto, using(arbitrary_base::proofs::Wrapped::wrapped))]
     pub fn wrapping_neg(self) -> Self
-        ensures { result ≡ wrap T.SIGNED BITS (neg_ℤ self) }
+        ensures value { result ≡ wrap T.SIGNED BITS (neg_ℤ self) }
+        ensures kept { InRange T.SIGNED BITS (neg_ℤ self) → result ≡ neg_ℤ self }
+        ensures congruent { Congruent BITS result (neg_ℤ self) }
     {
         Int::<T, BITS>::new(wrapping::neg(self.value(), BITS))
     }
 
     /// The negated number, or the greatest where that is out of range.
+    #[tactic(auto, using(arbitrary_base::proofs::Clamp::clamped))]
     pub fn saturating_neg(self) -> Self
-        ensures { result ≡ clamp T.SIGNED BITS (neg_ℤ self) }
+        ensures value { result ≡ clamp T.SIGNED BITS (neg_ℤ self) }
+        ensures kept { InRange T.SIGNED BITS (neg_ℤ self) → result ≡ neg_ℤ self }
+        ensures above { hi T.SIGNED BITS <ℤ neg_ℤ self → result ≡ hi T.SIGNED BITS }
     {
         Int::<T, BITS>::new(saturating::neg(self.value(), BITS))
     }
@@ -210,9 +222,12 @@ where
     }
 
     /// The negated number, wrapped, and whether the exact one is out of range.
+    #[tactic(auto, using(arbitrary_base::proofs::Wrapped::wrapped))]
     pub fn overflowing_neg(self) -> (Self, bool)
         ensures value { result.0 ≡ wrap T.SIGNED BITS (neg_ℤ self) }
         ensures overflow { IsTrue result.1 ↔ ¬ (InRange T.SIGNED BITS (neg_ℤ self)) }
+        ensures kept { InRange T.SIGNED BITS (neg_ℤ self) → result.0 ≡ neg_ℤ self }
+        ensures congruent { Congruent BITS result.0 (neg_ℤ self) }
     {
         let (negated, overflow) = overflowing::neg(self.value(), BITS);
         (Int::<T, BITS>::new(negated), overflow)

@@ -1,6 +1,6 @@
 //! Unsigned integers of any width.
 
-ghost use Rattle.std.specs.Prelude.{◌≡◌, ◌↔◌, ◌<◌, ◌≤◌, ◌+◌, ◌-ℤ◌, ◌^◌, pos, IsTrue, MatchResult, ⊤};
+ghost use Rattle.std.specs.Prelude.{◌≡◌, ◌↔◌, ◌<◌, ◌≤◌, ◌+◌, ◌/◌, ◌%◌, ◌-ℤ◌, ◌^◌, pos, unsigned_abs, IsTrue, MatchResult, ⊤};
 ghost use Rattle.arbitrary_base.specs.Range.{InRange, IsValidWidth};
 ghost use Rattle.arbitrary_base.specs.Residue.{wrap};
 ghost use Rattle.arbitrary_base.specs.BitList.{bits, items, val};
@@ -92,7 +92,8 @@ impl<T: UnsignedStorage, const BITS: usize> UInt<T, BITS> {
     /// The storage's value whose low `BITS` bits are one, and whose others are zero.
     pub fn mask() -> T
         requires width { IsValidWidth BITS T.WIDTH }
-        ensures { T.number result ≡ wrap T.SIGNED T.WIDTH (pos (2 ^ BITS) -ℤ pos 1) }
+        ensures value { T.number result ≡ wrap T.SIGNED T.WIDTH (pos (2 ^ BITS) -ℤ pos 1) }
+        ensures plain { T.number result ≡ pos (2 ^ BITS) -ℤ pos 1 }
     {
         T::from_pattern(ones(BITS))
     }
@@ -120,7 +121,8 @@ impl<T: UnsignedStorage, const BITS: usize> UInt<T, BITS> {
     pub fn extract(value: T, start_bit: usize) -> Self
         requires width { IsValidWidth BITS T.WIDTH }
         requires within { start_bit + BITS ≤ T.WIDTH }
-        ensures { result ≡ val T.SIGNED (items start_bit BITS (bits T.WIDTH (T.number value))) }
+        ensures value { result ≡ val T.SIGNED (items start_bit BITS (bits T.WIDTH (T.number value))) }
+        ensures plain { InRange T.SIGNED T.WIDTH (T.number value) → result ≡ pos (unsigned_abs (T.number value) / 2 ^ start_bit % 2 ^ BITS) }
     {
         UInt::new(extraction::extract(value, start_bit, BITS))
     }

@@ -2,9 +2,10 @@ pub mod StepLemmas
 pub mod RunLemmas
 pub mod LowBitRuns
 pub mod WiderRuns
-pub mod Fields
 pub use Rattle.arbitrary_base.proofs.Narrow
 pub use Rattle.arbitrary_base.proofs.Wrap
 pub use Rattle.arbitrary_base.proofs.BitNumber
 pub use Rattle.arbitrary_base.proofs.BitValue
 pub use Rattle.arbitrary_base.proofs.BitField
+pub use Rattle.arbitrary_base.proofs.Extracted
+pub mod Everyday

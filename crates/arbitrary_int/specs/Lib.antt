@@ -4,9 +4,11 @@ pub mod Widths
 -- The words that the contracts of this crate, and of those that it passes on, cite.
 pub use Rattle.arbitrary_base.specs.Range
 pub use Rattle.arbitrary_base.specs.Residue
+pub use Rattle.arbitrary_base.specs.Field
 pub use Rattle.arbitrary_base.specs.Saturation
 pub use Rattle.arbitrary_base.specs.Exact
 pub use Rattle.arbitrary_base.specs.Power
 pub use Rattle.arbitrary_base.specs.BitList
 pub use Rattle.arbitrary_base.specs.BitField
 pub use Rattle.arbitrary_base.specs.Watching
+pub use Rattle.arbitrary_base.specs.Laws

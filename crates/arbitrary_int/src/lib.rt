@@ -2,6 +2,7 @@
 //! `UInt` and `Int` behind them, with lists of steps on registers of one such type.
 #![tactic(auto)]
 
+pub mod laws;
 pub mod prelude;
 pub mod runs;
 pub mod steps;

@@ -4,7 +4,9 @@ use Rattle.std.specs.Int.{Width, cast_signed, cast_unsigned}
 use Rattle.std.proofs.Common.{◌∙◌, ap, arith, Fits, of_z, sym, to_z-of_z}
 use Rattle.std.proofs.lemmas.Int.{ints}
 use mir.Val.{bits}
-use Rattle.arbitrary_base.specs.Residue.{residue, wrap}
+use Rattle.arbitrary_base.specs.Residue.{Congruent, residue, wrap}
+use Rattle.arbitrary_base.proofs.Congruence.{Congruent-refl}
+use Rattle.arbitrary_base.proofs.Wrapped.{wrapped-congruent}
 use Rattle.arbitrary_base.proofs.Narrow.{wrap-residue}
 use Rattle.arbitrary_base.proofs.Wrap.{residue-congruent, residue-lt, wrap-of_in_range, wrap-unique}
 use Rattle.arbitrary_base.proofs.Primitive.{bits_some, cast_unsigned-residue, signed-from_small, unsigned-in_range}
@@ -30,4 +32,14 @@ cast_signed-mate w n z f e =
     let g : FitsSigned w (cast_signed w n) = omega (arith, ints) in
     ap (λ (y : ℤ). cast_signed w (of_z w y)) e ∙ to_z-of_z g ∙ signed-from_small w n (omega arith)
 
-pub ruleset mates = (unsigned-mate, cast_unsigned-mate, cast_signed-mate)
+-- and is congruent to it
+pub unsigned-mate_congruent : (B n : ℕ) → Congruent B (pos n) (pos n)
+unsigned-mate_congruent B n = Congruent-refl B (pos n)
+
+pub cast_unsigned-mate_congruent : (w : Width) (x : ℤ) → FitsSigned w x → Congruent (bits w) (pos (cast_unsigned w x)) x
+cast_unsigned-mate_congruent w x f = wrapped-congruent false (bits w) x _ (cast_unsigned-mate w x f)
+
+pub cast_signed-mate_congruent : (w : Width) (n : ℕ) (z : ℤ) → Fits w n → z ≡ cast_signed w n → Congruent (bits w) (cast_signed w (of_z w z)) (pos n)
+cast_signed-mate_congruent w n z f e = wrapped-congruent true (bits w) (pos n) _ (cast_signed-mate w n z f e)
+
+pub ruleset mates = (unsigned-mate, cast_unsigned-mate, cast_signed-mate, unsigned-mate_congruent, cast_unsigned-mate_congruent, cast_signed-mate_congruent)

@@ -4,7 +4,7 @@ ghost use Rattle.std.specs.Prelude.{◌≡◌, ◌≢◌, ◌≤◌, ◌+ℤ◌,
 ghost use Rattle.std.specs.Ordering.{int_cmp, int_eq};
 ghost use Rattle.std.specs.Fmt.{signed_decimal};
 ghost use Rattle.arbitrary_base.specs.Range.{lo, hi, InRange};
-ghost use Rattle.arbitrary_base.specs.Residue.{residue, wrap};
+ghost use Rattle.arbitrary_base.specs.Residue.{residue, wrap, Congruent};
 ghost use Rattle.arbitrary_base.specs.BitList.{bits, bits_and, bits_not, bits_or, bits_xor, val};
 
 use arbitrary_base::error::TryNewError;
@@ -121,11 +121,13 @@ pub trait Integer: Copy
 
     /// The unsigned number with the same bits.
     fn to_unsigned(self) -> Self::UnsignedInteger
-        ensures { unsigned_number result ≡ wrap false BITS (number self) };
+        ensures value { unsigned_number result ≡ wrap false BITS (number self) }
+        ensures congruent { Congruent BITS (unsigned_number result) (number self) };
 
     /// The number with the same bits as the unsigned `value`.
     fn from_unsigned(value: Self::UnsignedInteger) -> Self
-        ensures { number result ≡ wrap IS_SIGNED BITS (unsigned_number value) };
+        ensures value { number result ≡ wrap IS_SIGNED BITS (unsigned_number value) }
+        ensures congruent { Congruent BITS (number result) (unsigned_number value) };
 
     /// The same number, which is in range of this type, from any other. The width is valid.
     final fn from_<T: Integer>(value: T) -> Self
@@ -141,7 +143,11 @@ pub trait Integer: Copy
     #[tactic(auto, using(crate::proofs::Conversion::conversions))]
     final fn masked_new<T: Integer>(value: T) -> Self
         requires { valid }
-        ensures { number result ≡ wrap IS_SIGNED BITS (T.number value) }
+        ensures value { number result ≡ wrap IS_SIGNED BITS (T.number value) }
+        ensures kept { InRange IS_SIGNED BITS (T.number value) → number result ≡ T.number value }
+        ensures congruent { Congruent BITS (number result) (T.number value) }
+        ensures range { InRange T.IS_SIGNED T.BITS (T.number value) }
+        ensures width { T.valid }
     {
         Self::from_extended(value.extended())
     }
@@ -149,96 +155,153 @@ pub trait Integer: Copy
     /// `T::masked_new` of the value. The width of `T` is valid.
     final fn as_<T: Integer>(self) -> T
         requires { T.valid }
-        ensures { T.number result ≡ wrap T.IS_SIGNED T.BITS (number self) }
+        ensures value { T.number result ≡ wrap T.IS_SIGNED T.BITS (number self) }
+        ensures kept { InRange T.IS_SIGNED T.BITS (number self) → T.number result ≡ number self }
+        ensures congruent { Congruent T.BITS (T.number result) (number self) }
+        ensures range { InRange IS_SIGNED BITS (number self) }
+        ensures width { valid }
     {
         T::masked_new(self)
     }
 
     /// The low 8 bits, unsigned.
     final fn as_u8(self) -> u8
-        ensures { pos result ≡ wrap false 8 (number self) }
+        ensures value { pos result ≡ wrap false 8 (number self) }
+        ensures kept { InRange false 8 (number self) → pos result ≡ number self }
+        ensures congruent { Congruent 8 (pos result) (number self) }
+        ensures range { InRange IS_SIGNED BITS (number self) }
+        ensures width { valid }
     {
         self.as_::<u8>()
     }
 
     /// The low 16 bits, unsigned.
     final fn as_u16(self) -> u16
-        ensures { pos result ≡ wrap false 16 (number self) }
+        ensures value { pos result ≡ wrap false 16 (number self) }
+        ensures kept { InRange false 16 (number self) → pos result ≡ number self }
+        ensures congruent { Congruent 16 (pos result) (number self) }
+        ensures range { InRange IS_SIGNED BITS (number self) }
+        ensures width { valid }
     {
         self.as_::<u16>()
     }
 
     /// The low 32 bits, unsigned.
     final fn as_u32(self) -> u32
-        ensures { pos result ≡ wrap false 32 (number self) }
+        ensures value { pos result ≡ wrap false 32 (number self) }
+        ensures kept { InRange false 32 (number self) → pos result ≡ number self }
+        ensures congruent { Congruent 32 (pos result) (number self) }
+        ensures range { InRange IS_SIGNED BITS (number self) }
+        ensures width { valid }
     {
         self.as_::<u32>()
     }
 
     /// The low 64 bits, unsigned.
     final fn as_u64(self) -> u64
-        ensures { pos result ≡ wrap false 64 (number self) }
+        ensures value { pos result ≡ wrap false 64 (number self) }
+        ensures kept { InRange false 64 (number self) → pos result ≡ number self }
+        ensures congruent { Congruent 64 (pos result) (number self) }
+        ensures range { InRange IS_SIGNED BITS (number self) }
+        ensures width { valid }
     {
         self.as_::<u64>()
     }
 
     /// The low 128 bits, unsigned.
     final fn as_u128(self) -> u128
-        ensures { pos result ≡ wrap false 128 (number self) }
+        ensures value { pos result ≡ wrap false 128 (number self) }
+        ensures kept { InRange false 128 (number self) → pos result ≡ number self }
+        ensures congruent { Congruent 128 (pos result) (number self) }
+        ensures range { InRange IS_SIGNED BITS (number self) }
+        ensures width { valid }
     {
         self.as_::<u128>()
     }
 
     /// The low 64 bits, unsigned.
     final fn as_usize(self) -> usize
-        ensures { pos result ≡ wrap false 64 (number self) }
+        ensures value { pos result ≡ wrap false 64 (number self) }
+        ensures kept { InRange false 64 (number self) → pos result ≡ number self }
+        ensures congruent { Congruent 64 (pos result) (number self) }
+        ensures range { InRange IS_SIGNED BITS (number self) }
+        ensures width { valid }
     {
         self.as_u64() as usize
     }
 
     /// The low 8 bits, in two's complement.
     final fn as_i8(self) -> i8
-        ensures { result ≡ wrap true 8 (number self) }
+        ensures value { result ≡ wrap true 8 (number self) }
+        ensures kept { InRange true 8 (number self) → result ≡ number self }
+        ensures congruent { Congruent 8 result (number self) }
+        ensures range { InRange IS_SIGNED BITS (number self) }
+        ensures width { valid }
     {
         self.as_::<i8>()
     }
 
     /// The low 16 bits, in two's complement.
     final fn as_i16(self) -> i16
-        ensures { result ≡ wrap true 16 (number self) }
+        ensures value { result ≡ wrap true 16 (number self) }
+        ensures kept { InRange true 16 (number self) → result ≡ number self }
+        ensures congruent { Congruent 16 result (number self) }
+        ensures range { InRange IS_SIGNED BITS (number self) }
+        ensures width { valid }
     {
         self.as_::<i16>()
     }
 
     /// The low 32 bits, in two's complement.
     final fn as_i32(self) -> i32
-        ensures { result ≡ wrap true 32 (number self) }
+        ensures value { result ≡ wrap true 32 (number self) }
+        ensures kept { InRange true 32 (number self) → result ≡ number self }
+        ensures congruent { Congruent 32 result (number self) }
+        ensures range { InRange IS_SIGNED BITS (number self) }
+        ensures width { valid }
     {
         self.as_::<i32>()
     }
 
     /// The low 64 bits, in two's complement.
     final fn as_i64(self) -> i64
-        ensures { result ≡ wrap true 64 (number self) }
+        ensures value { result ≡ wrap true 64 (number self) }
+        ensures kept { InRange true 64 (number self) → result ≡ number self }
+        ensures congruent { Congruent 64 result (number self) }
+        ensures range { InRange IS_SIGNED BITS (number self) }
+        ensures width { valid }
     {
         self.as_::<i64>()
     }
 
     /// The low 128 bits, in two's complement.
     final fn as_i128(self) -> i128
-        ensures { result ≡ wrap true 128 (number self) }
+        ensures value { result ≡ wrap true 128 (number self) }
+        ensures kept { InRange true 128 (number self) → result ≡ number self }
+        ensures congruent { Congruent 128 result (number self) }
+        ensures range { InRange IS_SIGNED BITS (number self) }
+        ensures width { valid }
     {
         self.as_::<i128>()
     }
 
     /// The low 64 bits, in two's complement.
     final fn as_isize(self) -> isize
-        ensures { result ≡ wrap true 64 (number self) }
+        ensures value { result ≡ wrap true 64 (number self) }
+        ensures kept { InRange true 64 (number self) → result ≡ number self }
+        ensures congruent { Congruent 64 result (number self) }
+        ensures range { InRange IS_SIGNED BITS (number self) }
+        ensures width { valid }
     {
         self.as_i64() as isize
     }
 
     ghost width_law: { valid → (1 ≤ BITS) × (BITS ≤ 128) };
+
+    // A clone is the same value, and is always to be had.
+    ghost clone_law: { (a b : Self) → Self.is_clone a b → b ≡ a };
+
+    ghost infallible_law: { (a : Self) → Self.is_infallible a };
 
     ghost eq_law: { (a b : Self) → Self.eq a b ≡ int_eq (number a) (number b) };
 

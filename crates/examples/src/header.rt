@@ -9,7 +9,7 @@
 //! | 0 to 15  | total length  | `u16` |
 
 ghost use Rattle.std.specs.Prelude.{◌≡◌, ◌+ℤ◌, ◌*ℤ◌, pos};
-ghost use Rattle.examples.specs.Word.{field};
+ghost use Rattle.arbitrary_int.specs.Field.{field};
 
 use arbitrary_int::prelude::*;
 use std::io;
@@ -28,7 +28,6 @@ pub struct Start {
 
 impl Start {
     /// The fields of a header's first word.
-    #[tactic(auto, using(crate::proofs::Fields::extractions))]
     pub fn decode(word: u32) -> Start
         ensures version { result.version ≡ field word 28 4 }
         ensures header_length { result.header_length ≡ field word 24 4 }
@@ -47,7 +46,6 @@ impl Start {
 
     /// The word that has these fields.
     // No two fields share a bit, so the sum puts them side by side.
-    #[tactic(auto, unfolding(crate::specs::Word::field))]
     pub fn encode(self) -> u32
         ensures version { field result 28 4 ≡ self.version }
         ensures header_length { field result 24 4 ≡ self.header_length }
@@ -64,7 +62,6 @@ impl Start {
 }
 
 /// The word of a packet that met congestion: its ECN is 3, and its other bits are as they were.
-#[tactic(auto, unfolding(crate::specs::Word::field))]
 pub fn with_congestion(word: u32) -> u32
     ensures { pos result +ℤ pos 65536 *ℤ field word 16 2 ≡ pos word +ℤ pos 65536 *ℤ pos 3 }
 {
@@ -94,7 +91,6 @@ pub struct Fragment {
 
 impl Fragment {
     /// The fields of these 16 bits.
-    #[tactic(auto, using(crate::proofs::Fields::extractions))]
     pub fn decode(word: u16) -> Fragment
         ensures reserved { result.reserved ≡ field word 15 1 }
         ensures dont_fragment { result.dont_fragment ≡ field word 14 1 }
@@ -110,7 +106,6 @@ impl Fragment {
     }
 
     /// The 16 bits that have these fields.
-    #[tactic(auto, unfolding(crate::specs::Word::field))]
     pub fn encode(self) -> u16
         ensures reserved { field result 15 1 ≡ self.reserved }
         ensures dont_fragment { field result 14 1 ≡ self.dont_fragment }

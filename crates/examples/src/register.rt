@@ -10,7 +10,7 @@
 //! The other bits are reserved: they are not read, and written as 0.
 
 ghost use Rattle.std.specs.Prelude.{◌≡◌, ◌+ℤ◌, ◌*ℤ◌, pos};
-ghost use Rattle.examples.specs.Word.{field};
+ghost use Rattle.arbitrary_int.specs.Field.{field};
 
 use arbitrary_int::prelude::*;
 use std::io;
@@ -29,7 +29,6 @@ pub struct Control {
 
 impl Control {
     /// The fields of the register's word.
-    #[tactic(auto, using(crate::proofs::Fields::extractions))]
     pub fn read(register: u32) -> Control
         ensures enable { result.enable ≡ field register 0 1 }
         ensures prescaler { result.prescaler ≡ field register 1 3 }
@@ -46,7 +45,6 @@ impl Control {
 
     /// The register's word that has these fields.
     // No two fields share a bit, so the sum puts them side by side.
-    #[tactic(auto, unfolding(crate::specs::Word::field))]
     pub fn word(self) -> u32
         ensures { pos result ≡ self.enable +ℤ pos 2 *ℤ self.prescaler +ℤ pos 16 *ℤ self.mode +ℤ pos 256 *ℤ self.reload }
     {
@@ -58,7 +56,6 @@ impl Control {
 }
 
 /// What is read back is what was written.
-#[tactic(auto, unfolding(crate::specs::Word::field))]
 pub fn written_and_read(control: Control) -> Control
     ensures { result ≡ control }
 {
@@ -66,7 +63,6 @@ pub fn written_and_read(control: Control) -> Control
 }
 
 /// The register with the timer running from `reload`. Prescaler and mode stay.
-#[tactic(auto, unfolding(crate::specs::Word::field))]
 pub fn started(register: u32, reload: u14) -> u32
     ensures enable { field result 0 1 ≡ pos 1 }
     ensures prescaler { field result 1 3 ≡ field register 1 3 }

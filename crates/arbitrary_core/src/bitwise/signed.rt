@@ -1,6 +1,8 @@
 //! `& | ^ !` of `Int`, bit by bit.
 
-ghost use Rattle.std.specs.Prelude.{◌≡◌};
+ghost use Rattle.std.specs.Prelude.{◌≡◌, ◌≤ℤ◌, ◌-ℤ◌, ℤ, pos, neg_ℤ, unsigned_abs};
+ghost use Rattle.std.specs.Int.Bits.{bit_and, bit_or, bit_xor};
+ghost use Rattle.arbitrary_base.specs.Range.{InRange};
 ghost use Rattle.arbitrary_base.specs.BitList.{bits, val, bits_and, bits_or, bits_xor, bits_not};
 
 use crate::signed::Int;
@@ -16,7 +18,12 @@ where
 
     ghost bitand_gives = { λ a b r. r ≡ val T.SIGNED (bits_and (bits BITS a) (bits BITS b)) };
 
-    fn bitand(self, rhs: Int<T, BITS>) -> Int<T, BITS> {
+    fn bitand(self, rhs: Int<T, BITS>) -> Int<T, BITS>
+        ensures bits { result ≡ val T.SIGNED (bits_and (bits BITS self) (bits BITS rhs)) }
+        ensures plain { pos 0 ≤ℤ self → pos 0 ≤ℤ rhs → result ≡ pos (bit_and (unsigned_abs self) (unsigned_abs rhs)) }
+        ensures left { pos 0 ≤ℤ self → (pos 0 ≤ℤ result) × (result ≤ℤ self) }
+        ensures right { pos 0 ≤ℤ rhs → (pos 0 ≤ℤ result) × (result ≤ℤ rhs) }
+    {
         Int::<T, BITS>::new(bitwise::and(self.value(), rhs.value(), BITS))
     }
 }
@@ -41,7 +48,10 @@ where
 
     ghost bitor_gives = { λ a b r. r ≡ val T.SIGNED (bits_or (bits BITS a) (bits BITS b)) };
 
-    fn bitor(self, rhs: Int<T, BITS>) -> Int<T, BITS> {
+    fn bitor(self, rhs: Int<T, BITS>) -> Int<T, BITS>
+        ensures bits { result ≡ val T.SIGNED (bits_or (bits BITS self) (bits BITS rhs)) }
+        ensures plain { pos 0 ≤ℤ self → pos 0 ≤ℤ rhs → result ≡ pos (bit_or (unsigned_abs self) (unsigned_abs rhs)) }
+    {
         Int::<T, BITS>::new(bitwise::or(self.value(), rhs.value(), BITS))
     }
 }
@@ -66,7 +76,12 @@ where
 
     ghost bitxor_gives = { λ a b r. r ≡ val T.SIGNED (bits_xor (bits BITS a) (bits BITS b)) };
 
-    fn bitxor(self, rhs: Int<T, BITS>) -> Int<T, BITS> {
+    fn bitxor(self, rhs: Int<T, BITS>) -> Int<T, BITS>
+        ensures bits { result ≡ val T.SIGNED (bits_xor (bits BITS self) (bits BITS rhs)) }
+        ensures plain { pos 0 ≤ℤ self → pos 0 ≤ℤ rhs → result ≡ pos (bit_xor (unsigned_abs self) (unsigned_abs rhs)) }
+        ensures same { self ≡ rhs → result ≡ pos 0 }
+        ensures undo { (y : ℤ) → InRange T.SIGNED BITS y → self ≡ val T.SIGNED (bits_xor (bits BITS y) (bits BITS rhs)) → result ≡ y }
+    {
         Int::<T, BITS>::new(bitwise::xor(self.value(), rhs.value(), BITS))
     }
 }
@@ -91,7 +106,10 @@ where
 
     ghost not_gives = { λ a r. r ≡ val T.SIGNED (bits_not (bits BITS a)) };
 
-    fn not(self) -> Int<T, BITS> {
+    fn not(self) -> Int<T, BITS>
+        ensures bits { result ≡ val T.SIGNED (bits_not (bits BITS self)) }
+        ensures number { result ≡ neg_ℤ self -ℤ pos 1 }
+    {
         Int::<T, BITS>::new(bitwise::not(self.value(), BITS))
     }
 }

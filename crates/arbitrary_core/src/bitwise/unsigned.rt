@@ -1,6 +1,8 @@
 //! `& | ^ !` of `UInt`, bit by bit.
 
-ghost use Rattle.std.specs.Prelude.{◌≡◌};
+ghost use Rattle.std.specs.Prelude.{◌≡◌, ◌^◌, ◌≤ℤ◌, ◌-ℤ◌, ℤ, pos, unsigned_abs};
+ghost use Rattle.std.specs.Int.Bits.{bit_and, bit_or, bit_xor};
+ghost use Rattle.arbitrary_base.specs.Range.{InRange};
 ghost use Rattle.arbitrary_base.specs.BitList.{bits, val, bits_and, bits_or, bits_xor, bits_not};
 
 use crate::unsigned::UInt;
@@ -13,7 +15,12 @@ impl<T: UnsignedStorage, const BITS: usize> BitAnd<UInt<T, BITS>> for UInt<T, BI
 
     ghost bitand_gives = { λ a b r. r ≡ val T.SIGNED (bits_and (bits BITS a) (bits BITS b)) };
 
-    fn bitand(self, rhs: UInt<T, BITS>) -> UInt<T, BITS> {
+    fn bitand(self, rhs: UInt<T, BITS>) -> UInt<T, BITS>
+        ensures bits { result ≡ val T.SIGNED (bits_and (bits BITS self) (bits BITS rhs)) }
+        ensures plain { result ≡ pos (bit_and (unsigned_abs self) (unsigned_abs rhs)) }
+        ensures left { result ≤ℤ self }
+        ensures right { result ≤ℤ rhs }
+    {
         UInt::new(bitwise::and(self.value(), rhs.value(), BITS))
     }
 }
@@ -31,7 +38,10 @@ impl<T: UnsignedStorage, const BITS: usize> BitOr<UInt<T, BITS>> for UInt<T, BIT
 
     ghost bitor_gives = { λ a b r. r ≡ val T.SIGNED (bits_or (bits BITS a) (bits BITS b)) };
 
-    fn bitor(self, rhs: UInt<T, BITS>) -> UInt<T, BITS> {
+    fn bitor(self, rhs: UInt<T, BITS>) -> UInt<T, BITS>
+        ensures bits { result ≡ val T.SIGNED (bits_or (bits BITS self) (bits BITS rhs)) }
+        ensures plain { result ≡ pos (bit_or (unsigned_abs self) (unsigned_abs rhs)) }
+    {
         UInt::new(bitwise::or(self.value(), rhs.value(), BITS))
     }
 }
@@ -49,7 +59,12 @@ impl<T: UnsignedStorage, const BITS: usize> BitXor<UInt<T, BITS>> for UInt<T, BI
 
     ghost bitxor_gives = { λ a b r. r ≡ val T.SIGNED (bits_xor (bits BITS a) (bits BITS b)) };
 
-    fn bitxor(self, rhs: UInt<T, BITS>) -> UInt<T, BITS> {
+    fn bitxor(self, rhs: UInt<T, BITS>) -> UInt<T, BITS>
+        ensures bits { result ≡ val T.SIGNED (bits_xor (bits BITS self) (bits BITS rhs)) }
+        ensures plain { result ≡ pos (bit_xor (unsigned_abs self) (unsigned_abs rhs)) }
+        ensures same { self ≡ rhs → result ≡ pos 0 }
+        ensures undo { (y : ℤ) → InRange T.SIGNED BITS y → self ≡ val T.SIGNED (bits_xor (bits BITS y) (bits BITS rhs)) → result ≡ y }
+    {
         UInt::new(bitwise::xor(self.value(), rhs.value(), BITS))
     }
 }
@@ -67,7 +82,10 @@ impl<T: UnsignedStorage, const BITS: usize> Not for UInt<T, BITS> {
 
     ghost not_gives = { λ a r. r ≡ val T.SIGNED (bits_not (bits BITS a)) };
 
-    fn not(self) -> UInt<T, BITS> {
+    fn not(self) -> UInt<T, BITS>
+        ensures bits { result ≡ val T.SIGNED (bits_not (bits BITS self)) }
+        ensures number { result ≡ pos (2 ^ BITS) -ℤ pos 1 -ℤ self }
+    {
         UInt::new(bitwise::not(self.value(), BITS))
     }
 }

@@ -86,6 +86,10 @@ where
 
     ghost width_law = { λ h. (h.0, le_trans h.1 (T.width_law.1)) };
 
+    ghost clone_law = { λ a b h. h };
+
+    ghost infallible_law = { λ _. tt };
+
     ghost eq_law = { λ a b. refl };
 
     ghost cmp_law = { λ a b. refl };

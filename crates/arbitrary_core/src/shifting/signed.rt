@@ -1,6 +1,8 @@
 //! `<<` and `>>` of `Int`, by an amount from 0 to `BITS - 1` of any primitive integer type.
 
-ghost use Rattle.std.specs.Prelude.{◌≡◌, ◌≤ℤ◌, ◌<ℤ◌, pos, unsigned_abs};
+ghost use Rattle.std.specs.Prelude.{◌≡◌, ◌-◌, ◌^◌, ◌+ℤ◌, ◌*ℤ◌, ◌≤ℤ◌, ◌<ℤ◌, pos, unsigned_abs};
+ghost use Rattle.arbitrary_base.specs.Range.{InRange};
+ghost use Rattle.arbitrary_base.specs.Residue.{Congruent};
 ghost use Rattle.arbitrary_base.specs.BitList.{bits, val, fill, shl as shifted_left, shr as shifted_right};
 
 use crate::signed::Int;
@@ -19,7 +21,11 @@ where
 
     ghost shl_gives = { λ a k r. r ≡ val T.SIGNED (shifted_left (bits BITS a) (unsigned_abs (S.amount k))) };
 
-    fn shl(self, amount: S) -> Int<T, BITS> {
+    fn shl(self, amount: S) -> Int<T, BITS>
+        requires { (pos 0 ≤ℤ S.amount amount) × (S.amount amount <ℤ pos BITS) }
+        ensures bits { result ≡ val T.SIGNED (shifted_left (bits BITS self) (unsigned_abs (S.amount amount))) }
+        ensures congruent { Congruent BITS result (self *ℤ pos (2 ^ unsigned_abs (S.amount amount))) }
+    {
         Int::<T, BITS>::new(shifts::shl(self.value(), amount.to_amount(), BITS))
     }
 }
@@ -48,7 +54,13 @@ where
 
     ghost shr_gives = { λ a k r. r ≡ val T.SIGNED (shifted_right (bits BITS a) (unsigned_abs (S.amount k)) (fill T.SIGNED (bits BITS a))) };
 
-    fn shr(self, amount: S) -> Int<T, BITS> {
+    fn shr(self, amount: S) -> Int<T, BITS>
+        requires { (pos 0 ≤ℤ S.amount amount) × (S.amount amount <ℤ pos BITS) }
+        ensures bits { result ≡ val T.SIGNED (shifted_right (bits BITS self) (unsigned_abs (S.amount amount)) (fill T.SIGNED (bits BITS self))) }
+        ensures low { (result *ℤ pos (2 ^ unsigned_abs (S.amount amount))) ≤ℤ self }
+        ensures high { self <ℤ (result *ℤ pos (2 ^ unsigned_abs (S.amount amount)) +ℤ pos (2 ^ unsigned_abs (S.amount amount))) }
+        ensures range { InRange T.SIGNED (BITS - unsigned_abs (S.amount amount)) result }
+    {
         Int::<T, BITS>::new(shifts::shr(self.value(), amount.to_amount(), BITS))
     }
 }

@@ -1,6 +1,7 @@
 //! `<<` and `>>` of `UInt`, by an amount from 0 to `BITS - 1` of any primitive integer type.
 
-ghost use Rattle.std.specs.Prelude.{◌≡◌, ◌≤ℤ◌, ◌<ℤ◌, pos, unsigned_abs};
+ghost use Rattle.std.specs.Prelude.{◌≡◌, ◌*◌, ◌%◌, ◌^◌, ◌*ℤ◌, int_div, ◌≤ℤ◌, ◌<ℤ◌, pos, unsigned_abs};
+ghost use Rattle.arbitrary_base.specs.Residue.{Congruent};
 ghost use Rattle.arbitrary_base.specs.BitList.{bits, val, fill, shl as shifted_left, shr as shifted_right};
 
 use crate::unsigned::UInt;
@@ -16,7 +17,12 @@ impl<T: UnsignedStorage, const BITS: usize, S: ShiftAmount> Shl<S> for UInt<T, B
 
     ghost shl_gives = { λ a k r. r ≡ val T.SIGNED (shifted_left (bits BITS a) (unsigned_abs (S.amount k))) };
 
-    fn shl(self, amount: S) -> UInt<T, BITS> {
+    fn shl(self, amount: S) -> UInt<T, BITS>
+        requires { (pos 0 ≤ℤ S.amount amount) × (S.amount amount <ℤ pos BITS) }
+        ensures bits { result ≡ val T.SIGNED (shifted_left (bits BITS self) (unsigned_abs (S.amount amount))) }
+        ensures plain { result ≡ pos (unsigned_abs self * 2 ^ unsigned_abs (S.amount amount) % 2 ^ BITS) }
+        ensures congruent { Congruent BITS result (self *ℤ pos (2 ^ unsigned_abs (S.amount amount))) }
+    {
         UInt::new(shifts::shl(self.value(), amount.to_amount(), BITS))
     }
 }
@@ -38,7 +44,11 @@ impl<T: UnsignedStorage, const BITS: usize, S: ShiftAmount> Shr<S> for UInt<T, B
 
     ghost shr_gives = { λ a k r. r ≡ val T.SIGNED (shifted_right (bits BITS a) (unsigned_abs (S.amount k)) (fill T.SIGNED (bits BITS a))) };
 
-    fn shr(self, amount: S) -> UInt<T, BITS> {
+    fn shr(self, amount: S) -> UInt<T, BITS>
+        requires { (pos 0 ≤ℤ S.amount amount) × (S.amount amount <ℤ pos BITS) }
+        ensures bits { result ≡ val T.SIGNED (shifted_right (bits BITS self) (unsigned_abs (S.amount amount)) (fill T.SIGNED (bits BITS self))) }
+        ensures quotient { result ≡ int_div self (pos (2 ^ unsigned_abs (S.amount amount))) }
+    {
         UInt::new(shifts::shr(self.value(), amount.to_amount(), BITS))
     }
 }

@@ -78,6 +78,10 @@ impl Integer for u64 {
 
     ghost width_law = { λ h. (lit≤ tt, lit≤ tt) };
 
+    ghost clone_law = { λ a b h. h };
+
+    ghost infallible_law = { λ _. tt };
+
     ghost eq_law = { nat_eq-pos };
 
     ghost cmp_law = { nat_cmp-pos };
@@ -217,6 +221,10 @@ impl Integer for i64 {
     }
 
     ghost width_law = { λ h. (lit≤ tt, lit≤ tt) };
+
+    ghost clone_law = { λ a b h. h };
+
+    ghost infallible_law = { λ _. tt };
 
     ghost eq_law = { λ a b. refl };
 

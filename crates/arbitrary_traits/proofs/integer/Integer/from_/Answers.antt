@@ -4,5 +4,5 @@ use Rattle.arbitrary_traits.proofs.integer.Integer.from_.Goals as goal
 
 pub returns : goal.returns
 returns g c =
-    c.masked_new.ensures
+    c.masked_new.ensures.value
     ∙ wrap-of_in_range g.Self.Integer.IS_SIGNED g.Self.Integer.BITS _ (g.met.Self.Integer.width_law c.requires.width).0 c.requires.range

@@ -1,7 +1,9 @@
 use Rattle.std.specs.Prelude.{false}
+use Rattle.arbitrary_base.proofs.Wrapped.{wrapped-congruent}
 use Rattle.arbitrary_core.proofs.Mate.{wrap-kept_at}
 use Rattle.arbitrary_core.proofs.integer.unsigned.UIntInteger.to_unsigned.Goals as goal
 
 pub returns : goal.returns
 returns g c =
-    wrap-kept_at g.T.Storage.SIGNED false g.row.BITS _ _ _ g.met.T.UnsignedStorage.unsigned_law (c.value.ensures.width.0) c.value.ensures.range c.value.ensures.number c.new.ensures
+    let e = wrap-kept_at g.T.Storage.SIGNED false g.row.BITS _ _ _ g.met.T.UnsignedStorage.unsigned_law (c.value.ensures.width.0) c.value.ensures.range c.value.ensures.number c.new.ensures in
+    record { value = e; congruent = wrapped-congruent false g.row.BITS _ _ e }

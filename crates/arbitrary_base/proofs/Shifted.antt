@@ -1,0 +1,97 @@
+-- Shifts by plain arithmetic: a product that wraps, and a quotient that rounds down.
+use Rattle.std.specs.Prelude.{◌≡◌, ℕ, ℤ, Bool, List, [], ◌∷◌, not, true, false, zero, suc, pos, negsuc, neg_ℤ, ◌+◌, ◌-◌, ◌*◌, ◌/◌, ◌%◌, ◌^◌, ◌≤◌, ◌<◌, ◌+ℤ◌, ◌-ℤ◌, ◌*ℤ◌, ◌≤ℤ◌, ◌<ℤ◌, unsigned_abs, int_div, length, reverse, take, drop, replicate, ◌++◌}
+use Rattle.std.specs.Int.{int_shr}
+use Rattle.std.specs.Int.Bits.{bit_and, bit_or, bit_xor}
+use Rattle.std.proofs.Common.{arith, refl, ap, ap₂, sym, subst, ◌∙◌, mod-lt, length-drop, length-take, take-append-drop, pow-add, lt_of_lt_of_le}
+use Rattle.std.proofs.Math.Nat.{div-add-mod'}
+use Rattle.std.proofs.Math.Pow.{shr_lt}
+use Rattle.std.proofs.lemmas.Int.{ints}
+use Rattle.std.proofs.lemmas.Nat.{pow_pos, or_lt, xor_lt}
+use Rattle.std.proofs.lemmas.List.{length-reverse, reverse-reverse, take_at, drop_at, take-append-le}
+use Rattle.arbitrary_base.specs.Range.{lo, hi, InRange}
+use Rattle.arbitrary_base.specs.Residue.{Congruent, residue, wrap}
+use Rattle.arbitrary_base.specs.Saturation.{clamp}
+use Rattle.arbitrary_base.specs.BitList.{bits, num, val, bits_and, bits_or, bits_xor, differs, fill, items, shl, shr, rotl, rotr, ones, front, tail, bits_not}
+use Rattle.arbitrary_base.specs.Field.{IsField}
+use Rattle.arbitrary_base.proofs.Ring.{sub-mul_z, add-mul_z, mul_assoc_z, neg-mul_z, pos-unsigned_abs}
+use Rattle.arbitrary_base.proofs.Congruence.{Congruent-refl, Congruent-sym, Congruent-trans, Congruent-add, Congruent-mul_left, Congruent-from_apart, pow_half, pow_le}
+use Rattle.arbitrary_base.proofs.Wrap.{residue-congruent, residue-lt, wrap-congruent, wrap-of_in_range, wrap-same}
+use Rattle.arbitrary_base.proofs.Sum.{wrap-zero}
+use Rattle.arbitrary_base.proofs.Primitive.{residue-pos, unsigned-in_range, wrap-pos, mod-congruent}
+use Rattle.arbitrary_base.proofs.Narrow.{residue-mod}
+use Rattle.arbitrary_base.proofs.Clamp.{clamp-in_range, clamp-below, clamp-above}
+use Rattle.arbitrary_base.proofs.BitNumber.{length-bits, length-and, length-not, length-or, length-xor, num-and, num-bits_small, num-lt_of, num-not, num-or, num-take, num-xor}
+use Rattle.arbitrary_base.proofs.BitCount.{ones-not, tail-le}
+use Rattle.arbitrary_base.proofs.BitShift.{length-items, length-rotl, length-rotr, rotr-rotl}
+use Rattle.arbitrary_base.proofs.BitValue.{bits-negsuc, bits-val, val-bits_in_range, val-num, num-bits_residue}
+use Rattle.arbitrary_base.proofs.BitSign.{bits-int_shr, val-shl, val-shr}
+use Rattle.arbitrary_base.proofs.BitResult.{items-value}
+use Rattle.arbitrary_base.proofs.Wrapped.{wrapped-congruent}
+
+pub shl-congruent : (s : Bool) (B k : ℕ) (x z : ℤ) → 1 ≤ B → k < B → z ≡ val s (shl (bits B x) k) → Congruent B z (x *ℤ pos (2 ^ k))
+shl-congruent s B k x z h g e =
+    Congruent-trans B z (pos (residue B x * 2 ^ k)) _
+    (wrapped-congruent s B (pos (residue B x * 2 ^ k)) z (e ∙ val-shl s B k (residue B x) x h (omega arith) refl))
+    (Congruent-mul_left B (pos (residue B x)) x (pos (2 ^ k)) (residue-congruent B x))
+
+pub shl-plain : (s : Bool) (B k : ℕ) (x z : ℤ) → s ≡ false → 1 ≤ B → k < B → InRange s B x → z ≡ val s (shl (bits B x) k)
+    → z ≡ pos (unsigned_abs x * 2 ^ k % 2 ^ B)
+shl-plain true B k x z d h g f e = cc
+shl-plain false B k (negsuc n) z d h g f e = let l = f.low in absurd (omega (arith, ints))
+shl-plain false B k (pos n) z d h g f e =
+    let t = f.high in let p = pow_pos B in
+    e ∙ val-shl false B k n (pos n) h (omega arith) (sym (residue-pos B n (omega (arith, ints)))) ∙ wrap-pos B (n * 2 ^ k) h
+
+pub int_shr-low : (k : ℕ) (x : ℤ) → (int_shr x k *ℤ pos (2 ^ k)) ≤ℤ x
+int_shr-low k (pos n) = let e = div-add-mod' n (2 ^ k) in omega (arith, ints)
+int_shr-low k (negsuc n) = let e = div-add-mod' n (2 ^ k) in let m = mod-lt n (pow_pos k) in omega (arith, ints)
+
+pub int_shr-high : (k : ℕ) (x : ℤ) → x <ℤ (int_shr x k *ℤ pos (2 ^ k) +ℤ pos (2 ^ k))
+int_shr-high k (pos n) = let e = div-add-mod' n (2 ^ k) in let m = mod-lt n (pow_pos k) in omega (arith, ints)
+int_shr-high k (negsuc n) = let e = div-add-mod' n (2 ^ k) in omega (arith, ints)
+
+pub shr-low : (s : Bool) (B k : ℕ) (x z : ℤ) → 1 ≤ B → k < B → InRange s B x → z ≡ val s (shr (bits B x) k (fill s (bits B x))) → (z *ℤ pos (2 ^ k)) ≤ℤ x
+shr-low s B k x z h g f e =
+    subst (λ (y : ℤ). (y *ℤ pos (2 ^ k)) ≤ℤ x) (sym (e ∙ val-shr s B k x h (omega arith) f)) (int_shr-low k x)
+
+pub shr-high : (s : Bool) (B k : ℕ) (x z : ℤ) → 1 ≤ B → k < B → InRange s B x → z ≡ val s (shr (bits B x) k (fill s (bits B x)))
+    → x <ℤ (z *ℤ pos (2 ^ k) +ℤ pos (2 ^ k))
+shr-high s B k x z h g f e =
+    subst (λ (y : ℤ). x <ℤ (y *ℤ pos (2 ^ k) +ℤ pos (2 ^ k))) (sym (e ∙ val-shr s B k x h (omega arith) f)) (int_shr-high k x)
+
+int_shr-range : (s : Bool) (B k : ℕ) (x : ℤ) → k < B → InRange s B x → InRange s (B - k) (int_shr x k)
+int_shr-range false B k (negsuc n) g f = let l = f.low in absurd (omega (arith, ints))
+int_shr-range false B k (pos n) g f =
+    let t = f.high in
+    let p = pow_pos B in
+    let q = pow_pos (B - k) in
+    let e : B ≡ (B - k) + k = omega arith in
+    let l : n < 2 ^ ((B - k) + k) = subst (λ (m : ℕ). n < 2 ^ m) e (omega (arith, ints)) in
+    let d = shr_lt (B - k) k l in
+    record { low = omega (arith, ints); high = omega (arith, ints) }
+int_shr-range true B k (pos n) g f =
+    let t = f.high in
+    let p = pow_pos (B - 1) in
+    let q = pow_pos (B - k - 1) in
+    let e : B - 1 ≡ (B - k - 1) + k = omega arith in
+    let l : n < 2 ^ ((B - k - 1) + k) = subst (λ (m : ℕ). n < 2 ^ m) e (omega (arith, ints)) in
+    let d = shr_lt (B - k - 1) k l in
+    record { low = omega (arith, ints); high = omega (arith, ints) }
+int_shr-range true B k (negsuc n) g f =
+    let t = f.low in
+    let p = pow_pos (B - 1) in
+    let q = pow_pos (B - k - 1) in
+    let e : B - 1 ≡ (B - k - 1) + k = omega arith in
+    let l : n < 2 ^ ((B - k - 1) + k) = subst (λ (m : ℕ). n < 2 ^ m) e (omega (arith, ints)) in
+    let d = shr_lt (B - k - 1) k l in
+    record { low = omega (arith, ints); high = omega (arith, ints) }
+
+pub shr-range : (s : Bool) (B k : ℕ) (x z : ℤ) → 1 ≤ B → k < B → InRange s B x → z ≡ val s (shr (bits B x) k (fill s (bits B x))) → InRange s (B - k) z
+shr-range s B k x z h g f e =
+    subst (λ (y : ℤ). InRange s (B - k) y) (sym (e ∙ val-shr s B k x h (omega arith) f)) (int_shr-range s B k x g f)
+
+pub shr-quotient : (s : Bool) (B k : ℕ) (x z : ℤ) → s ≡ false → 1 ≤ B → k < B → InRange s B x → z ≡ val s (shr (bits B x) k (fill s (bits B x)))
+    → z ≡ int_div x (pos (2 ^ k))
+shr-quotient true B k x z d h g f e = cc
+shr-quotient false B k (negsuc n) z d h g f e = let l = f.low in absurd (omega (arith, ints))
+shr-quotient false B k (pos n) z d h g f e = e ∙ val-shr false B k (pos n) h (omega arith) f

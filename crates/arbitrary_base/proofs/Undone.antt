@@ -1,0 +1,83 @@
+-- Calls that undo each other: a sum and a difference that wrap, the two rotations, the reversal, and the same `xor` twice.
+use Rattle.std.specs.Prelude.{◌≡◌, ℕ, ℤ, Bool, List, [], ◌∷◌, not, true, false, zero, suc, pos, negsuc, neg_ℤ, ◌+◌, ◌-◌, ◌*◌, ◌/◌, ◌%◌, ◌^◌, ◌≤◌, ◌<◌, ◌+ℤ◌, ◌-ℤ◌, ◌*ℤ◌, ◌≤ℤ◌, ◌<ℤ◌, unsigned_abs, int_div, length, reverse, take, drop, replicate, ◌++◌}
+use Rattle.std.specs.Int.{int_shr}
+use Rattle.std.specs.Int.Bits.{bit_and, bit_or, bit_xor}
+use Rattle.std.proofs.Common.{arith, refl, ap, ap₂, sym, subst, ◌∙◌, mod-lt, length-drop, length-take, take-append-drop, pow-add, lt_of_lt_of_le}
+use Rattle.std.proofs.Math.Nat.{div-add-mod'}
+use Rattle.std.proofs.Math.Pow.{shr_lt}
+use Rattle.std.proofs.lemmas.Int.{ints}
+use Rattle.std.proofs.lemmas.Nat.{pow_pos, or_lt, xor_lt}
+use Rattle.std.proofs.lemmas.List.{length-reverse, reverse-reverse, take_at, drop_at, take-append-le}
+use Rattle.arbitrary_base.specs.Range.{lo, hi, InRange}
+use Rattle.arbitrary_base.specs.Residue.{Congruent, residue, wrap}
+use Rattle.arbitrary_base.specs.Saturation.{clamp}
+use Rattle.arbitrary_base.specs.BitList.{bits, num, val, bits_and, bits_or, bits_xor, differs, fill, items, shl, shr, rotl, rotr, ones, front, tail, bits_not}
+use Rattle.arbitrary_base.specs.Field.{IsField}
+use Rattle.arbitrary_base.proofs.Ring.{sub-mul_z, add-mul_z, mul_assoc_z, neg-mul_z, pos-unsigned_abs}
+use Rattle.arbitrary_base.proofs.Congruence.{Congruent-refl, Congruent-sym, Congruent-trans, Congruent-add, Congruent-mul_left, Congruent-from_apart, pow_half, pow_le}
+use Rattle.arbitrary_base.proofs.Wrap.{residue-congruent, residue-lt, wrap-congruent, wrap-of_in_range, wrap-same}
+use Rattle.arbitrary_base.proofs.Sum.{wrap-zero}
+use Rattle.arbitrary_base.proofs.Primitive.{residue-pos, unsigned-in_range, wrap-pos, mod-congruent}
+use Rattle.arbitrary_base.proofs.Narrow.{residue-mod}
+use Rattle.arbitrary_base.proofs.Clamp.{clamp-in_range, clamp-below, clamp-above}
+use Rattle.arbitrary_base.proofs.BitNumber.{length-bits, length-and, length-not, length-or, length-xor, num-and, num-bits_small, num-lt_of, num-not, num-or, num-take, num-xor}
+use Rattle.arbitrary_base.proofs.BitCount.{ones-not, tail-le}
+use Rattle.arbitrary_base.proofs.BitShift.{length-items, length-rotl, length-rotr, rotr-rotl}
+use Rattle.arbitrary_base.proofs.BitValue.{bits-negsuc, bits-val, val-bits_in_range, val-num, num-bits_residue}
+use Rattle.arbitrary_base.proofs.BitSign.{bits-int_shr, val-shl, val-shr}
+use Rattle.arbitrary_base.proofs.BitResult.{items-value}
+use Rattle.arbitrary_base.proofs.Wrapped.{wrapped-congruent}
+use Rattle.arbitrary_base.proofs.BitArithmetic.{alike}
+
+-- a sum that wrapped, and what was added, taken off again; and the other way
+pub sub-undoes : (s : Bool) (B : ℕ) (x b r y : ℤ) → 1 ≤ B → InRange s B y → x ≡ wrap s B (y +ℤ b) → r ≡ wrap s B (x -ℤ b) → r ≡ y
+sub-undoes s B x b r y h f e d =
+    let c = Congruent-add B x (y +ℤ b) (neg_ℤ b) (neg_ℤ b) (wrapped-congruent s B (y +ℤ b) x e) (Congruent-refl B (neg_ℤ b)) in
+    let i : x +ℤ neg_ℤ b ≡ x -ℤ b = omega (arith, ints) in
+    let j : (y +ℤ b) +ℤ neg_ℤ b ≡ y = omega (arith, ints) in
+    d ∙ ap (wrap s B) (sym i) ∙ wrap-same s B _ _ h c ∙ ap (wrap s B) j ∙ wrap-of_in_range s B y h f
+
+pub add-undoes : (s : Bool) (B : ℕ) (x b r y : ℤ) → 1 ≤ B → InRange s B y → x ≡ wrap s B (y -ℤ b) → r ≡ wrap s B (x +ℤ b) → r ≡ y
+add-undoes s B x b r y h f e d =
+    let c = Congruent-add B x (y -ℤ b) b b (wrapped-congruent s B (y -ℤ b) x e) (Congruent-refl B b) in
+    let j : (y -ℤ b) +ℤ b ≡ y = omega (arith, ints) in
+    d ∙ wrap-same s B _ _ h c ∙ ap (wrap s B) j ∙ wrap-of_in_range s B y h f
+
+pub rotr-undoes : (s : Bool) (B k : ℕ) (x z y : ℤ) → 1 ≤ B → k ≤ B → InRange s B y → x ≡ val s (rotl (bits B y) k) → z ≡ val s (rotr (bits B x) k) → z ≡ y
+rotr-undoes s B k x z y h g f e d =
+    let l : bits B x ≡ rotl (bits B y) k = ap (bits B) e ∙ bits-val s B (rotl (bits B y) k) (length-rotl (bits B y) k ∙ length-bits B y) in
+    let t : k ≤ length (bits B y) = omega (arith, length-bits B y) in
+    d ∙ ap (λ (m : List Bool). val s (rotr m k)) l ∙ ap (val s) (rotr-rotl (bits B y) k t) ∙ val-bits_in_range s B y h f
+
+rotl-rotr : (l : List Bool) (k : ℕ) → k ≤ length l → rotl (rotr l k) k ≡ l
+rotl-rotr l k h =
+    let n : length (rotr l k) - k ≡ length (drop k l) = omega (arith, length-rotr l k, length-drop k l) in
+    rw (n, take_at (drop k l) (take k l) (length (drop k l)) refl, drop_at (drop k l) (take k l) (length (drop k l)) refl) (take-append-drop k l)
+
+pub rotl-undoes : (s : Bool) (B k : ℕ) (x z y : ℤ) → 1 ≤ B → k ≤ B → InRange s B y → x ≡ val s (rotr (bits B y) k) → z ≡ val s (rotl (bits B x) k) → z ≡ y
+rotl-undoes s B k x z y h g f e d =
+    let l : bits B x ≡ rotr (bits B y) k = ap (bits B) e ∙ bits-val s B (rotr (bits B y) k) (length-rotr (bits B y) k ∙ length-bits B y) in
+    let t : k ≤ length (bits B y) = omega (arith, length-bits B y) in
+    d ∙ ap (λ (m : List Bool). val s (rotl m k)) l ∙ ap (val s) (rotl-rotr (bits B y) k t) ∙ val-bits_in_range s B y h f
+
+pub reverse-undoes : (s : Bool) (B : ℕ) (x z y : ℤ) → 1 ≤ B → InRange s B y → x ≡ val s (reverse (bits B y)) → z ≡ val s (reverse (bits B x)) → z ≡ y
+reverse-undoes s B x z y h f e d =
+    let l : bits B x ≡ reverse (bits B y) = ap (bits B) e ∙ bits-val s B (reverse (bits B y)) (length-reverse (bits B y) ∙ length-bits B y) in
+    d ∙ ap (λ (m : List Bool). val s (reverse m)) l ∙ ap (val s) (reverse-reverse (bits B y)) ∙ val-bits_in_range s B y h f
+
+differs-twice : (a b : Bool) → differs (differs a b) b ≡ a
+differs-twice true true = refl
+differs-twice true false = refl
+differs-twice false true = refl
+differs-twice false false = refl
+
+xor-xor : (l m : List Bool) → length l ≡ length m → bits_xor (bits_xor l m) m ≡ l
+xor-xor [] m e = refl
+xor-xor (a ∷ l) [] e = absurd (omega arith)
+xor-xor (a ∷ l) (b ∷ m) e = ap₂ (λ (c : Bool) (n : List Bool). c ∷ n) (differs-twice a b) (xor-xor l m (omega arith))
+
+pub xor-undoes : (s : Bool) (B : ℕ) (x b z y : ℤ) → 1 ≤ B → InRange s B y → x ≡ val s (bits_xor (bits B y) (bits B b)) → z ≡ val s (bits_xor (bits B x) (bits B b)) → z ≡ y
+xor-undoes s B x b z y h f e d =
+    let l : bits B x ≡ bits_xor (bits B y) (bits B b) =
+    ap (bits B) e ∙ bits-val s B (bits_xor (bits B y) (bits B b)) (length-xor (bits B y) (bits B b) (alike B y b) ∙ length-bits B y) in
+    d ∙ ap (λ (m : List Bool). val s (bits_xor m (bits B b))) l ∙ ap (val s) (xor-xor (bits B y) (bits B b) (alike B y b)) ∙ val-bits_in_range s B y h f

@@ -1,0 +1,13 @@
+-- A word as a row of fields.
+use Rattle.std.specs.Prelude.{◌≡◌, ℕ, ℤ, pos, ◌+◌, ◌/◌, ◌%◌, ◌^◌, ◌<◌, ◌+ℤ◌, ◌*ℤ◌}
+
+-- the number in `width` bits of the word, from bit `start` on
+abbrev pub field : ℕ → ℕ → ℕ → ℤ
+field word start width = pos (word / 2 ^ start % 2 ^ width)
+
+-- z stands in B bits of x, from bit `start` on: x is z there, `below` under it, and `above` over it
+pub record IsField (start B : ℕ) (x z : ℤ) : Type 0 where
+  pub below : ℕ
+  pub above : ℤ
+  pub short : below < 2 ^ start
+  pub made : x ≡ above *ℤ pos (2 ^ (start + B)) +ℤ z *ℤ pos (2 ^ start) +ℤ pos below

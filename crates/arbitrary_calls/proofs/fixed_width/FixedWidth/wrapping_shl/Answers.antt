@@ -1,0 +1,19 @@
+use Rattle.std.specs.Prelude.{◌≡◌, Bool, ◌<◌, ◌%◌}
+use Rattle.std.proofs.Common.{arith, subst}
+use Rattle.arbitrary_base.specs.Range.{InRange}
+use Rattle.arbitrary_base.specs.BitList.{bits, val, shl}
+use Rattle.arbitrary_base.proofs.Shifted.{shl-congruent, shl-plain}
+use Rattle.arbitrary_calls.proofs.fixed_width.FixedWidth.wrapping_shl.Goals as goal
+
+pub returns : goal.returns
+returns g c =
+    let t = g.met.Self.FixedWidth.sign_law in
+    let o = c.kept.ensures.some in
+    let l : c.args.amount % g.Self.Integer.BITS < g.Self.Integer.BITS = omega arith in
+    let r = subst (λ (s : Bool). InRange s g.Self.Integer.BITS (g.Self.Integer.number c.args.self)) t c.kept.ensures.range in
+    let e : g.Self.Integer.number c.from_kept.result ≡ val g.Self.Integer.IS_SIGNED (shl (bits g.Self.Integer.BITS (g.Self.Integer.number c.args.self)) (c.args.amount % g.Self.Integer.BITS)) = cc in
+    record {
+      value = e;
+      plain = λ d. shl-plain _ _ _ _ _ d o l r e;
+      congruent = shl-congruent _ _ _ _ _ o l e;
+    }

@@ -1,0 +1,9 @@
+use Rattle.arbitrary_base.proofs.Wrapped.{wrapped-kept}
+use Rattle.arbitrary_base.proofs.Undone.{sub-undoes}
+use Rattle.arbitrary_calls.proofs.fixed_width.FixedWidth.wrapping_sub.Goals as goal
+
+pub returns-clause-kept : goal.returns-clause-kept
+returns-clause-kept g c f = let t = g.met.Self.FixedWidth.sign_law in wrapped-kept _ _ _ _ c.kept.ensures.some f (cc)
+
+pub returns-clause-undo : goal.returns-clause-undo
+returns-clause-undo g c y f d = let t = g.met.Self.FixedWidth.sign_law in sub-undoes _ _ _ (g.Self.Integer.number c.args.rhs) _ y c.kept.ensures.some f d (cc)

@@ -1,0 +1,15 @@
+use Rattle.std.specs.Prelude.{◌≡◌}
+use Rattle.arbitrary_base.specs.BitList.{bits, val, bits_or}
+use Rattle.arbitrary_base.proofs.BitArithmetic.{or-plain}
+use Rattle.arbitrary_core.proofs.bitwise.signed.IntBitOr.bitor.Goals as goal
+
+pub returns : goal.returns
+returns g c =
+    let w = c.value.ensures.width.0 in
+    let x = c.value.ensures.range in
+    let y = c.value-2.ensures.range in
+    let e : c.new.result ≡ val g.T.Storage.SIGNED (bits_or (bits g.row.BITS c.args.self) (bits g.row.BITS c.args.rhs)) = cc in
+    record {
+      bits = e;
+      plain = or-plain _ _ _ _ _ w x y e;
+    }

@@ -1,0 +1,18 @@
+use Rattle.std.specs.Prelude.{◌≡◌}
+use Rattle.arbitrary_base.specs.BitList.{bits, val, bits_xor}
+use Rattle.arbitrary_base.proofs.BitArithmetic.{xor-plain, xor-same}
+use Rattle.arbitrary_base.proofs.Undone.{xor-undoes}
+use Rattle.arbitrary_core.proofs.bitwise.signed.IntBitXor.bitxor.Goals as goal
+
+pub returns : goal.returns
+returns g c =
+    let w = c.value.ensures.width.0 in
+    let x = c.value.ensures.range in
+    let y = c.value-2.ensures.range in
+    let e : c.new.result ≡ val g.T.Storage.SIGNED (bits_xor (bits g.row.BITS c.args.self) (bits g.row.BITS c.args.rhs)) = cc in
+    record {
+      bits = e;
+      plain = xor-plain _ _ _ _ _ w x y e;
+      same = xor-same _ _ _ _ _ w e;
+      undo = λ z f d. xor-undoes _ _ _ _ _ z w f d e;
+    }

@@ -1,0 +1,20 @@
+use Rattle.std.specs.Prelude.{◌≡◌}
+use Rattle.arbitrary_base.specs.BitList.{bits, val, bits_and}
+use Rattle.arbitrary_base.proofs.BitArithmetic.{and-plain, and-left, and-right, not_below_zero}
+use Rattle.arbitrary_core.proofs.bitwise.unsigned.UIntBitAnd.bitand.Goals as goal
+
+pub returns : goal.returns
+returns g c =
+    let u = g.met.T.UnsignedStorage.unsigned_law in
+    let w = c.value.ensures.width.0 in
+    let x = c.value.ensures.range in
+    let y = c.value-2.ensures.range in
+    let a = not_below_zero _ _ _ u x in
+    let b = not_below_zero _ _ _ u y in
+    let e : c.new.result ≡ val g.T.Storage.SIGNED (bits_and (bits g.row.BITS c.args.self) (bits g.row.BITS c.args.rhs)) = cc in
+    record {
+      bits = e;
+      plain = and-plain _ _ _ _ _ w x y e a b;
+      left = (and-left _ _ _ _ _ w x e a).1;
+      right = (and-right _ _ _ _ _ w y e b).1;
+    }

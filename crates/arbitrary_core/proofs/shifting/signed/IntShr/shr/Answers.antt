@@ -1,0 +1,21 @@
+use Rattle.std.specs.Prelude.{◌≡◌, ◌<◌, unsigned_abs}
+use Rattle.std.proofs.Common.{arith, ap}
+use Rattle.std.proofs.lemmas.Int.{ints}
+use Rattle.arbitrary_base.specs.BitList.{bits, val, fill, shr}
+use Rattle.arbitrary_base.proofs.Shifted.{shr-low, shr-high, shr-range}
+use Rattle.arbitrary_core.proofs.shifting.signed.IntShr.shr.Goals as goal
+
+pub returns : goal.returns
+returns g c =
+    let w = c.value.ensures.width.0 in
+    let x = c.value.ensures.range in
+    let k : c.to_amount.result ≡ unsigned_abs (g.S.ShiftAmount.amount c.args.amount) = ap unsigned_abs c.to_amount.ensures in
+    let l : unsigned_abs (g.S.ShiftAmount.amount c.args.amount) < g.row.BITS =
+    let low = c.requires.0 in let high = c.requires.1 in let a = c.to_amount.ensures in omega (arith, ints) in
+    let e : c.new.result ≡ val g.T.Storage.SIGNED (shr (bits g.row.BITS c.args.self) (unsigned_abs (g.S.ShiftAmount.amount c.args.amount)) (fill g.T.Storage.SIGNED (bits g.row.BITS c.args.self))) = cc in
+    record {
+      bits = e;
+      low = shr-low _ _ _ _ _ w l x e;
+      high = shr-high _ _ _ _ _ w l x e;
+      range = shr-range _ _ _ _ _ w l x e;
+    }

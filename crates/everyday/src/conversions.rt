@@ -1,0 +1,226 @@
+//! Indices, masks and casts.
+
+ghost use Rattle.std.specs.Prelude.{◌≡◌, ◌/◌, ◌%◌, ◌<◌, ◌+ℤ◌, ◌-ℤ◌, ◌*ℤ◌, ◌≤ℤ◌, ◌<ℤ◌, pos, neg_ℤ, IsTrue};
+
+use arbitrary_int::prelude::*;
+
+pub fn index_as_usize(t: &[u8; 16], i: u4) -> u8 {
+    t[i.as_usize()]
+}
+
+pub fn index_value_as(t: &[u8; 16], i: u4) -> u8 {
+    t[i.value() as usize]
+}
+
+pub fn index_usize_from(t: &[u8; 4096], i: u12) -> u8 {
+    t[usize::from(i.value())]
+}
+
+pub fn new_of_mask(x: u8) -> u4
+    ensures { result ≡ pos (x % 16) }
+{
+    u4::new(x & 15)
+}
+
+pub fn new_of_rem(x: u8) -> u4
+    ensures { result ≡ pos (x % 16) }
+{
+    u4::new(x % 16)
+}
+
+pub fn new_of_shift(x: u8) -> u4
+    ensures { result ≡ pos (x / 16) }
+{
+    u4::new(x >> 4)
+}
+
+pub fn new_of_odd_mask(x: u32) -> u29 {
+    u29::new(x & 0x1FFF_FFFF)
+}
+
+pub fn masked(x: u8) -> u4
+    ensures { result ≡ pos (x % 16) }
+{
+    u4::masked_new(x)
+}
+
+pub fn masked_small(x: u8) -> u4
+    requires { x < 16 }
+    ensures { result ≡ pos x }
+{
+    u4::masked_new(x)
+}
+
+pub fn as_u8_keeps(x: u4) -> u8
+    ensures { pos result ≡ x }
+{
+    x.as_u8()
+}
+
+pub fn as_u8_small(x: u4) -> u8
+    ensures { result < 16 }
+{
+    x.as_u8()
+}
+
+pub fn from_keeps(x: u4) -> u8
+    ensures { pos result ≡ x }
+{
+    u8::from_(x)
+}
+
+pub fn from_small(x: u4) -> u8
+    ensures { result < 16 }
+{
+    u8::from_(x)
+}
+
+pub fn from_adds(x: u4) -> u8 {
+    u8::from_(x) + 240
+}
+
+pub fn as_wider(x: u4) -> u7
+    ensures { result ≡ x }
+{
+    x.as_::<u7>()
+}
+
+pub fn from_wider(x: u4) -> u7
+    ensures { result ≡ x }
+{
+    u7::from_(x)
+}
+
+pub fn as_narrower(x: u8) -> u4
+    ensures { result ≡ pos (x % 16) }
+{
+    x.as_::<u4>()
+}
+
+pub fn tried(x: u8) -> bool
+    requires { x < 16 }
+    ensures { IsTrue result }
+{
+    u4::try_new(x).is_ok()
+}
+
+pub fn millivolts_as(x: i12) -> i32 {
+    x.as_i32() * 2500 / 2048
+}
+
+pub fn millivolts_from(x: i12) -> i32 {
+    i32::from_(x) * 2500 / 2048
+}
+
+pub fn millivolts_value(x: i12) -> i32 {
+    i32::from(x.value()) * 2500 / 2048
+}
+
+pub fn left_justified(x: i16) -> i12 {
+    i12::new(x >> 4)
+}
+
+pub fn left_justified_extract(x: i16) -> i12
+    ensures { (pos 16 *ℤ result) ≤ℤ x }
+{
+    i12::extract_i16(x, 4)
+}
+
+pub fn from_bits_of_mask(x: u16) -> i12 {
+    i12::from_bits(x & 0xFFF)
+}
+
+pub fn bits_and_back(x: i12) -> i12
+    ensures { result ≡ x }
+{
+    i12::from_bits(x.to_bits())
+}
+
+pub fn unsigned_and_back(x: i12) -> i12
+    ensures { result ≡ x }
+{
+    i12::from_unsigned(x.to_unsigned())
+}
+
+pub fn in_loop() -> u8 {
+    let mut last = u4::new(0);
+    for i in 0..16u8 {
+        last = u4::new(i);
+    }
+    last.value()
+}
+
+pub fn last_is_max(x: u4) -> bool
+    ensures { IsTrue result }
+{
+    x <= u4::max_value()
+}
+
+/// The mask of a field's own type fits that type.
+pub fn new_of_own_mask(x: u8) -> u7
+    ensures { result ≡ pos (x % 128) }
+{
+    u7::new(x & u7::mask())
+}
+
+pub fn read_as_signed(x: u12) -> i12
+    requires { x <ℤ pos 2048 }
+    ensures { result ≡ x }
+{
+    x.as_::<i12>()
+}
+
+pub fn read_as_negative(x: u12) -> i12
+    requires { pos 2048 ≤ℤ x }
+    ensures { result ≡ x -ℤ pos 4096 }
+{
+    i12::from_unsigned(x)
+}
+
+pub fn sign_extended(x: i12) -> i32
+    ensures { result ≡ x }
+{
+    x.as_i32()
+}
+
+pub fn low_byte_of_a_negative_number(x: i4) -> u8
+    requires { x <ℤ pos 0 }
+    ensures { pos result ≡ x +ℤ pos 256 }
+{
+    x.as_u8()
+}
+
+pub fn wider_and_back(x: i12) -> i12
+    ensures { result ≡ x }
+{
+    x.as_::<i20>().as_::<i12>()
+}
+
+pub fn widened(x: u5) -> u7
+    ensures { result ≡ x }
+{
+    x.widen()
+}
+
+pub fn all_ones_is_minus_one() -> i4
+    ensures { result ≡ neg_ℤ (pos 1) }
+{
+    i4::from_bits(15)
+}
+
+pub fn tried_bits(bits: u8, other: i4) -> i4
+    requires small { bits < 8 }
+    ensures { result ≡ pos bits }
+{
+    match i4::try_from_bits(bits) {
+        Ok(x) => x,
+        Err(_) => other,
+    }
+}
+
+pub fn ends() -> (i12, i12)
+    ensures low { result.0 ≡ neg_ℤ (pos 2048) }
+    ensures high { result.1 ≡ pos 2047 }
+{
+    (i12::min_value(), i12::max_value())
+}

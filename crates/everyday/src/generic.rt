@@ -1,0 +1,89 @@
+//! Code that is generic in the type.
+
+ghost use Rattle.std.specs.Prelude.{◌≡◌, ◌↔◌, ◌≤◌, ◌+ℤ◌, ◌≤ℤ◌, ◌<ℤ◌, pos, IfSome, IsTrue};
+ghost use Rattle.arbitrary_int.specs.Range.{InRange, lo, hi};
+
+use arbitrary_int::prelude::*;
+
+pub fn narrowed<A: Integer, B: Integer>(x: A) -> B
+    requires width { B.valid }
+    requires fits { InRange B.IS_SIGNED B.BITS (A.number x) }
+    ensures { B.number result ≡ A.number x }
+{
+    x.as_::<B>()
+}
+
+pub fn added<V: FixedWidth>(a: V, b: V) -> V
+    requires { InRange V.IS_SIGNED V.BITS (V.number a +ℤ V.number b) }
+    ensures { V.number result ≡ V.number a +ℤ V.number b }
+{
+    a.wrapping_add(b)
+}
+
+pub fn added_exactly<V: Integer>(a: V, b: V) -> V
+    requires { InRange V.IS_SIGNED V.BITS (V.number a +ℤ V.number b) }
+    ensures { V.number result ≡ V.number a +ℤ V.number b }
+{
+    a + b
+}
+
+pub fn saturated<V: FixedWidth>(a: V, b: V) -> V
+    requires { hi V.IS_SIGNED V.BITS <ℤ (V.number a +ℤ V.number b) }
+    ensures { V.number result ≡ hi V.IS_SIGNED V.BITS }
+{
+    a.saturating_add(b)
+}
+
+pub fn there_and_back<V: FixedWidth>(a: V, b: V) -> V
+    ensures { V.number result ≡ V.number a }
+{
+    a.wrapping_add(b).wrapping_sub(b)
+}
+
+pub fn rotated_back<V: FixedWidth>(a: V, amount: u32) -> V
+    ensures { V.number result ≡ V.number a }
+{
+    a.rotate_left(amount).rotate_right(amount)
+}
+
+pub fn unsigned_and_back<V: Integer>(a: V) -> V
+    ensures { V.number result ≡ V.number a }
+{
+    V::from_unsigned(a.to_unsigned())
+}
+
+pub fn smaller<V: FixedWidth>(a: V, b: V) -> bool
+    ensures { IsTrue result ↔ (V.number a <ℤ V.number b) }
+{
+    a < b
+}
+
+pub fn cloned<V: Integer>(a: &V) -> Option<V>
+    ensures { IfSome result (λ b. V.number b ≡ V.number a.now) }
+{
+    match a.clone() {
+        Ok(b) => Some(b),
+        Err(_) => None,
+    }
+}
+
+pub fn low_byte<V: UnsignedInteger>(a: V) -> u8
+    requires { V.number a <ℤ pos 256 }
+    ensures { pos result ≡ V.number a }
+{
+    a.as_u8()
+}
+
+/// Each value is in range, at a valid width.
+pub fn known<V: Integer>(a: V) -> u8
+    ensures range { InRange V.IS_SIGNED V.BITS (V.number a) }
+    ensures width { V.valid }
+{
+    a.as_u8()
+}
+
+pub fn counted<V: FixedWidth>(a: V) -> u32
+    ensures { result ≤ V.BITS }
+{
+    a.leading_zeros()
+}

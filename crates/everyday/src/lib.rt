@@ -1,0 +1,9 @@
+//! What a user of the library takes for granted, each fact in one function. None has a proof of its own:
+//! the contracts of the calls carry them, and this crate is what keeps it so.
+#![tactic(auto)]
+
+pub mod arithmetic;
+pub mod bits;
+pub mod conversions;
+pub mod generic;
+pub mod structs;
