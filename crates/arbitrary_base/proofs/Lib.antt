@@ -16,3 +16,4 @@ pub mod BitResult
 pub mod LawProof
 pub mod Powers
 pub mod Squaring
+pub mod Spare
