@@ -17,3 +17,5 @@ pub mod LawProof
 pub mod Powers
 pub mod Squaring
 pub mod Spare
+pub mod Size
+pub mod SmallNumber

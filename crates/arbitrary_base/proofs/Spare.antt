@@ -1,5 +1,5 @@
--- With a bit to spare, the number that the storage keeps of a sum or a difference tells the exact one.
-use Rattle.std.specs.Prelude.{◌≡◌, ◌↔◌, ℕ, suc, ℤ, Bool, true, false, not, pos, ◌+ℤ◌, ◌-ℤ◌, ◌≤ℤ◌, ◌*◌, ◌^◌, ◌≤◌, ◌<◌, IsTrue}
+-- What the number that the storage keeps of a sum, a difference or a product tells of the exact one.
+use Rattle.std.specs.Prelude.{◌≡◌, ◌↔◌, ℕ, suc, ℤ, Bool, true, false, not, ◌||◌, pos, ◌+ℤ◌, ◌-ℤ◌, ◌≤ℤ◌, ◌*◌, ◌^◌, ◌≤◌, ◌<◌, IsTrue}
 use Rattle.std.specs.Ordering.{int_eq}
 use Rattle.std.proofs.Common.{arith, refl, ap, sym, subst, ◌∙◌, ⊎_elim}
 use Rattle.std.proofs.lemmas.Int.{ints}
@@ -60,3 +60,12 @@ overflow-told s B e w n false h t m p =
 -- what is left of the kept number is what is left of the exact one
 pub wrap-kept : (s : Bool) (B W : ℕ) (e w n : ℤ) → 1 ≤ B → B ≤ W → n ≡ wrap s B w → w ≡ wrap s W e → n ≡ wrap s B e
 wrap-kept s B W e w n h g p q = p ∙ ap (wrap s B) q ∙ wrap-wrap s B W e h g
+
+-- a product is out of range where the storage says so, and where what it keeps is
+pub mul-overflow_told : (s : Bool) (B W : ℕ) (e w : ℤ) (o b : Bool) → 1 ≤ B → B ≤ W → w ≡ wrap s W e → (IsTrue o ↔ ¬ (InRange s W e)) → (IsTrue b ↔ InRange s B w)
+    → IsTrue (o || not b) ↔ ¬ (InRange s B e)
+mul-overflow_told s B W e w true b h g m p q = ((λ t i. p.0 refl (InRange-wider s B W e h g i)), (λ t. refl))
+mul-overflow_told s B W e w false true h g m p q =
+    ((λ t. cc), (λ n. p.1 (λ i. n (subst (λ (v : ℤ). InRange s B v) (m ∙ wrap-of_in_range s W e (omega arith) i) (q.0 refl)))))
+mul-overflow_told s B W e w false false h g m p q =
+    ((λ t i. let u : IsTrue false = q.1 (subst (λ (v : ℤ). InRange s B v) (sym (m ∙ wrap-of_in_range s W e (omega arith) (InRange-wider s B W e h g i))) i) in cc), (λ t. refl))

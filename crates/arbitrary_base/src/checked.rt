@@ -5,9 +5,8 @@ ghost use Rattle.arbitrary_base.specs.Range.{InRange};
 ghost use Rattle.arbitrary_base.specs.Exact.{ExactOrNone, QuotientOrNone, turned};
 
 use crate::ends::{is_below, is_below_zero, is_within, is_zero, zero};
-use crate::narrowing::is_in_range;
 use crate::storage::Storage;
-use crate::wrapping;
+use crate::{small, wrapping};
 
 /// The sum where the type has it.
 // With a bit to spare the storage's sum is in range exactly where the exact one is.
@@ -89,21 +88,29 @@ pub(crate) fn sub_by_order<T: Storage>(x: T, y: T, bits: usize) -> Option<T>
 }
 
 /// The product where the type has it.
+// In 64 bits the product of two small numbers is exact; elsewhere the storage multiplies once.
 #[tactic(auto, using(crate::proofs::Sum::arithmetic))]
 pub fn mul<T: Storage>(x: T, y: T, bits: usize) -> Option<T>
     requires width { 1 ≤ bits }
     requires storage { bits ≤ T.WIDTH }
     ensures { ExactOrNone T.number T.SIGNED bits (T.number x *ℤ T.number y) result }
 {
-    match x.checked_mul(y) {
-        Some(product) => {
-            if is_in_range(product, bits) {
-                Some(product)
-            } else {
-                None
-            }
+    if T::WIDTH <= 16 {
+        let product = small::product(x, y);
+        if small::is_number_of::<T>(product, bits) {
+            Some(small::kept(product))
+        } else {
+            None
         }
-        None => None,
+    } else {
+        let (product, overflow) = x.overflowing_mul(y);
+        if overflow {
+            None
+        } else if is_within(&product, bits) {
+            Some(product)
+        } else {
+            None
+        }
     }
 }
 
