@@ -137,6 +137,10 @@ clamp-InRange s B x y h e = subst (λ (z : ℤ). InRange s B z) (sym e) (within 
     within false true p q = rw (p, q) (let m = ends in record { low = omega (arith, ints); high = omega (arith, ints) })
     within false false p q = rw (p, q) (record { low = grind (arith, ints); high = grind (arith, ints) })
 
+pub end-InRange : (s : Bool) (B : ℕ) (y : ℤ) (b : Bool) → 1 ≤ B → y ≡ range_end s B b → InRange s B y
+end-InRange s B y true h e = let a = span s B h in let p = pow_pos B in record { low = omega (arith, ints); high = omega (arith, ints) }
+end-InRange s B y false h e = let a = span s B h in let p = pow_pos B in record { low = omega (arith, ints); high = omega (arith, ints) }
+
 pub ruleset overflow_laws = (overflows)
 
 pub ruleset clamps = (clamp-in_range, add-saturates, sub-saturates, mul-saturates, div-saturates)

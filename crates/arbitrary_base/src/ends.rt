@@ -34,8 +34,7 @@ pub fn highest<T: Storage>(bits: usize) -> T
 pub(crate) fn end<T: Storage>(low: bool, bits: usize) -> T
     requires width { 1 ≤ bits }
     requires storage { bits ≤ T.WIDTH }
-    ensures value { T.number result ≡ range_end T.SIGNED bits low }
-    ensures range { InRange T.SIGNED bits (T.number result) }
+    ensures { T.number result ≡ range_end T.SIGNED bits low }
 {
     if low { lowest(bits) } else { highest(bits) }
 }
