@@ -128,12 +128,12 @@ reverse_halves k n m p q h e p-lt q-lt f g =
     let same : k + k - k ≡ k = omega arith in
     rw (shl-mod p k (k + k) (omega arith), same, mod-eq_of_lt p-lt, or_shifted p k q q-lt, whole) (omega arith)
 
-pub reverse_pattern : (w p r : ℕ) → w ≤ 128 → p < 2 ^ w → r ≡ reverse_bits_onto 128 p 0 → r / 2 ^ (128 - w) ≡ num (reverse (bits w (pos p)))
-reverse_pattern w p r b h e =
-    let whole : r ≡ 2 ^ (128 - w) * num (reverse (bits w (pos p))) =
-    e ∙ reversed-num 128 p (wider w 128 p b h)
-    ∙ rw (wide_bits w 128 p b h, reverse-append (bits w (pos p)) (replicate (128 - w) false), num-append (reverse (replicate (128 - w) false)) (reverse (bits w (pos p))), num-reverse_zeros (128 - w), length-reverse (replicate (128 - w) false), length-replicate (128 - w) false) (omega arith) in
-    ap (λ (x : ℕ). x / 2 ^ (128 - w)) whole ∙ mul-div_cancel_left (num (reverse (bits w (pos p)))) (pow_pos (128 - w))
+pub reverse_pattern : (v w p r : ℕ) → w ≤ v → p < 2 ^ w → r ≡ reverse_bits_onto v p 0 → r / 2 ^ (v - w) ≡ num (reverse (bits w (pos p)))
+reverse_pattern v w p r b h e =
+    let whole : r ≡ 2 ^ (v - w) * num (reverse (bits w (pos p))) =
+    e ∙ reversed-num v p (wider w v p b h)
+    ∙ rw (wide_bits w v p b h, reverse-append (bits w (pos p)) (replicate (v - w) false), num-append (reverse (replicate (v - w) false)) (reverse (bits w (pos p))), num-reverse_zeros (v - w), length-reverse (replicate (v - w) false), length-replicate (v - w) false) (omega arith) in
+    ap (λ (x : ℕ). x / 2 ^ (v - w)) whole ∙ mul-div_cancel_left (num (reverse (bits w (pos p)))) (pow_pos (v - w))
 
 -- ---- counts
 

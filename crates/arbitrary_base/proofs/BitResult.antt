@@ -1,17 +1,17 @@
 -- From the pattern that the code computes to the number that it answers.
-use Rattle.std.specs.Prelude.{◌≡◌, ℕ, ℤ, Bool, List, pos, length, reverse, drop, ◌+◌, ◌/◌, ◌%◌, ◌^◌, ◌≤◌, ◌<◌}
-use Rattle.std.proofs.Common.{arith, refl, ap, sym, ◌∙◌}
-use Rattle.std.proofs.lemmas.List.{length-reverse}
+use Rattle.std.specs.Prelude.{◌≡◌, ℕ, ℤ, Bool, List, pos, length, reverse, take, drop, replicate, ◌+◌, ◌/◌, ◌%◌, ◌^◌, ◌≤◌, ◌<◌}
+use Rattle.std.proofs.Common.{arith, refl, ap, sym, ◌∙◌, length-drop}
+use Rattle.std.proofs.lemmas.List.{length-reverse, take-append-le}
 use Rattle.arbitrary_base.specs.Residue.{residue, wrap}
-use Rattle.arbitrary_base.specs.BitList.{bits, num, val, bits_and, bits_or, bits_xor, bits_not, shl, rotl, rotr, ones, items}
+use Rattle.arbitrary_base.specs.BitList.{bits, num, val, bits_and, bits_or, bits_xor, bits_not, shl, shr, rotl, rotr, ones, items}
 use Rattle.arbitrary_base.proofs.Congruence.{Congruent-sym, Congruent-trans, Congruent-mul_left, Congruent-narrower}
 use Rattle.arbitrary_base.proofs.Wrap.{residue-congruent, wrap-same}
 use Rattle.arbitrary_base.proofs.Primitive.{mod-congruent}
 use Rattle.arbitrary_base.proofs.Sum.{wrap-wrap}
 use Rattle.arbitrary_base.proofs.BitNumber.{length-bits, length-and, length-or, length-xor, length-not, num-take, num-drop}
-use Rattle.arbitrary_base.proofs.BitShift.{length-rotl, length-rotr, length-items}
+use Rattle.arbitrary_base.proofs.BitShift.{length-rotl, length-rotr, length-shr, length-items}
 use Rattle.arbitrary_base.proofs.BitCount.{ones-not}
-use Rattle.arbitrary_base.proofs.BitValue.{num-bits_residue, bits-residue, val-num}
+use Rattle.arbitrary_base.proofs.BitValue.{num-bits_residue, bits-residue, bits-val, val-num}
 use Rattle.arbitrary_base.proofs.BitSign.{val-shl}
 
 -- made of the bits of one number by f, or of two
@@ -86,12 +86,25 @@ pub ruleset count_laws = (bits-residue, ones-le)
 
 -- ---- parts
 
-pub items-value : (s : Bool) (B W start p q : ℕ) (x z : ℤ) → 1 ≤ B → start + B ≤ W → p ≡ residue W x → q ≡ p / 2 ^ start
+-- the items have the number that is left of q
+items-of_num : (s : Bool) (B W start q : ℕ) (x z : ℤ) → 1 ≤ B → start + B ≤ W → num (items start B (bits W x)) ≡ q % 2 ^ B
     → z ≡ wrap s B (pos q) → z ≡ val s (items start B (bits W x))
-items-value s B W start p q x z h g e f o =
-    let n : num (items start B (bits W x)) ≡ q % 2 ^ B =
-    num-take B (drop start (bits W x)) ∙ rw (num-drop start (bits W x), num-bits_residue W x, f, e) refl in
+items-of_num s B W start q x z h g n o =
     o ∙ sym (val-num s B (items start B (bits W x)) (length-items start B (bits W x) (omega (arith, length-bits W x)))
     ∙ ap (λ (m : ℕ). wrap s B (pos m)) n ∙ wrap-same s B _ _ h (mod-congruent B q))
 
-pub ruleset extraction_laws = (items-value)
+pub items-value : (s : Bool) (B W start p q : ℕ) (x z : ℤ) → 1 ≤ B → start + B ≤ W → p ≡ residue W x → q ≡ p / 2 ^ start
+    → z ≡ wrap s B (pos q) → z ≡ val s (items start B (bits W x))
+items-value s B W start p q x z h g e f =
+    items-of_num s B W start q x z h g (num-take B (drop start (bits W x)) ∙ rw (num-drop start (bits W x), num-bits_residue W x, f, e) refl)
+
+-- from the number y that is x shifted in its own storage, whatever came in above
+pub items-shifted : (s t : Bool) (B W start q : ℕ) (x y z : ℤ) (f : Bool) → 1 ≤ B → start + B ≤ W → y ≡ val t (shr (bits W x) start f)
+    → q ≡ residue W y → z ≡ wrap s B (pos q) → z ≡ val s (items start B (bits W x))
+items-shifted s t B W start q x y z f h g e o =
+    let len : length (shr (bits W x) start f) ≡ W = length-shr (bits W x) start f (omega (arith, length-bits W x)) ∙ length-bits W x in
+    let part : take B (shr (bits W x) start f) ≡ items start B (bits W x) =
+    take-append-le B (drop start (bits W x)) (replicate start f) (omega (arith, length-drop start (bits W x), length-bits W x)) in
+    let whole : num (shr (bits W x) start f) ≡ q =
+    ap num (sym (bits-val t W (shr (bits W x) start f) len) ∙ ap (bits W) (sym e)) ∙ num-bits_residue W y ∙ sym o in
+    items-of_num s B W start q x z h g (ap num (sym part) ∙ num-take B (shr (bits W x) start f) ∙ ap (λ (m : ℕ). m % 2 ^ B) whole)

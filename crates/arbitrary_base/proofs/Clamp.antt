@@ -11,6 +11,7 @@ use Rattle.arbitrary_base.specs.Saturation.{clamp}
 use Rattle.arbitrary_base.specs.Exact.{ExactOrNone}
 use Rattle.arbitrary_base.proofs.Wrap.{wrap-of_in_range}
 use Rattle.arbitrary_base.proofs.Primitive.{mod-congruent}
+use Rattle.arbitrary_base.proofs.Ring.{mul-from_zero, mul-both_below, mul-first_below, mul-second_below}
 use Rattle.arbitrary_base.proofs.Congruence.{Congruent-trans, Congruent-sym, pow_half, span, Congruent-from_apart, Congruent-narrower}
 use Rattle.arbitrary_base.proofs.Wrap.{wrap-unique}
 use Rattle.arbitrary_base.proofs.Sum.{three_ways, zero-in_range}
@@ -62,10 +63,10 @@ clamp-out s B x true h n f g = ⊎_elim (λ i. absurd (n i))
 clamp-out s B x false h n f g = ⊎_elim (λ i. absurd (n i))
     (⊎_elim (λ b. let t = g refl in absurd (omega (arith, ints))) (λ a. sym (clamp-above s B x h a))) (three_ways s B x)
 
-below-true : (y : ℤ) (b : Bool) → b ≡ int_lt y (pos 0) → b ≡ true → y <ℤ pos 0
+pub below-true : (y : ℤ) (b : Bool) → b ≡ int_lt y (pos 0) → b ≡ true → y <ℤ pos 0
 below-true y b e t = grind (arith, ints)
 
-below-false : (y : ℤ) (b : Bool) → b ≡ int_lt y (pos 0) → b ≡ false → pos 0 ≤ℤ y
+pub below-false : (y : ℤ) (b : Bool) → b ≡ int_lt y (pos 0) → b ≡ false → pos 0 ≤ℤ y
 below-false y b e t = grind (arith, ints)
 
 pub add-saturates : (s : Bool) (B : ℕ) (x y z : ℤ) (b : Bool) → 1 ≤ B → InRange s B x → InRange s B y → (InRange s B (x +ℤ y) → ⊥)
@@ -88,38 +89,18 @@ sub-saturates s B x y z false h f g n e w =
     (λ a. by_lt_z (pos 0) (x -ℤ y) (λ c. let l = (zero-in_range s B h).low in absurd (n (record { low = omega (arith, ints); high = a }))) (λ c. c)))
     (λ t. cc)
 
-like : (x y : ℤ) → (pos 0 ≤ℤ x) → (pos 0 ≤ℤ y) → pos 0 ≤ℤ (x *ℤ y)
-like (pos a) (pos b) f g = omega (arith, ints)
-like (pos a) (negsuc b) f g = absurd (omega (arith, ints))
-like (negsuc a) y f g = absurd (omega (arith, ints))
-
-like_below : (x y : ℤ) → (x <ℤ pos 0) → (y <ℤ pos 0) → pos 0 ≤ℤ (x *ℤ y)
-like_below (negsuc a) (negsuc b) f g = omega (arith, ints)
-like_below (pos a) y f g = absurd (omega (arith, ints))
-like_below (negsuc a) (pos b) f g = absurd (omega (arith, ints))
-
-first_below : (x y : ℤ) → (x <ℤ pos 0) → (pos 0 ≤ℤ y) → (x *ℤ y) ≤ℤ pos 0
-first_below (negsuc a) (pos b) f g = omega (arith, ints)
-first_below (pos a) y f g = absurd (omega (arith, ints))
-first_below (negsuc a) (negsuc b) f g = absurd (omega (arith, ints))
-
-second_below : (x y : ℤ) → (pos 0 ≤ℤ x) → (y <ℤ pos 0) → (x *ℤ y) ≤ℤ pos 0
-second_below (pos a) (negsuc b) f g = omega (arith, ints)
-second_below (negsuc a) y f g = absurd (omega (arith, ints))
-second_below (pos a) (pos b) f g = absurd (omega (arith, ints))
-
 pub mul-saturates : (s : Bool) (B : ℕ) (x y z : ℤ) (a b : Bool) → 1 ≤ B → (InRange s B (x *ℤ y) → ⊥)
     → a ≡ int_lt x (pos 0) → b ≡ int_lt y (pos 0) → z ≡ range_end s B (not (beq a b)) → z ≡ clamp s B (x *ℤ y)
 mul-saturates s B x y z true true h n d e w =
     w ∙ clamp-out s B (x *ℤ y) false h n (λ t. cc)
-    (λ t. let p = like_below x y (below-true x true d refl) (below-true y true e refl) in let l = (zero-in_range s B h).low in omega (arith, ints))
+    (λ t. let p = mul-both_below x y (below-true x true d refl) (below-true y true e refl) in let l = (zero-in_range s B h).low in omega (arith, ints))
 mul-saturates s B x y z false false h n d e w =
     w ∙ clamp-out s B (x *ℤ y) false h n (λ t. cc)
-    (λ t. let p = like x y (below-false x false d refl) (below-false y false e refl) in let l = (zero-in_range s B h).low in omega (arith, ints))
+    (λ t. let p = mul-from_zero x y (below-false x false d refl) (below-false y false e refl) in let l = (zero-in_range s B h).low in omega (arith, ints))
 mul-saturates s B x y z true false h n d e w =
-    w ∙ clamp-out s B (x *ℤ y) true h n (λ t. first_below x y (below-true x true d refl) (below-false y false e refl)) (λ t. cc)
+    w ∙ clamp-out s B (x *ℤ y) true h n (λ t. let p = mul-first_below x y (below-true x true d refl) (below-false y false e refl) in omega (arith, ints)) (λ t. cc)
 mul-saturates s B x y z false true h n d e w =
-    w ∙ clamp-out s B (x *ℤ y) true h n (λ t. second_below x y (below-false x false d refl) (below-true y true e refl)) (λ t. cc)
+    w ∙ clamp-out s B (x *ℤ y) true h n (λ t. let p = mul-second_below x y (below-false x false d refl) (below-true y true e refl) in omega (arith, ints)) (λ t. cc)
 
 pub div-saturates : (s : Bool) (B : ℕ) (x y z : ℤ) → 1 ≤ B → InRange s B x → InRange s B y → (InRange s B (int_div x y) → ⊥)
     → z ≡ hi s B → z ≡ clamp s B (int_div x y)
@@ -170,6 +151,10 @@ clamp-InRange s B x y h e = subst (λ (z : ℤ). InRange s B z) (sym e) (within 
     within true b p q = rw p (let m = ends in record { low = omega (arith, ints); high = omega (arith, ints) })
     within false true p q = rw (p, q) (let m = ends in record { low = omega (arith, ints); high = omega (arith, ints) })
     within false false p q = rw (p, q) (record { low = grind (arith, ints); high = grind (arith, ints) })
+
+pub end-InRange : (s : Bool) (B : ℕ) (y : ℤ) (b : Bool) → 1 ≤ B → y ≡ range_end s B b → InRange s B y
+end-InRange s B y true h e = let a = span s B h in let p = pow_pos B in record { low = omega (arith, ints); high = omega (arith, ints) }
+end-InRange s B y false h e = let a = span s B h in let p = pow_pos B in record { low = omega (arith, ints); high = omega (arith, ints) }
 
 pub ruleset overflow_laws = (overflows)
 

@@ -23,3 +23,6 @@ pub mod BitArithmetic
 pub mod Undone
 pub mod Shifted
 pub mod Extracted
+pub mod Spare
+pub mod Size
+pub mod SmallNumber

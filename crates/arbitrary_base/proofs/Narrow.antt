@@ -85,6 +85,14 @@ below_residue B p x e = subst (λ (n : ℕ). n < 2 ^ B) (sym e) (residue-lt B x)
 
 pub ruleset low_laws = (cut-residue, below_residue)
 
+-- a number from 0 up is its residue at each width that has it
+pub residue-same : (s : Bool) (B W p : ℕ) (x : ℤ) → s ≡ false → 1 ≤ B → B ≤ W → InRange s B x → p ≡ residue W x → p ≡ residue B x
+residue-same s B W p x e h g i f =
+    let j : InRange false B x = subst (λ (t : Bool). InRange t B x) e i in
+    let a : pos (residue W x) ≡ x = residue-wrap W x (omega arith) ∙ wrap-of_in_range false W x (omega arith) (InRange-wider false B W x h g j) in
+    let b : pos (residue B x) ≡ x = residue-wrap B x h ∙ wrap-of_in_range false B x h j in
+    f ∙ omega (arith, ints)
+
 -- the pattern of a number, extended, is its residue at 128 bits
 pub extended-is : (s t : Bool) (W V p q : ℕ) (x : ℤ) → 1 ≤ W → InRange s W x → t ≡ s → V ≡ W → p ≡ residue W x → q < 2 ^ 128
     → Congruent 128 (pos q) (wrap t V (pos p)) → q ≡ residue 128 x

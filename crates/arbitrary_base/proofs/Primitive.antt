@@ -1,6 +1,7 @@
 -- How each primitive meets the laws: the impls cite these.
-use Rattle.std.specs.Prelude.{◌≡◌, ℕ, ℤ, Bool, true, false, suc, pos, negsuc, ◌+ℤ◌, ◌-ℤ◌, ◌*ℤ◌, ◌+◌, ◌*◌, ◌-◌, ◌/◌, ◌%◌, ◌^◌, ◌≤◌, ◌<◌, FitsSigned, Option, Some, None}
+use Rattle.std.specs.Prelude.{◌≡◌, ◌↔◌, ℕ, ℤ, Bool, true, false, suc, pos, negsuc, ◌+ℤ◌, ◌-ℤ◌, ◌*ℤ◌, ◌+◌, ◌*◌, ◌-◌, ◌/◌, ◌%◌, ◌^◌, ◌≤◌, ◌<◌, FitsSigned, IsTrue, Option, Some, None}
 use Rattle.std.specs.Int.{Width, w8, w16, w32, w64, w128, int_wrap, cast_signed, cast_unsigned, int_wrapping_add, int_wrapping_sub, int_wrapping_mul}
+use Rattle.std.specs.Bool.{FalseIff}
 use Rattle.std.specs.Option.{SomeIff}
 use Rattle.std.proofs.Common.{arith, refl, ap, sym, ◌∙◌, mod-lt, inl, inr, ⊎_elim, to_z-of_z}
 use Rattle.std.proofs.Math.Nat.{div-add-mod', mod-eq_of_lt}
@@ -128,7 +129,17 @@ pub signed-checks : (w : Width) (x : ℤ) (r : Option ℤ) → SomeIff r (FitsSi
 signed-checks w x None h = λ f. h (signed-fits w x f)
 signed-checks w x (Some y) h = (signed-in_range w x h.0, h.1)
 
--- what the impls ask of these
-pub ruleset unsigned_laws = (residue-pos, wrap-pos, unsigned-in_range, unsigned-sub)
+-- ---- flags of overflow
 
-pub ruleset signed_laws = (to_z-of_z, cast_unsigned-residue, signed-from_bits, signed-from_small, signed-wrapping_add, signed-wrapping_sub, signed-wrapping_mul, signed-in_range, signed-checks)
+pub unsigned-flag : (B n : ℕ) (b : Bool) → FalseIff b (n < 2 ^ B) → IsTrue b ↔ ¬ (InRange false B (pos n))
+unsigned-flag B n true h = ((λ t i. h (let k = i.high in let p = pow_pos B in omega (arith, ints))), (λ t. refl))
+unsigned-flag B n false h = ((λ t. cc), (λ t. absurd (t (unsigned-in_range B n h))))
+
+pub signed-flag : (w : Width) (x : ℤ) (b : Bool) → FalseIff b (FitsSigned w x) → IsTrue b ↔ ¬ (InRange true (bits w) x)
+signed-flag w x true h = ((λ t i. h (signed-fits w x i)), (λ t. refl))
+signed-flag w x false h = ((λ t. cc), (λ t. absurd (t (signed-in_range w x h))))
+
+-- what the impls ask of these
+pub ruleset unsigned_laws = (residue-pos, wrap-pos, unsigned-in_range, unsigned-sub, unsigned-flag)
+
+pub ruleset signed_laws = (to_z-of_z, cast_unsigned-residue, signed-from_bits, signed-from_small, signed-wrapping_add, signed-wrapping_sub, signed-wrapping_mul, signed-in_range, signed-checks, signed-flag)

@@ -1,5 +1,5 @@
 -- The laws of a ring that std's ℤ lacks.
-use Rattle.std.specs.Prelude.{◌≡◌, ℕ, ℤ, pos, negsuc, neg_ℤ, ◌+ℤ◌, ◌-ℤ◌, ◌*ℤ◌, ◌≤ℤ◌, ◌*◌, unsigned_abs}
+use Rattle.std.specs.Prelude.{◌≡◌, ℕ, ℤ, pos, negsuc, neg_ℤ, ◌+ℤ◌, ◌-ℤ◌, ◌*ℤ◌, ◌≤ℤ◌, ◌<ℤ◌, ◌*◌, unsigned_abs}
 use Rattle.std.proofs.Common.{arith, refl, ap, sym, ◌∙◌}
 use Rattle.std.proofs.lemmas.Int.{ints}
 use borrow.Author.Differences.{up, down, sum_is_lem, product_is}
@@ -43,3 +43,24 @@ sub-mul_z a b c = add-mul_z a (neg_ℤ b) c ∙ ap (λ (z : ℤ). a *ℤ c +ℤ 
 pub pos-unsigned_abs : (z : ℤ) → pos 0 ≤ℤ z → pos (unsigned_abs z) ≡ z
 pos-unsigned_abs (pos n) h = refl
 pos-unsigned_abs (negsuc n) h = absurd (omega (arith, ints))
+
+-- a product, from the sizes of its factors and their signs
+pub mul-from_zero : (x y : ℤ) → pos 0 ≤ℤ x → pos 0 ≤ℤ y → x *ℤ y ≡ pos (unsigned_abs x * unsigned_abs y)
+mul-from_zero (pos a) (pos b) f g = omega (arith, ints)
+mul-from_zero (pos a) (negsuc b) f g = absurd (omega (arith, ints))
+mul-from_zero (negsuc a) y f g = absurd (omega (arith, ints))
+
+pub mul-both_below : (x y : ℤ) → x <ℤ pos 0 → y <ℤ pos 0 → x *ℤ y ≡ pos (unsigned_abs x * unsigned_abs y)
+mul-both_below (negsuc a) (negsuc b) f g = omega (arith, ints)
+mul-both_below (pos a) y f g = absurd (omega (arith, ints))
+mul-both_below (negsuc a) (pos b) f g = absurd (omega (arith, ints))
+
+pub mul-first_below : (x y : ℤ) → x <ℤ pos 0 → pos 0 ≤ℤ y → x *ℤ y ≡ neg_ℤ (pos (unsigned_abs x * unsigned_abs y))
+mul-first_below (negsuc a) (pos b) f g = omega (arith, ints)
+mul-first_below (pos a) y f g = absurd (omega (arith, ints))
+mul-first_below (negsuc a) (negsuc b) f g = absurd (omega (arith, ints))
+
+pub mul-second_below : (x y : ℤ) → pos 0 ≤ℤ x → y <ℤ pos 0 → x *ℤ y ≡ neg_ℤ (pos (unsigned_abs x * unsigned_abs y))
+mul-second_below (pos a) (negsuc b) f g = omega (arith, ints)
+mul-second_below (negsuc a) y f g = absurd (omega (arith, ints))
+mul-second_below (pos a) (pos b) f g = absurd (omega (arith, ints))

@@ -1,5 +1,5 @@
 -- Why the checked sums and differences are right.
-use Rattle.std.specs.Prelude.{◌≡◌, ◌↔◌, ◌⊎◌, ℕ, ℤ, Bool, true, false, pos, neg_ℤ, ◌+ℤ◌, ◌-ℤ◌, ◌≤ℤ◌, ◌<ℤ◌, ◌-◌, ◌^◌, ◌≤◌, int_lt, IsTrue}
+use Rattle.std.specs.Prelude.{◌≡◌, ◌↔◌, ◌⊎◌, ℕ, ℤ, Bool, true, false, not, ◌&&◌, pos, neg_ℤ, ◌+ℤ◌, ◌-ℤ◌, ◌≤ℤ◌, ◌<ℤ◌, ◌-◌, ◌^◌, ◌≤◌, int_lt, IsTrue}
 use Rattle.std.proofs.Common.{arith, refl, sym, subst, ◌∙◌, inl, inr, ⊎_elim}
 use Rattle.std.specs.Ordering.{int_eq}
 use Rattle.std.proofs.lemmas.Bool.Decides.{Decides-int_eq}
@@ -135,6 +135,15 @@ range_test s B x w b h e p =
     )
 
 pub ruleset range_tests = (range_test)
+
+-- in range, by both ends
+pub end_tests : (s : Bool) (B : ℕ) (x l h : ℤ) (a b : Bool) → l ≡ lo s B → h ≡ hi s B → a ≡ int_lt x l → b ≡ int_lt h x
+    → IsTrue (not a && not b) ↔ InRange s B x
+end_tests s B x l h true b e f p q = ((λ t. cc), (λ i. let k = i.low in absurd (grind (arith, ints))))
+end_tests s B x l h false true e f p q = ((λ t. cc), (λ i. let k = i.high in absurd (grind (arith, ints))))
+end_tests s B x l h false false e f p q = ((λ t. record { low = grind (arith, ints); high = grind (arith, ints) }), (λ i. refl))
+
+pub ruleset ends = (end_tests)
 
 pub ruleset arithmetic = (range_test, wrap-wrap, wrap-in_range, wrap-zero, wrap-of_in_range, in_range-of_wrap, InRange-wider, add-checks, add-refuses, sub-checks, sub-refuses)
 

@@ -4,15 +4,36 @@ ghost use Rattle.std.specs.Prelude.{◌≢◌, ◌≡◌, ◌≤◌, ◌+ℤ◌,
 ghost use Rattle.arbitrary_base.specs.Range.{InRange};
 ghost use Rattle.arbitrary_base.specs.Exact.{ExactOrNone, QuotientOrNone, turned};
 
-use crate::ends::{is_below, is_below_zero, is_zero, zero};
-use crate::narrowing::is_in_range;
+use crate::ends::{is_below, is_below_zero, is_within, is_zero, zero};
 use crate::storage::Storage;
-use crate::wrapping;
+use crate::{small, wrapping};
 
 /// The sum where the type has it.
-// The wrapped sum lies below `x` exactly where `y` is below 0, but for an overflow.
+// With a bit to spare the storage's sum is in range exactly where the exact one is.
 #[tactic(auto, using(crate::proofs::Sum::arithmetic))]
 pub fn add<T: Storage>(x: T, y: T, bits: usize) -> Option<T>
+    requires width { 1 ≤ bits }
+    requires storage { bits ≤ T.WIDTH }
+    requires x_in { InRange T.SIGNED bits (T.number x) }
+    requires y_in { InRange T.SIGNED bits (T.number y) }
+    ensures { ExactOrNone T.number T.SIGNED bits (T.number x +ℤ T.number y) result }
+{
+    if bits < T::WIDTH {
+        let sum = x.wrapping_add(y);
+        if is_within(&sum, bits) {
+            Some(sum)
+        } else {
+            None
+        }
+    } else {
+        add_by_order(x, y, bits)
+    }
+}
+
+/// The sum where the type has it, at any width up to the storage's.
+// The wrapped sum lies below `x` exactly where `y` is below 0, but for an overflow.
+#[tactic(auto, using(crate::proofs::Sum::arithmetic))]
+pub(crate) fn add_by_order<T: Storage>(x: T, y: T, bits: usize) -> Option<T>
     requires width { 1 ≤ bits }
     requires storage { bits ≤ T.WIDTH }
     requires x_in { InRange T.SIGNED bits (T.number x) }
@@ -28,8 +49,30 @@ pub fn add<T: Storage>(x: T, y: T, bits: usize) -> Option<T>
 }
 
 /// The difference where the type has it.
+// With a bit to spare the storage's difference is in range exactly where the exact one is.
 #[tactic(auto, using(crate::proofs::Sum::arithmetic))]
 pub fn sub<T: Storage>(x: T, y: T, bits: usize) -> Option<T>
+    requires width { 1 ≤ bits }
+    requires storage { bits ≤ T.WIDTH }
+    requires x_in { InRange T.SIGNED bits (T.number x) }
+    requires y_in { InRange T.SIGNED bits (T.number y) }
+    ensures { ExactOrNone T.number T.SIGNED bits (T.number x -ℤ T.number y) result }
+{
+    if bits < T::WIDTH {
+        let difference = x.wrapping_sub(y);
+        if is_within(&difference, bits) {
+            Some(difference)
+        } else {
+            None
+        }
+    } else {
+        sub_by_order(x, y, bits)
+    }
+}
+
+/// The difference where the type has it, at any width up to the storage's.
+#[tactic(auto, using(crate::proofs::Sum::arithmetic))]
+pub(crate) fn sub_by_order<T: Storage>(x: T, y: T, bits: usize) -> Option<T>
     requires width { 1 ≤ bits }
     requires storage { bits ≤ T.WIDTH }
     requires x_in { InRange T.SIGNED bits (T.number x) }
@@ -45,21 +88,29 @@ pub fn sub<T: Storage>(x: T, y: T, bits: usize) -> Option<T>
 }
 
 /// The product where the type has it.
+// In 64 bits the product of two small numbers is exact; elsewhere the storage multiplies once.
 #[tactic(auto, using(crate::proofs::Sum::arithmetic))]
 pub fn mul<T: Storage>(x: T, y: T, bits: usize) -> Option<T>
     requires width { 1 ≤ bits }
     requires storage { bits ≤ T.WIDTH }
     ensures { ExactOrNone T.number T.SIGNED bits (T.number x *ℤ T.number y) result }
 {
-    match x.checked_mul(y) {
-        Some(product) => {
-            if is_in_range(product, bits) {
-                Some(product)
-            } else {
-                None
-            }
+    if T::WIDTH <= 16 {
+        let product = small::product(x, y);
+        if small::is_number_of::<T>(product, bits) {
+            Some(small::kept(product))
+        } else {
+            None
         }
-        None => None,
+    } else {
+        let (product, overflow) = x.overflowing_mul(y);
+        if overflow {
+            None
+        } else if is_within(&product, bits) {
+            Some(product)
+        } else {
+            None
+        }
     }
 }
 

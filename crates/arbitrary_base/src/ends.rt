@@ -1,6 +1,6 @@
 //! The ends of a range, and zero.
 
-ghost use Rattle.std.specs.Prelude.{◌≡◌, ◌≤◌, pos, int_lt};
+ghost use Rattle.std.specs.Prelude.{◌≡◌, ◌↔◌, ◌≤◌, pos, int_lt, IsTrue};
 ghost use Rattle.std.specs.Ordering.{int_eq};
 ghost use Rattle.arbitrary_base.specs.Range.{lo, hi, range_end, InRange};
 
@@ -66,4 +66,15 @@ pub fn is_below_zero<T: Storage>(x: &T) -> bool
     ensures { result ≡ int_lt (T.number x.now) (pos 0) }
 {
     is_below(x, &zero())
+}
+
+/// Whether the type of `bits` bits has the number, by its two ends.
+// As `narrowing::is_in_range`, which narrows and compares: this costs less where nothing else needs the narrowed number.
+#[tactic(auto, using(crate::proofs::Sum::ends))]
+pub(crate) fn is_within<T: Storage>(x: &T, bits: usize) -> bool
+    requires width { 1 ≤ bits }
+    requires storage { bits ≤ T.WIDTH }
+    ensures { IsTrue result ↔ InRange T.SIGNED bits (T.number x.now) }
+{
+    !is_below(x, &lowest(bits)) && !is_below(&highest(bits), x)
 }

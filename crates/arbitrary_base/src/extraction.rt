@@ -9,7 +9,6 @@ use crate::storage::Storage;
 
 /// The number whose bits are the `bits` bits of `source` from place `start_bit` on, the lowest being
 /// place 0. All of them must be bits of `source`.
-#[tactic(auto, using(crate::proofs::BitResult::extraction_laws))]
 pub fn extract<S: Storage, T: Storage>(source: S, start_bit: usize, bits: usize) -> T
     requires width { 1 ≤ bits }
     requires storage { bits ≤ T.WIDTH }
@@ -17,5 +16,6 @@ pub fn extract<S: Storage, T: Storage>(source: S, start_bit: usize, bits: usize)
     ensures value { T.number result ≡ val T.SIGNED (items start_bit bits (bit_list S.WIDTH (S.number source))) }
     ensures range { InRange T.SIGNED bits (T.number result) }
 {
-    from_low_bits(source.pattern() >> start_bit, bits)
+    // Shifted in the source, not at 128 bits: only the bits above the wanted ones may differ, and they are cut.
+    from_low_bits(source.shr_by(start_bit).pattern(), bits)
 }

@@ -17,6 +17,7 @@ pub mod power;
 pub mod rotations;
 pub mod saturating;
 pub mod shifts;
+mod small;
 pub mod storage;
 pub mod watched;
 #[cfg(test)]

@@ -76,6 +76,21 @@ pub fn low_bits<T: Storage>(x: T, bits: usize) -> u128
     cut(x.pattern(), bits)
 }
 
+/// `low_bits` of a number in range. Where the type has no sign this is the number, and nothing is cut.
+pub fn kept_bits<T: Storage>(x: T, bits: usize) -> u128
+    requires width { 1 ≤ bits }
+    requires storage { bits ≤ T.WIDTH }
+    requires x_in { InRange T.SIGNED bits (T.number x) }
+    ensures value { result ≡ residue bits (T.number x) }
+    ensures fits { result < 2 ^ bits }
+{
+    if T::SIGNED {
+        low_bits(x, bits)
+    } else {
+        x.pattern()
+    }
+}
+
 /// What is left of a pattern in the type of `bits` bits.
 pub fn from_low_bits<T: Storage>(pattern: u128, bits: usize) -> T
     requires width { 1 ≤ bits }

@@ -6,8 +6,9 @@ ghost use Rattle.arbitrary_base.specs.Range.{InRange};
 ghost use Rattle.arbitrary_base.specs.Residue.{wrap};
 
 use crate::ends::zero;
+use crate::narrowing::{convert, equal, is_in_range, narrow};
 use crate::storage::Storage;
-use crate::{checked, wrapping};
+use crate::{checked, small, wrapping};
 
 /// The sum, wrapped, and whether the exact one is out of range.
 #[tactic(auto, using(crate::proofs::Clamp::overflow_laws))]
@@ -20,8 +21,14 @@ pub fn add<T: Storage>(x: T, y: T, bits: usize) -> (T, bool)
     ensures range { InRange T.SIGNED bits (T.number result.0) }
     ensures overflow { IsTrue result.1 ↔ ¬ (InRange T.SIGNED bits (T.number x +ℤ T.number y)) }
 {
-    let exact = checked::add(x, y, bits);
-    (wrapping::add(x, y, bits), exact.is_none())
+    if T::SIGNED && bits < T::WIDTH {
+        let spare = x.wrapping_add(y);
+        let sum = narrow(spare, bits);
+        (sum, !equal(&sum, &spare))
+    } else {
+        let exact = checked::add_by_order(x, y, bits);
+        (wrapping::add(x, y, bits), exact.is_none())
+    }
 }
 
 /// The difference, wrapped, and whether the exact one is out of range.
@@ -35,8 +42,14 @@ pub fn sub<T: Storage>(x: T, y: T, bits: usize) -> (T, bool)
     ensures range { InRange T.SIGNED bits (T.number result.0) }
     ensures overflow { IsTrue result.1 ↔ ¬ (InRange T.SIGNED bits (T.number x -ℤ T.number y)) }
 {
-    let exact = checked::sub(x, y, bits);
-    (wrapping::sub(x, y, bits), exact.is_none())
+    if T::SIGNED && bits < T::WIDTH {
+        let spare = x.wrapping_sub(y);
+        let difference = narrow(spare, bits);
+        (difference, !equal(&difference, &spare))
+    } else {
+        let exact = checked::sub_by_order(x, y, bits);
+        (wrapping::sub(x, y, bits), exact.is_none())
+    }
 }
 
 /// The product, wrapped, and whether the exact one is out of range.
@@ -48,8 +61,19 @@ pub fn mul<T: Storage>(x: T, y: T, bits: usize) -> (T, bool)
     ensures range { InRange T.SIGNED bits (T.number result.0) }
     ensures overflow { IsTrue result.1 ↔ ¬ (InRange T.SIGNED bits (T.number x *ℤ T.number y)) }
 {
-    let exact = checked::mul(x, y, bits);
-    (wrapping::mul(x, y, bits), exact.is_none())
+    if T::WIDTH <= 16 {
+        let product = small::product(x, y);
+        (
+            convert(product, bits),
+            !small::is_number_of::<T>(product, bits),
+        )
+    } else {
+        let (product, overflow) = x.overflowing_mul(y);
+        (
+            narrow(product, bits),
+            overflow | !is_in_range(product, bits),
+        )
+    }
 }
 
 /// The quotient, wrapped, and whether the exact one is out of range. The divisor is not zero.

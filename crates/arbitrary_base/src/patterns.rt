@@ -6,6 +6,7 @@ ghost use Rattle.std.specs.Int.{w64, w128, reverse_bits as reversed};
 ghost use Rattle.arbitrary_base.specs.BitList.{bits, num, bits_and, bits_or, bits_xor, bits_not, rotl, rotr, ones as ones_in, front, tail};
 
 use crate::narrowing::ones;
+use crate::shifts;
 
 /// The bits that are one in both patterns.
 pub fn and(left: u128, right: u128, width: usize) -> u128
@@ -44,14 +45,15 @@ pub fn not(pattern: u128, width: usize) -> u128
 }
 
 /// The bits moved toward the high end by the amount modulo `width`. What passes the end comes back below.
+// Below 128 bits no places need no case of their own: all the bits are shifted out of the other part.
 pub fn rotate_left(pattern: u128, width: usize, amount: u32) -> u128
     requires low { 1 ≤ width }
     requires high { width ≤ 128 }
     requires fits { pattern < 2 ^ width }
     ensures { result ≡ num (rotl (bits width (pos pattern)) (amount % width)) }
 {
-    let places = amount as usize % width;
-    if places == 0 {
+    let places = shifts::places(amount, width);
+    if width == 128 && places == 0 {
         pattern
     } else {
         ((pattern << places) & ones(width)) | (pattern >> (width - places))
@@ -59,14 +61,15 @@ pub fn rotate_left(pattern: u128, width: usize, amount: u32) -> u128
 }
 
 /// The bits moved toward the low end by the amount modulo `width`. What passes the end comes back above.
+// Below 128 bits no places need no case of their own: all the bits are shifted out of the other part.
 pub fn rotate_right(pattern: u128, width: usize, amount: u32) -> u128
     requires low { 1 ≤ width }
     requires high { width ≤ 128 }
     requires fits { pattern < 2 ^ width }
     ensures { result ≡ num (rotr (bits width (pos pattern)) (amount % width)) }
 {
-    let places = amount as usize % width;
-    if places == 0 {
+    let places = shifts::places(amount, width);
+    if width == 128 && places == 0 {
         pattern
     } else {
         (pattern >> places) | ((pattern << (width - places)) & ones(width))
@@ -93,13 +96,24 @@ fn reverse_u128(x: u128) -> u128
 }
 
 /// The bits from the high end to the low one.
+// In the fewest bits that hold the pattern, and then down.
 pub fn reverse_bits(pattern: u128, width: usize) -> u128
     requires low { 1 ≤ width }
     requires high { width ≤ 128 }
     requires fits { pattern < 2 ^ width }
     ensures { result ≡ num (reverse (bits width (pos pattern))) }
 {
-    reverse_u128(pattern) >> (128 - width)
+    if width <= 8 {
+        ((pattern as u8).reverse_bits() >> (8 - width)) as u128
+    } else if width <= 16 {
+        ((pattern as u16).reverse_bits() >> (16 - width)) as u128
+    } else if width <= 32 {
+        ((pattern as u32).reverse_bits() >> (32 - width)) as u128
+    } else if width <= 64 {
+        (reverse_u64(pattern as u64) >> (64 - width)) as u128
+    } else {
+        reverse_u128(pattern) >> (128 - width)
+    }
 }
 
 /// How many bits are one.

@@ -4,9 +4,9 @@ ghost use Rattle.std.specs.Prelude.{◌≡◌, ◌≢◌, ◌≤◌, ◌+ℤ◌,
 ghost use Rattle.arbitrary_base.specs.Range.{InRange};
 ghost use Rattle.arbitrary_base.specs.Saturation.{clamp};
 
-use crate::checked;
 use crate::ends::{end, highest, is_below_zero, zero};
 use crate::storage::Storage;
+use crate::{checked, small};
 
 /// The sum, or the end of the range that is nearest to it.
 #[tactic(auto, using(crate::proofs::Clamp::clamps))]
@@ -48,9 +48,13 @@ pub fn mul<T: Storage>(x: T, y: T, bits: usize) -> T
     ensures value { T.number result ≡ clamp T.SIGNED bits (T.number x *ℤ T.number y) }
     ensures range { InRange T.SIGNED bits (T.number result) }
 {
-    match checked::mul(x, y, bits) {
-        Some(product) => product,
-        None => end(is_below_zero(&x) != is_below_zero(&y), bits),
+    if T::WIDTH <= 16 {
+        small::kept(small::clamped::<T>(small::product(x, y), bits))
+    } else {
+        match checked::mul(x, y, bits) {
+            Some(product) => product,
+            None => end(is_below_zero(&x) != is_below_zero(&y), bits),
+        }
     }
 }
 

@@ -1,11 +1,22 @@
 //! Shifts at `bits` bits, by an amount below `bits`.
 
-ghost use Rattle.std.specs.Prelude.{◌≡◌, ◌≤◌, ◌<◌};
+ghost use Rattle.std.specs.Prelude.{◌≡◌, ◌≤◌, ◌<◌, ◌%◌};
 ghost use Rattle.arbitrary_base.specs.Range.{InRange};
 ghost use Rattle.arbitrary_base.specs.BitList.{bits as bit_list, val, fill, shl as shifted_left, shr as shifted_right};
 
 use crate::narrowing::narrow;
 use crate::storage::Storage;
+
+/// The amount modulo `bits`.
+// Most amounts are below `bits`, and a division takes longer than a test.
+pub fn places(amount: u32, bits: usize) -> usize
+    requires { 1 ≤ bits }
+    ensures value { result ≡ amount % bits }
+    ensures within { result < bits }
+{
+    let amount = amount as usize;
+    if amount < bits { amount } else { amount % bits }
+}
 
 /// The bits moved `amount` places toward the high end, with zeros below. What passes the end is lost.
 pub fn shl<T: Storage>(x: T, amount: usize, bits: usize) -> T

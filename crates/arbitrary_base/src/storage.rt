@@ -1,6 +1,6 @@
 //! The primitive integers, as storages of narrower numbers.
 
-ghost use Rattle.std.specs.Prelude.{◌≡◌, ◌≢◌, ◌≤◌, ◌<◌, ◌+ℤ◌, ◌-ℤ◌, ◌*ℤ◌, ℕ, ℤ, Bool, true, false, pos, Some, int_div};
+ghost use Rattle.std.specs.Prelude.{◌≡◌, ◌≢◌, ◌↔◌, ◌≤◌, ◌<◌, ◌+ℤ◌, ◌-ℤ◌, ◌*ℤ◌, ℕ, ℤ, Bool, true, false, pos, Some, int_div, IsTrue};
 ghost use Rattle.std.specs.Ordering.{int_cmp};
 ghost use Rattle.std.specs.Fmt.{signed_decimal};
 ghost use Rattle.arbitrary_base.specs.Range.{InRange};
@@ -73,6 +73,11 @@ pub trait Storage: Sealed + Copy + Ord + Hash + Display + Debug + Drop {
     /// The product where the type has it, and `None` where it does not.
     fn checked_mul(self, other: Self) -> Option<Self>
         ensures { ExactOrNone number SIGNED WIDTH (number self *ℤ number other) result };
+
+    /// The product, wrapped, and whether the exact one is out of range.
+    fn overflowing_mul(self, other: Self) -> (Self, bool)
+        ensures value { number result.0 ≡ wrap SIGNED WIDTH (number self *ℤ number other) }
+        ensures overflow { IsTrue result.1 ↔ ¬ (InRange SIGNED WIDTH (number self *ℤ number other)) };
 
     /// The number whose bits are these, moved `n` places toward the high end, with zeros below.
     fn shl_by(self, n: usize) -> Self

@@ -9,9 +9,10 @@ ghost use Rattle.arbitrary_base.specs.Exact.{ExactOrNone, QuotientOrNone};
 ghost use Rattle.arbitrary_base.specs.Power.{power, binary_digits};
 ghost use Rattle.arbitrary_base.specs.BitList.{bits, val, bits_and, bits_or, bits_xor, bits_not, fill, front, items, ones, rotl, rotr, shl, shr, tail};
 
+use arbitrary_base::narrowing::kept_bits;
 use arbitrary_base::storage::Storage;
 use arbitrary_base::{
-    checked, counts, extraction, overflowing, power, rotations, saturating, shifts, wrapping,
+    checked, extraction, overflowing, patterns, power, rotations, saturating, shifts, wrapping,
 };
 use arbitrary_traits::integer::Integer;
 
@@ -264,7 +265,7 @@ pub trait FixedWidth: Integer {
         ensures plain { Self.IS_SIGNED ≡ false → Self.number result ≡ pos (unsigned_abs (Self.number self) * 2 ^ (amount % Self.BITS) % 2 ^ Self.BITS) }
         ensures congruent { Congruent Self.BITS (Self.number result) (Self.number self *ℤ pos (2 ^ (amount % Self.BITS))) }
     {
-        Self::from_kept(shifts::shl(self.kept(), amount as usize % Self::BITS, Self::BITS))
+        Self::from_kept(shifts::shl(self.kept(), shifts::places(amount, Self::BITS), Self::BITS))
     }
 
     /// The bits moved `amount` places like `wrapping_shl`, and `None` exactly where `amount` is `BITS`
@@ -300,7 +301,7 @@ pub trait FixedWidth: Integer {
         ensures high { Self.number self <ℤ (Self.number result *ℤ pos (2 ^ (amount % Self.BITS)) +ℤ pos (2 ^ (amount % Self.BITS))) }
         ensures range { InRange Self.IS_SIGNED (Self.BITS - (amount % Self.BITS)) (Self.number result) }
     {
-        Self::from_kept(shifts::shr(self.kept(), amount as usize % Self::BITS, Self::BITS))
+        Self::from_kept(shifts::shr(self.kept(), shifts::places(amount, Self::BITS), Self::BITS))
     }
 
     /// The bits moved `amount` places like `wrapping_shr`, and `None` exactly where `amount` is `BITS`
@@ -359,57 +360,58 @@ pub trait FixedWidth: Integer {
     }
 
     /// How many of the bits are one.
-    #[tactic(auto, using(arbitrary_base::proofs::BitCount::counted))]
+    #[tactic(auto, using(arbitrary_base::proofs::BitCount::counted, arbitrary_base::proofs::BitResult::count_laws))]
     final fn count_ones(self) -> u32
         ensures value { result ≡ ones (bits Self.BITS (Self.number self)) }
         ensures bound { result ≤ Self.BITS }
     {
-        counts::count_ones(self.kept(), Self::BITS)
+        patterns::count_ones(kept_bits(self.kept(), Self::BITS), Self::BITS)
     }
 
     /// How many of the bits are zero.
-    #[tactic(auto, using(arbitrary_base::proofs::BitCount::counted))]
+    #[tactic(auto, using(arbitrary_base::proofs::BitCount::counted, arbitrary_base::proofs::BitResult::count_laws))]
     final fn count_zeros(self) -> u32
         ensures value { result ≡ Self.BITS - ones (bits Self.BITS (Self.number self)) }
         ensures bound { result ≤ Self.BITS }
     {
-        counts::count_zeros(self.kept(), Self::BITS)
+        let kept = kept_bits(self.kept(), Self::BITS);
+        Self::BITS as u32 - patterns::count_ones(kept, Self::BITS)
     }
 
     /// How many bits at the high end are one before the first that is zero, or all of them.
-    #[tactic(auto, using(arbitrary_base::proofs::BitCount::counted))]
+    #[tactic(auto, using(arbitrary_base::proofs::BitCount::counted, arbitrary_base::proofs::BitResult::count_laws))]
     final fn leading_ones(self) -> u32
         ensures value { result ≡ tail true (bits Self.BITS (Self.number self)) }
         ensures bound { result ≤ Self.BITS }
     {
-        counts::leading_ones(self.kept(), Self::BITS)
+        patterns::leading_ones(kept_bits(self.kept(), Self::BITS), Self::BITS)
     }
 
     /// How many bits at the high end are zero before the first that is one, or all of them.
-    #[tactic(auto, using(arbitrary_base::proofs::BitCount::counted))]
+    #[tactic(auto, using(arbitrary_base::proofs::BitCount::counted, arbitrary_base::proofs::BitResult::count_laws))]
     final fn leading_zeros(self) -> u32
         ensures value { result ≡ tail false (bits Self.BITS (Self.number self)) }
         ensures bound { result ≤ Self.BITS }
     {
-        counts::leading_zeros(self.kept(), Self::BITS)
+        patterns::leading_zeros(kept_bits(self.kept(), Self::BITS), Self::BITS)
     }
 
     /// How many bits at the low end are one before the first that is zero, or all of them.
-    #[tactic(auto, using(arbitrary_base::proofs::BitCount::counted))]
+    #[tactic(auto, using(arbitrary_base::proofs::BitCount::counted, arbitrary_base::proofs::BitResult::count_laws))]
     final fn trailing_ones(self) -> u32
         ensures value { result ≡ front true (bits Self.BITS (Self.number self)) }
         ensures bound { result ≤ Self.BITS }
     {
-        counts::trailing_ones(self.kept(), Self::BITS)
+        patterns::trailing_ones(kept_bits(self.kept(), Self::BITS), Self::BITS)
     }
 
     /// How many bits at the low end are zero before the first that is one, or all of them.
-    #[tactic(auto, using(arbitrary_base::proofs::BitCount::counted))]
+    #[tactic(auto, using(arbitrary_base::proofs::BitCount::counted, arbitrary_base::proofs::BitResult::count_laws))]
     final fn trailing_zeros(self) -> u32
         ensures value { result ≡ front false (bits Self.BITS (Self.number self)) }
         ensures bound { result ≤ Self.BITS }
     {
-        counts::trailing_zeros(self.kept(), Self::BITS)
+        patterns::trailing_zeros(kept_bits(self.kept(), Self::BITS), Self::BITS)
     }
 
     /// The value of the `BITS` bits of `value` from place `start_bit` on, all among its 8. The width is valid.

@@ -1,6 +1,7 @@
 //! `u128` and `i128`.
 
-ghost use Rattle.std.specs.Prelude.{refl};
+ghost use Rattle.std.specs.Prelude.{◌≡◌, if◌then◌else◌, true, pos, neg_ℤ, refl};
+ghost use Rattle.arbitrary_base.specs.Residue.{wrap};
 
 use crate::storage::{
     BuiltinInteger, PatternOf, Sealed, SignedOf, SignedStorage, Storage, UnsignedStorage,
@@ -84,6 +85,10 @@ impl Storage for u128 {
         self.checked_mul(other)
     }
 
+    fn overflowing_mul(self, other: Self) -> (Self, bool) {
+        self.overflowing_mul(other)
+    }
+
     ghost width_law = { (lit≤ tt, lit≤ tt) };
 
     ghost one_law = { lit≤ tt };
@@ -91,6 +96,18 @@ impl Storage for u128 {
     ghost order_law = { nat_cmp-pos };
 
     ghost display_law = { λ x. refl };
+}
+
+/// The number of this size, below zero where the flag is set, wrapped.
+#[tactic(auto, using(crate::proofs::Size::signs))]
+fn with_sign(size: u128, is_negative: bool) -> i128
+    ensures { result ≡ wrap true 128 (if is_negative then neg_ℤ (pos size) else pos size) }
+{
+    if is_negative {
+        size.wrapping_neg().cast_signed()
+    } else {
+        size.cast_signed()
+    }
 }
 
 impl Sealed for i128 {}
@@ -168,6 +185,14 @@ impl Storage for i128 {
 
     fn checked_mul(self, other: Self) -> Option<Self> {
         self.checked_mul(other)
+    }
+
+    fn overflowing_mul(self, other: Self) -> (Self, bool) {
+        // The primitive's call multiplies the sizes for its flag and the numbers for its product. The
+        // sizes' product serves both, so that it alone is computed.
+        let (size, _) = self.unsigned_abs().overflowing_mul(other.unsigned_abs());
+        let (_, overflow) = self.overflowing_mul(other);
+        (with_sign(size, (self < 0) != (other < 0)), overflow)
     }
 
     ghost width_law = { (lit≤ tt, lit≤ tt) };

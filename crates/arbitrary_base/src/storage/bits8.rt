@@ -84,6 +84,10 @@ impl Storage for u8 {
         self.checked_mul(other)
     }
 
+    fn overflowing_mul(self, other: Self) -> (Self, bool) {
+        self.overflowing_mul(other)
+    }
+
     ghost width_law = { (lit≤ tt, lit≤ tt) };
 
     ghost one_law = { lit≤ tt };
@@ -168,6 +172,10 @@ impl Storage for i8 {
 
     fn checked_mul(self, other: Self) -> Option<Self> {
         self.checked_mul(other)
+    }
+
+    fn overflowing_mul(self, other: Self) -> (Self, bool) {
+        self.overflowing_mul(other)
     }
 
     ghost width_law = { (lit≤ tt, lit≤ tt) };

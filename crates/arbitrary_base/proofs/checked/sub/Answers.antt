@@ -1,7 +1,16 @@
-use Rattle.arbitrary_base.proofs.Sum.{sub-refuses_test}
+use Rattle.std.proofs.Common.{arith, ◌<◌}
+use Rattle.arbitrary_base.proofs.Spare.{sub-tells, none-told}
 use Rattle.arbitrary_base.proofs.checked.sub.Goals as goal
 
-pub returns-else-is_below-is_below_zero : goal.returns-else-is_below-is_below_zero
-returns-else-is_below-is_below_zero g c =
-    sub-refuses_test g.T.Storage.SIGNED c.args.bits _ _ _ _ _ c.requires.width c.sub-difference.ensures.value
-    c.is_below.ensures c.is_below_zero.ensures c.if-is_below-is_below_zero.false
+pub returns-then-is_within : goal.returns-then-is_within
+returns-then-is_within g c =
+    let room : c.args.bits < g.T.Storage.WIDTH = omega (arith, c.WIDTH.ensures, c.if-bits-WIDTH.true) in
+    (sub-tells g.T.Storage.SIGNED c.args.bits g.T.Storage.WIDTH _ _ _ c.requires.width room c.requires.x_in c.requires.y_in c.wrapping_sub-difference.ensures).0
+    (c.is_within.ensures.0 c.if-is_within.true)
+
+pub returns-else-is_within : goal.returns-else-is_within
+returns-else-is_within g c =
+    let room : c.args.bits < g.T.Storage.WIDTH = omega (arith, c.WIDTH.ensures, c.if-bits-WIDTH.true) in
+    none-told g.T.Storage.SIGNED c.args.bits _ _ _
+    (sub-tells g.T.Storage.SIGNED c.args.bits g.T.Storage.WIDTH _ _ _ c.requires.width room c.requires.x_in c.requires.y_in c.wrapping_sub-difference.ensures)
+    c.is_within.ensures c.if-is_within.false

@@ -1,0 +1,68 @@
+//! The numbers of storages of at most 16 bits, in 64 bits, where their products are exact.
+
+ghost use Rattle.std.specs.Prelude.{◌≡◌, ◌↔◌, ◌≤◌, ◌*ℤ◌, IsTrue};
+ghost use Rattle.arbitrary_base.specs.Range.{InRange};
+ghost use Rattle.arbitrary_base.specs.Saturation.{clamp};
+
+use crate::ends::{highest, lowest};
+use crate::narrowing::convert;
+use crate::storage::Storage;
+
+/// The number.
+fn number<T: Storage>(x: T) -> i64
+    requires small { T.WIDTH ≤ 16 }
+    ensures value { result ≡ T.number x }
+    ensures range { InRange T.SIGNED T.WIDTH (T.number x) }
+{
+    // The contract of `pattern` says that the number is in range; the pattern itself is not needed.
+    let _pattern = x.pattern();
+    convert(x, 64)
+}
+
+/// The exact product.
+#[tactic(auto, using(crate::proofs::SmallNumber::products))]
+pub(crate) fn product<T: Storage>(x: T, y: T) -> i64
+    requires small { T.WIDTH ≤ 16 }
+    ensures { result ≡ T.number x *ℤ T.number y }
+{
+    number(x) * number(y)
+}
+
+/// Whether the type of `bits` bits over the storage has the number.
+#[tactic(auto, using(crate::proofs::SmallNumber::tests))]
+pub(crate) fn is_number_of<T: Storage>(x: i64, bits: usize) -> bool
+    requires small { T.WIDTH ≤ 16 }
+    requires width { 1 ≤ bits }
+    requires storage { bits ≤ T.WIDTH }
+    ensures { IsTrue result ↔ InRange T.SIGNED bits x }
+{
+    number(lowest::<T>(bits)) <= x && x <= number(highest::<T>(bits))
+}
+
+/// The storage's value of a number that it can keep.
+#[tactic(auto, using(crate::proofs::Sum::fitting))]
+pub(crate) fn kept<T: Storage>(x: i64) -> T
+    requires range { InRange T.SIGNED T.WIDTH x }
+    ensures { T.number result ≡ x }
+{
+    convert(x, T::WIDTH)
+}
+
+/// The number, or the end of the range of `bits` bits over the storage that is nearest to it.
+#[tactic(auto, using(crate::proofs::SmallNumber::clamps))]
+pub(crate) fn clamped<T: Storage>(x: i64, bits: usize) -> i64
+    requires small { T.WIDTH ≤ 16 }
+    requires width { 1 ≤ bits }
+    requires storage { bits ≤ T.WIDTH }
+    ensures { result ≡ clamp T.SIGNED bits x }
+{
+    let low = number(lowest::<T>(bits));
+    let high = number(highest::<T>(bits));
+    if x < low {
+        low
+    } else if high < x {
+        high
+    } else {
+        x
+    }
+}
