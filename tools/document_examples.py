@@ -2,14 +2,19 @@
 """document_examples.py [--write]
 
 Tells whether the examples in docs/CALLS.md are those that run as tests, and the README's those of crates/examples. With
---write it writes the tests anew from the tables; run `rt fmt` in crates/arbitrary_int afterwards.
+--write it writes the tests anew from the tables; run `rt fmt` in crates/arbitrary_int and crates/bit_fields afterwards.
 """
 import re
 import sys
 from pathlib import Path
 
 ROOT = Path(__file__).resolve().parent.parent
-TESTS = ROOT / 'crates/arbitrary_int/src/worked/calls.rt'
+# what the tests of each crate bring in; a table runs in arbitrary_int unless another crate is named for its title
+USES = {
+    'arbitrary_int': ['use crate::prelude::*;'],
+    'bit_fields': ['use crate::{Record, disjoint};', 'use arbitrary_int::prelude::*;'],
+}
+ELSEWHERE = {'Fields in a record': 'bit_fields'}
 FIRST = ROOT / 'crates/examples/src/first.rt'
 
 
@@ -28,10 +33,12 @@ def tables():
         yield title, examples
 
 
-def tests():
-    """The module of tests that these tables make."""
-    lines = ['//! The examples of docs/CALLS.md.', '', 'use crate::prelude::*;']
+def tests(crate):
+    """The module of tests that these tables make in a crate."""
+    lines = ['//! The examples of docs/CALLS.md.', '', *USES[crate]]
     for title, examples in tables():
+        if ELSEWHERE.get(title, 'arbitrary_int') != crate:
+            continue
         name = re.sub(r'\W+', '_', title.lower())
         lines += ['', '#[test]', f'fn {name}(rt: HostRuntime) {{']
         lines += [f'    assert_eq!(rt; {expression}, {value});' for expression, value in examples]
@@ -46,10 +53,12 @@ def squeezed(text):
 
 def main():
     wrong = []
-    if '--write' in sys.argv[1:]:
-        TESTS.write_text(tests())
-    elif squeezed(TESTS.read_text()) != squeezed(tests()):
-        wrong.append(f'{TESTS}: not the examples of docs/CALLS.md; write them by tools/document_examples.py --write')
+    for crate in USES:
+        file = ROOT / f'crates/{crate}/src/worked/calls.rt'
+        if '--write' in sys.argv[1:]:
+            file.write_text(tests(crate))
+        elif squeezed(file.read_text()) != squeezed(tests(crate)):
+            wrong.append(f'{file}: not the examples of docs/CALLS.md; write them by tools/document_examples.py --write')
     for code in re.findall(r'```rust\n(.*?)```', (ROOT / 'README.md').read_text(), re.S):
         functions = code.split('\n\n', 1)[1]
         if functions not in FIRST.read_text():

@@ -1,6 +1,6 @@
 -- What a put leaves, from the pattern of the value's 128 bits.
 use Rattle.std.specs.Prelude.{◌≡◌, ℕ, ℤ, Bool, pos, ◌+◌, ◌≤◌, length}
-use Rattle.std.proofs.Common.{arith, refl, ap, sym, subst, ◌∙◌}
+use Rattle.std.proofs.Common.{arith, refl, ap, sym, ◌∙◌}
 use Rattle.arbitrary_int.specs.Range.{InRange}
 use Rattle.arbitrary_int.specs.Residue.{residue}
 use Rattle.arbitrary_int.specs.BitList.{bits, val}

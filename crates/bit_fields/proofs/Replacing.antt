@@ -1,14 +1,11 @@
 -- Why masks and shifts put a field into a word.
-use Rattle.std.proofs.Common.{◌≡◌, ℕ, ◌+◌, ◌-◌, ◌*◌, ◌/◌, ◌%◌, ◌^◌, ◌≤◌, ◌<◌, List, ◌++◌, Bool, length, take, drop, length-append, length-take, ℤ, pos, refl, sym, ap, ap₂, ◌∙◌, subst, arith, mod-lt, mod-eq_of_lt, pow-add, lt_of_lt_of_le, bit_and, bit_or}
+use Rattle.std.proofs.Common.{◌≡◌, ℕ, ◌+◌, ◌-◌, ◌*◌, ◌/◌, ◌%◌, ◌^◌, ◌≤◌, ◌<◌, ◌++◌, length, take, drop, length-append, length-take, pos, refl, sym, ap, ◌∙◌, subst, arith, mod-lt, mod-eq_of_lt, pow-add, lt_of_lt_of_le, bit_and, bit_or}
 use Rattle.std.proofs.Math.Nat.{div-add-mod', div-div-eq-div-mul, div-lt_iff_lt-mul, mul-lt-mul_of_pos_right}
-use Rattle.std.proofs.Math.Pow.{pow_mono}
 use Rattle.std.proofs.lemmas.Nat.{pow_pos, and_block, or_block, or_shifted, and_mask}
 use Rattle.std.specs.Int.Bits.{and_zero_r, or_zero_r}
-use Rattle.arbitrary_int.specs.Residue.{residue}
 use Rattle.arbitrary_int.specs.BitList.{bits, num}
 use Rattle.arbitrary_int.proofs.BitNumber.{length-bits, num-bits, num-bits_small, num-append, num-take, num-drop}
-use Rattle.arbitrary_int.proofs.BitValue.{bits-residue, num-bits_residue, bits-wrap}
-use Rattle.arbitrary_int.proofs.Narrow.{wrap-residue}
+use Rattle.arbitrary_int.proofs.BitValue.{bits-residue, num-bits_residue}
 use Rattle.arbitrary_int.specs.BitField.{with_field}
 
 -- the number of a list with another in its middle
