@@ -30,12 +30,14 @@ def tables():
 
 def tests():
     """The module of tests that these tables make."""
-    lines = ['//! The examples of docs/CALLS.md.', '', 'use crate::prelude::*;']
+    lines = ['//! The examples of docs/CALLS.md.', '', 'use crate::prelude::*;', 'use std::test::Fail;']
     for title, examples in tables():
         name = re.sub(r'\W+', '_', title.lower())
-        lines += ['', '#[test]', f'fn {name}(rt: HostRuntime) {{']
+        takes_memory = any('in alloc' in expression for expression, _ in examples)
+        lines += ['', '#[test]', f'fn {name}(rt: HostRuntime){" -> Result<(), Fail>" if takes_memory else ""} {{']
+        lines += ['    let alloc = rt.alloc();'] if takes_memory else []
         lines += [f'    assert_eq!(rt; {expression}, {value});' for expression, value in examples]
-        lines += ['}']
+        lines += ['    Ok(())', '}'] if takes_memory else ['}']
     return '\n'.join(lines) + '\n'
 
 

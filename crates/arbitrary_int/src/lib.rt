@@ -2,6 +2,7 @@
 //! `UInt` and `Int` behind them, with lists of steps on registers of one such type.
 #![tactic(auto)]
 
+pub mod number;
 pub mod prelude;
 pub mod runs;
 pub mod steps;
@@ -9,6 +10,7 @@ pub mod traits;
 #[cfg(test)]
 mod worked;
 
+pub use crate::number::Number;
 pub use crate::runs::run;
 pub use crate::runs::well_formed;
 pub use crate::steps::ByOp;

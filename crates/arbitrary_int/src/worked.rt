@@ -4,5 +4,8 @@ mod arithmetic;
 mod bits;
 mod calls;
 mod ends;
+mod first_version;
+mod keys;
 mod powers;
 mod steps;
+mod texts;
