@@ -11,7 +11,7 @@ from pathlib import Path
 ROOT = Path(__file__).resolve().parent.parent
 # what the tests of each crate bring in; a table runs in arbitrary_int unless another crate is named for its title
 USES = {
-    'arbitrary_int': ['use crate::prelude::*;'],
+    'arbitrary_int': ['use crate::prelude::*;', 'use std::test::Fail;'],
     'bit_fields': ['use crate::{Record, disjoint};', 'use arbitrary_int::prelude::*;'],
 }
 ELSEWHERE = {'Fields in a record': 'bit_fields'}
@@ -40,9 +40,11 @@ def tests(crate):
         if ELSEWHERE.get(title, 'arbitrary_int') != crate:
             continue
         name = re.sub(r'\W+', '_', title.lower())
-        lines += ['', '#[test]', f'fn {name}(rt: HostRuntime) {{']
+        takes_memory = any('in alloc' in expression for expression, _ in examples)
+        lines += ['', '#[test]', f'fn {name}(rt: HostRuntime){" -> Result<(), Fail>" if takes_memory else ""} {{']
+        lines += ['    let alloc = rt.alloc();'] if takes_memory else []
         lines += [f'    assert_eq!(rt; {expression}, {value});' for expression, value in examples]
-        lines += ['}']
+        lines += ['    Ok(())', '}'] if takes_memory else ['}']
     return '\n'.join(lines) + '\n'
 
 

@@ -3,6 +3,7 @@
 #![tactic(auto)]
 
 pub mod laws;
+pub mod number;
 pub mod prelude;
 pub mod runs;
 pub mod steps;
@@ -11,6 +12,7 @@ pub mod widths;
 #[cfg(test)]
 mod worked;
 
+pub use crate::number::Number;
 pub use crate::runs::run;
 pub use crate::runs::well_formed;
 pub use crate::steps::ByOp;

@@ -9,7 +9,7 @@ ghost use Rattle.arbitrary_base.specs.BitList.{bits, bits_and, bits_not, bits_or
 
 use arbitrary_base::error::TryNewError;
 use arbitrary_base::storage::Sealed;
-use std::fmt::{Debug, Display};
+use std::fmt::{Binary, Debug, Display, HasDigits, LowerHex, Octal, UpperHex};
 use std::ops::{
     Add, AddAssign, BitAnd, BitAndAssign, BitOr, BitOrAssign, BitXor, BitXorAssign, Div, DivAssign,
     Mul, MulAssign, Neg, Not, Sub, SubAssign,
@@ -29,6 +29,11 @@ pub trait Integer: Copy
     + Eq
     + Display
     + Debug
+    + LowerHex
+    + UpperHex
+    + Octal
+    + Binary
+    + HasDigits
     + Sealed
     + Add<Self, Output = Self>
     + Sub<Self, Output = Self>

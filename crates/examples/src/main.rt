@@ -1,14 +1,17 @@
 //! How the library is used: a device's register, a packet header, a sensor, lists of steps at one width
-//! and at two, code for every width, and fields in a record.
+//! and at two, code for every width, fields in a record, and numbers as text and as keys.
 #![tactic(auto)]
 
 mod can;
 mod first;
 mod generic;
 mod header;
+mod keys;
 mod register;
 mod sensor;
 mod steps;
+mod sums;
+mod texts;
 mod timer;
 mod widths;
 
@@ -23,5 +26,8 @@ fn main(rt: HostRuntime) -> io::Result<()> {
     widths::show(&rt)?;
     generic::show(&rt)?;
     timer::show(&rt)?;
-    can::show(&rt)
+    can::show(&rt)?;
+    texts::show(&rt, rt.alloc())?;
+    keys::show(&rt, rt.alloc())?;
+    sums::show(&rt)
 }

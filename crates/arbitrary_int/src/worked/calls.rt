@@ -1,6 +1,7 @@
 //! The examples of docs/CALLS.md.
 
 use crate::prelude::*;
+use std::test::Fail;
 
 #[test]
 fn making_a_value_and_reading_it(rt: HostRuntime) {
@@ -33,6 +34,8 @@ fn making_a_value_and_reading_it(rt: HostRuntime) {
     assert_eq!(rt; i7::new(-1).is_negative(), true);
     assert_eq!(rt; u7::new(3) == u7::new(3), true);
     assert_eq!(rt; i7::new(-1) < i7::new(0), true);
+    assert_eq!(rt; u1::from(true), u1::new(1));
+    assert_eq!(rt; bool::from(u1::new(0)), false);
 }
 
 #[test]
@@ -121,4 +124,22 @@ fn bits(rt: HostRuntime) {
     assert_eq!(rt; i6::new(-4).trailing_zeros(), 2);
     assert_eq!(rt; i3::extract_u8(0b0010_1000, 3), i3::new(-3));
     assert_eq!(rt; u5::extract(0b11110000, 2), u5::new(0b11100));
+}
+
+#[test]
+fn text(rt: HostRuntime) -> Result<(), Fail> {
+    let alloc = rt.alloc();
+    assert_eq!(rt; format!(in alloc; "{}", i7::new(-3))?.as_str(), "-3");
+    assert_eq!(rt; format!(in alloc; "{:?}", u65::new(60))?.as_str(), "60");
+    assert_eq!(rt;
+        format!(in alloc; "{:x}", Int::<i32, 4>::new(-1))?.as_str(),
+        "ffffffff"
+    );
+    assert_eq!(rt; format!(in alloc; "{:#X}", u5::new(10))?.as_str(), "0xA");
+    assert_eq!(rt; format!(in alloc; "{:o}", u65::new(60))?.as_str(), "74");
+    assert_eq!(rt;
+        format!(in alloc; "{:b}", i4::new(-1))?.as_str(),
+        "11111111"
+    );
+    Ok(())
 }

@@ -1,0 +1,38 @@
+-- The numbers of a type, for `num_traits`, whose laws have no premise on the width: so they are those which
+-- wrapping leaves as they are. At a valid width these are the numbers in range.
+use Rattle.std.specs.Prelude.{◌≡◌, ◌↔◌, ℕ, ℤ, Bool, pos, ◌+ℤ◌, ◌-ℤ◌, ◌<◌, ◌≤◌, ◌≤ℤ◌, ◌^◌, unsigned_abs}
+use Rattle.std.proofs.Common.{refl, ap, sym, subst, ◌∙◌, arith}
+use Rattle.std.proofs.lemmas.Int.{ints}
+use Rattle.arbitrary_base.specs.Range.{lo, InRange}
+use Rattle.arbitrary_base.specs.Residue.{residue, wrap}
+use Rattle.arbitrary_base.proofs.Wrap.{residue-lt, wrap-in_range, wrap-of_in_range}
+use Rattle.arbitrary_base.proofs.Primitive.{residue-pos}
+
+-- wrapping leaves x as it is
+abbrev pub Fits : Bool → ℕ → ℤ → Type 0
+Fits s B x = wrap s B x ≡ x
+
+-- ---- what the laws ask
+
+pub Fits-in_range : (s : Bool) (B : ℕ) (x : ℤ) → 1 ≤ B → Fits s B x ↔ InRange s B x
+Fits-in_range s B x h = ((λ e. subst (λ (z : ℤ). InRange s B z) e (wrap-in_range s B x h)), (λ f. wrap-of_in_range s B x h f))
+
+-- a number that is less than 2 ^ B above the least
+Fits-above : (s : Bool) (B n : ℕ) (y : ℤ) → n < 2 ^ B → y ≡ lo s B +ℤ pos n → Fits s B y
+unfolding wrap
+Fits-above s B n y h e =
+    let d : y -ℤ lo s B ≡ pos n = omega (arith, ints) in
+    let r : residue B (y -ℤ lo s B) ≡ n = ap (residue B) d ∙ residue-pos B n h in
+    ap (λ (m : ℕ). lo s B +ℤ pos m) r ∙ sym e
+
+pub Fits-wrap : (s : Bool) (B : ℕ) (x : ℤ) → Fits s B (wrap s B x)
+Fits-wrap s B x = Fits-above s B (residue B (x -ℤ lo s B)) (wrap s B x) (residue-lt B (x -ℤ lo s B)) (unfold wrap in refl)
+
+pub Fits-between : (s : Bool) (B : ℕ) (x y z : ℤ) → Fits s B x → Fits s B z → x ≤ℤ y → y ≤ℤ z → Fits s B y
+unfolding wrap
+Fits-between s B x y z f g h k =
+    let low = residue-lt B (x -ℤ lo s B) in
+    let high = residue-lt B (z -ℤ lo s B) in
+    Fits-above s B (unsigned_abs (y -ℤ lo s B)) y (omega (arith, ints)) (omega (arith, ints))
+
+pub ruleset ranges = (Fits-in_range)

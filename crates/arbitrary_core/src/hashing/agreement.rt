@@ -1,0 +1,33 @@
+//! Equality, order and hash agree, and are those of the number. Each function proves its clauses, and does
+//! nothing.
+
+ghost use Rattle.std.specs.Prelude.{◌≡◌, ◌↔◌, ℤ, IsTrue};
+ghost use Rattle.std.specs.declared.cmp.Ordering.TheVariants.{Equal};
+
+use crate::signed::Int;
+use crate::unsigned::UInt;
+use arbitrary_base::storage::{BuiltinInteger, PatternOf, SignedStorage, UnsignedStorage};
+use std::hash::Hash;
+
+/// Two values of `UInt` are equal exactly where their numbers are, and exactly where neither is ordered
+/// before the other; then a hasher is fed the same. It is fed what the number in the storage feeds it.
+#[tactic(auto, using(crate::proofs::Agreement::agreements))]
+pub fn unsigned_agreement_law<T: UnsignedStorage, const BITS: usize>()
+    ensures equality { (x y : ℤ) → IsTrue (⟦<UInt<T, BITS> as PartialEq>⟧.eq x y) ↔ (x ≡ y) }
+    ensures order { (x y : ℤ) → (⟦<UInt<T, BITS> as Ord>⟧.cmp x y ≡ Equal) ↔ IsTrue (⟦<UInt<T, BITS> as PartialEq>⟧.eq x y) }
+    ensures hash { (x y : ℤ) → IsTrue (⟦<UInt<T, BITS> as PartialEq>⟧.eq x y)
+        → ⟦<UInt<T, BITS> as Hash>⟧.hash_input x ≡ ⟦<UInt<T, BITS> as Hash>⟧.hash_input y }
+    ensures fed { (x : T) → ⟦<UInt<T, BITS> as Hash>⟧.hash_input (T.number x) ≡ T.hash_input x }
+{}
+
+/// The same of `Int`.
+#[tactic(auto, using(crate::proofs::Agreement::agreements))]
+pub fn signed_agreement_law<T: BuiltinInteger + SignedStorage, const BITS: usize>()
+where
+    T::Unsigned: PatternOf<T>,
+    ensures equality { (x y : ℤ) → IsTrue (⟦<Int<T, BITS> as PartialEq>⟧.eq x y) ↔ (x ≡ y) }
+    ensures order { (x y : ℤ) → (⟦<Int<T, BITS> as Ord>⟧.cmp x y ≡ Equal) ↔ IsTrue (⟦<Int<T, BITS> as PartialEq>⟧.eq x y) }
+    ensures hash { (x y : ℤ) → IsTrue (⟦<Int<T, BITS> as PartialEq>⟧.eq x y)
+        → ⟦<Int<T, BITS> as Hash>⟧.hash_input x ≡ ⟦<Int<T, BITS> as Hash>⟧.hash_input y }
+    ensures fed { (x : T) → ⟦<Int<T, BITS> as Hash>⟧.hash_input (T.number x) ≡ T.hash_input x }
+{}

@@ -1,0 +1,24 @@
+//! What `num_traits` says of a type, in the words of this crate. Each function proves its clauses, and does
+//! nothing.
+
+ghost use Rattle.std.specs.Prelude.{◌↔◌, ◌≤◌, ℤ};
+ghost use Rattle.arbitrary_base.specs.Range.{InRange};
+
+use crate::signed::Int;
+use crate::unsigned::UInt;
+use arbitrary_base::storage::{BuiltinInteger, PatternOf, SignedStorage, UnsignedStorage};
+use num_traits::Number;
+
+/// At `UInt`, an integer fits exactly where it is in range.
+#[tactic(auto, using(crate::specs::Fits::ranges))]
+pub fn unsigned_range_law<T: UnsignedStorage, const BITS: usize>()
+    ensures { (x : ℤ) → 1 ≤ BITS → ⟦<UInt<T, BITS> as Number>⟧.fits x ↔ InRange T.SIGNED BITS x }
+{}
+
+/// At `Int`, an integer fits exactly where it is in range.
+#[tactic(auto, using(crate::specs::Fits::ranges))]
+pub fn signed_range_law<T: BuiltinInteger + SignedStorage, const BITS: usize>()
+where
+    T::Unsigned: PatternOf<T>,
+    ensures { (x : ℤ) → 1 ≤ BITS → ⟦<Int<T, BITS> as Number>⟧.fits x ↔ InRange T.SIGNED BITS x }
+{}

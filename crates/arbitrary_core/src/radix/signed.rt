@@ -1,0 +1,75 @@
+//! `Int` as binary, octal and hexadecimal text: the number where it is not negative, and below 0 the two's
+//! complement of the storage.
+
+ghost use Rattle.std.specs.Prelude.{◌≤◌, ◌≤ℤ◌, pos, true, false, Some, None, cond, nat_le, unsigned_abs};
+ghost use Rattle.std.specs.Fmt.{WritesOnOk, digits};
+ghost use Rattle.arbitrary_base.specs.Residue.{residue};
+
+use crate::radix;
+use crate::signed::Int;
+use arbitrary_base::storage::{BuiltinInteger, PatternOf, SignedStorage};
+use std::fmt;
+
+impl<T: BuiltinInteger + SignedStorage, const BITS: usize> fmt::LowerHex for Int<T, BITS>
+where
+    T::Unsigned: PatternOf<T>,
+{
+    fn fmt<W: fmt::Write>(&self, f: &mut fmt::Formatter<W>) -> fmt::Result
+        ensures pattern { T.WIDTH ≤ 64 → WritesOnOk W.write_str_gives f.old result (digits 16 false (residue T.WIDTH self.now)) f.new }
+        ensures natural { T.WIDTH ≤ 64 → pos 0 ≤ℤ self.now
+            → WritesOnOk W.write_str_gives f.old result (digits 16 false (unsigned_abs self.now)) f.new }
+    {
+        radix::lower_hex(self.value(), f)
+    }
+}
+
+impl<T: BuiltinInteger + SignedStorage, const BITS: usize> fmt::UpperHex for Int<T, BITS>
+where
+    T::Unsigned: PatternOf<T>,
+{
+    fn fmt<W: fmt::Write>(&self, f: &mut fmt::Formatter<W>) -> fmt::Result
+        ensures pattern { T.WIDTH ≤ 64 → WritesOnOk W.write_str_gives f.old result (digits 16 true (residue T.WIDTH self.now)) f.new }
+        ensures natural { T.WIDTH ≤ 64 → pos 0 ≤ℤ self.now
+            → WritesOnOk W.write_str_gives f.old result (digits 16 true (unsigned_abs self.now)) f.new }
+    {
+        radix::upper_hex(self.value(), f)
+    }
+}
+
+impl<T: BuiltinInteger + SignedStorage, const BITS: usize> fmt::Octal for Int<T, BITS>
+where
+    T::Unsigned: PatternOf<T>,
+{
+    fn fmt<W: fmt::Write>(&self, f: &mut fmt::Formatter<W>) -> fmt::Result
+        ensures pattern { T.WIDTH ≤ 64 → WritesOnOk W.write_str_gives f.old result (digits 8 false (residue T.WIDTH self.now)) f.new }
+        ensures natural { T.WIDTH ≤ 64 → pos 0 ≤ℤ self.now
+            → WritesOnOk W.write_str_gives f.old result (digits 8 false (unsigned_abs self.now)) f.new }
+    {
+        radix::octal(self.value(), f)
+    }
+}
+
+impl<T: BuiltinInteger + SignedStorage, const BITS: usize> fmt::Binary for Int<T, BITS>
+where
+    T::Unsigned: PatternOf<T>,
+{
+    fn fmt<W: fmt::Write>(&self, f: &mut fmt::Formatter<W>) -> fmt::Result
+        ensures pattern { T.WIDTH ≤ 64 → WritesOnOk W.write_str_gives f.old result (digits 2 false (residue T.WIDTH self.now)) f.new }
+        ensures natural { T.WIDTH ≤ 64 → pos 0 ≤ℤ self.now
+            → WritesOnOk W.write_str_gives f.old result (digits 2 false (unsigned_abs self.now)) f.new }
+    {
+        radix::binary(self.value(), f)
+    }
+}
+
+// What `{:x}` and its kin in a format string ask.
+impl<T: BuiltinInteger + SignedStorage, const BITS: usize> fmt::HasDigits for Int<T, BITS>
+where
+    T::Unsigned: PatternOf<T>,
+{
+    ghost word = { λ x. cond (nat_le T.WIDTH 64) (Some (residue T.WIDTH x)) None };
+
+    fn bits(self) -> (u64, u64) {
+        radix::words(self.value())
+    }
+}

@@ -1,0 +1,202 @@
+//! Unsigned integers as the first version of the original crate saw them. New code takes `Integer`, which has
+//! the same calls and signed integers too.
+
+ghost use Rattle.std.specs.Prelude.{◌≡◌, ℕ, pos, false, refl, MatchResult};
+ghost use Rattle.arbitrary_base.specs.Range.{lo, hi, InRange};
+ghost use Rattle.arbitrary_base.specs.Residue.{wrap};
+
+use arbitrary_base::error::TryNewError;
+use arbitrary_base::storage::{BuiltinInteger, PatternOf, SignedOf, UnsignedStorage};
+use arbitrary_core::unsigned::UInt;
+use arbitrary_traits::integer::{Integer, UnsignedInteger};
+
+/// An unsigned integer type. Each call answers as that of `Integer` of the same name.
+///
+/// It is deprecated, and not in the prelude: both traits have calls of these names, so a file that brings in
+/// both says which it means, as `Number::as_u8(&x)`.
+pub trait Number: UnsignedInteger + Integer<UnderlyingType = <Self as Number>::UnderlyingType> {
+    /// The storage that keeps the number: that of `Integer`.
+    type UnderlyingType;
+
+    /// The width in bits.
+    const BITS: usize;
+
+    ghost BITS: { ℕ };
+
+    ghost bits_law: { BITS ≡ Self.Integer.BITS };
+
+    /// The least number, which is 0. The width is valid.
+    final fn min_value() -> Self
+        requires { Self.valid }
+        ensures { Self.number result ≡ lo Self.IS_SIGNED Self.Integer.BITS }
+    {
+        <Self as Integer>::min_value()
+    }
+
+    /// The greatest number. The width is valid.
+    final fn max_value() -> Self
+        requires { Self.valid }
+        ensures { Self.number result ≡ hi Self.IS_SIGNED Self.Integer.BITS }
+    {
+        <Self as Integer>::max_value()
+    }
+
+    /// The number of `value`, which is in range. The width is valid.
+    final fn new(value: <Self as Number>::UnderlyingType) -> Self
+        requires width { Self.valid }
+        requires range { InRange Self.IS_SIGNED Self.Integer.BITS (Self.underlying value) }
+        ensures { Self.number result ≡ Self.underlying value }
+    {
+        <Self as Integer>::new(value)
+    }
+
+    /// The number of `value`, and an error exactly where it is out of range. The width is valid.
+    final fn try_new(value: <Self as Number>::UnderlyingType) -> Result<Self, TryNewError>
+        requires { Self.valid }
+        ensures { MatchResult result
+            (λ x. InRange Self.IS_SIGNED Self.Integer.BITS (Self.underlying value) × (Self.number x ≡ Self.underlying value))
+            (λ _. ¬ (InRange Self.IS_SIGNED Self.Integer.BITS (Self.underlying value))) }
+    {
+        <Self as Integer>::try_new(value)
+    }
+
+    /// The number, in the storage.
+    final fn value(self) -> <Self as Number>::UnderlyingType
+        ensures value { Self.underlying result ≡ Self.number self }
+        ensures range { InRange Self.IS_SIGNED Self.Integer.BITS (Self.number self) }
+        ensures width { Self.valid }
+    {
+        <Self as Integer>::value(self)
+    }
+
+    /// The same number, which is in range of this type, from any other. The width is valid.
+    final fn from_<T: Number>(value: T) -> Self
+        requires width { Self.valid }
+        requires range { InRange Self.IS_SIGNED Self.Integer.BITS (T.number value) }
+        ensures { Self.number result ≡ T.number value }
+    {
+        <Self as Integer>::from_(value)
+    }
+
+    /// The number that is left of `value` at this width: high bits are dropped. The width is valid.
+    final fn masked_new<T: Number>(value: T) -> Self
+        requires { Self.valid }
+        ensures { Self.number result ≡ wrap Self.IS_SIGNED Self.Integer.BITS (T.number value) }
+    {
+        <Self as Integer>::masked_new(value)
+    }
+
+    /// The low 8 bits.
+    final fn as_u8(&self) -> u8
+        ensures { pos result ≡ wrap false 8 (Self.number self.now) }
+    {
+        Integer::as_u8(*self)
+    }
+
+    /// The low 16 bits.
+    final fn as_u16(&self) -> u16
+        ensures { pos result ≡ wrap false 16 (Self.number self.now) }
+    {
+        Integer::as_u16(*self)
+    }
+
+    /// The low 32 bits.
+    final fn as_u32(&self) -> u32
+        ensures { pos result ≡ wrap false 32 (Self.number self.now) }
+    {
+        Integer::as_u32(*self)
+    }
+
+    /// The low 64 bits.
+    final fn as_u64(&self) -> u64
+        ensures { pos result ≡ wrap false 64 (Self.number self.now) }
+    {
+        Integer::as_u64(*self)
+    }
+
+    /// The low 128 bits.
+    final fn as_u128(&self) -> u128
+        ensures { pos result ≡ wrap false 128 (Self.number self.now) }
+    {
+        Integer::as_u128(*self)
+    }
+
+    /// The low 64 bits.
+    final fn as_usize(&self) -> usize
+        ensures { pos result ≡ wrap false 64 (Self.number self.now) }
+    {
+        Integer::as_usize(*self)
+    }
+
+    /// `T::masked_new` of the value. The width of `T` is valid.
+    final fn as_<T: Number>(self) -> T
+        requires { T.valid }
+        ensures { T.number result ≡ wrap T.IS_SIGNED T.Integer.BITS (Self.number self) }
+    {
+        <T as Integer>::masked_new(self)
+    }
+}
+
+impl Number for u8 {
+    type UnderlyingType = u8;
+
+    const BITS: usize = 8;
+
+    ghost BITS = { 8 };
+
+    ghost bits_law = { refl };
+}
+
+impl Number for u16 {
+    type UnderlyingType = u16;
+
+    const BITS: usize = 16;
+
+    ghost BITS = { 16 };
+
+    ghost bits_law = { refl };
+}
+
+impl Number for u32 {
+    type UnderlyingType = u32;
+
+    const BITS: usize = 32;
+
+    ghost BITS = { 32 };
+
+    ghost bits_law = { refl };
+}
+
+impl Number for u64 {
+    type UnderlyingType = u64;
+
+    const BITS: usize = 64;
+
+    ghost BITS = { 64 };
+
+    ghost bits_law = { refl };
+}
+
+impl Number for u128 {
+    type UnderlyingType = u128;
+
+    const BITS: usize = 128;
+
+    ghost BITS = { 128 };
+
+    ghost bits_law = { refl };
+}
+
+impl<T: BuiltinInteger + UnsignedStorage, const BITS: usize> Number for UInt<T, BITS>
+where
+    T::Signed: BuiltinInteger + SignedOf<T>,
+    <T::Signed as BuiltinInteger>::Unsigned: PatternOf<T::Signed>,
+{
+    type UnderlyingType = T;
+
+    const BITS: usize = BITS;
+
+    ghost BITS = { BITS };
+
+    ghost bits_law = { refl };
+}
