@@ -16,3 +16,5 @@ pub mod BitResult
 pub mod LawProof
 pub mod Powers
 pub mod Squaring
+pub mod ByteNumber
+pub mod StreamSteps

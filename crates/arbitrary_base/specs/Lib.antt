@@ -6,4 +6,7 @@ pub mod BitList
 pub mod Power
 pub mod Order
 pub mod Watching
+pub mod Bytes
+pub mod Totals
+pub mod Stream
 pub mod Laws

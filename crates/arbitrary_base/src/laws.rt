@@ -1,6 +1,6 @@
 //! The laws of the definitions that the contracts cite. Each function proves its clauses, and does nothing.
 
-ghost use Rattle.arbitrary_base.specs.Laws.{WrapIsInRange, WrapIsCongruent, WrapIsUnique, WrappedSumsCommute, WrappedSumsAssociate, WrappedProductsCommute, WrappedProductsAssociate, WrappedProductsDistribute, CheckedTellsOverflow, CheckedQuotientTellsOverflow, ValueOfBits, BitsOfValue, RotationsUndo, ReversalUndoesItself, OnesAddUp, FrontRunsFit, EndRunsFit, ExtractionComposes};
+ghost use Rattle.arbitrary_base.specs.Laws.{WrapIsInRange, WrapIsCongruent, WrapIsUnique, WrappedSumsCommute, WrappedSumsAssociate, WrappedProductsCommute, WrappedProductsAssociate, WrappedProductsDistribute, CheckedTellsOverflow, CheckedQuotientTellsOverflow, ValueOfBits, BitsOfValue, RotationsUndo, ReversalUndoesItself, OnesAddUp, FrontRunsFit, EndRunsFit, ExtractionComposes, ByteReversalUndoesItself, ValueOfBytes, BytesAreUnique, BorshIsCanonical, ValueOfBorsh, BorshIsUnique};
 
 /// What `wrap` is: the one number of the type that is congruent modulo `2 ^ bits`.
 #[tactic(auto, using(crate::proofs::LawProof::wrap_rules))]
@@ -40,4 +40,16 @@ pub fn bit_list_laws()
     ensures front_runs { FrontRunsFit }
     ensures end_runs { EndRunsFit }
     ensures extraction { ExtractionComposes }
+{}
+
+/// Reversing bytes twice leaves them. A number in range and its bytes tell each other, those of a stream too,
+/// and these are canonical.
+#[tactic(auto, using(crate::proofs::ByteNumber::byte_rules))]
+pub fn byte_laws()
+    ensures reversal { ByteReversalUndoesItself }
+    ensures value_of_bytes { ValueOfBytes }
+    ensures bytes_are_unique { BytesAreUnique }
+    ensures borsh_is_canonical { BorshIsCanonical }
+    ensures value_of_borsh { ValueOfBorsh }
+    ensures borsh_is_unique { BorshIsUnique }
 {}

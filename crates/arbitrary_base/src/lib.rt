@@ -4,6 +4,7 @@
 #![tactic(auto)]
 
 pub mod bitwise;
+pub mod byte_lists;
 pub mod checked;
 pub mod counts;
 pub mod ends;
@@ -18,6 +19,7 @@ pub mod rotations;
 pub mod saturating;
 pub mod shifts;
 pub mod storage;
+pub mod streams;
 pub mod watched;
 #[cfg(test)]
 mod worked_bits;

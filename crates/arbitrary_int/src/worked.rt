@@ -2,7 +2,9 @@
 
 mod arithmetic;
 mod bits;
+mod bytes;
 mod calls;
 mod ends;
 mod powers;
+mod ranges;
 mod steps;
