@@ -30,7 +30,8 @@ def tables():
 
 def tests():
     """The module of tests that these tables make."""
-    lines = ['//! The examples of docs/CALLS.md.', '', 'use crate::prelude::*;']
+    lines = ['//! The examples of docs/CALLS.md.', '', 'use crate::prelude::*;',
+             'use crate::{Watched, range_inclusive, try_product, try_sum};', 'use std::io::sink;']
     for title, examples in tables():
         name = re.sub(r'\W+', '_', title.lower())
         lines += ['', '#[test]', f'fn {name}(rt: HostRuntime) {{']

@@ -12,7 +12,7 @@ use Rattle.arbitrary_base.proofs.BitNumber.{num-bits}
 use Rattle.arbitrary_base.proofs.BitValue.{bits-residue, bits-wrap, num-bits_residue}
 use Rattle.arbitrary_base.proofs.Congruence.{pow_le}
 use Rattle.arbitrary_base.proofs.Narrow.{wrap-residue}
-use Rattle.arbitrary_base.proofs.Primitive.{residue-pos}
+use Rattle.arbitrary_base.proofs.Primitive.{residue-pos, unsigned-in_range}
 use Rattle.arbitrary_base.proofs.Wrap.{residue-lt, residue-congruent, wrap-of_in_range, wrap-same}
 
 -- the bytes by division
@@ -154,6 +154,23 @@ unfolding BorshBytes
 Borsh-wrap s B p l x n e b small f =
     let r : residue B x ≡ p = ap (residue B) f ∙ residue-wrap_same s B (pos p) ∙ residue-pos B p small in
     (record { long = n; below = subst (λ (k : ℕ). k < 2 ^ B) e small }, (λ i. bytes (sym n i) (pos (r i))) ∙ b)
+
+-- ---- for callers: the value of bytes
+
+pub wrap-number_of : (s : Bool) (B n : ℕ) (x : ℤ) (l : List ℕ) → B ≡ 8 * n → 1 ≤ B → InRange s B x → bytes n x ≡ l → wrap s B (pos (bytes_number l)) ≡ x
+wrap-number_of s B n x l w h f e =
+    let r : bytes_number l ≡ residue B x = ap bytes_number (sym e) ∙ bytes_number-bytes n x ∙ ap (λ (k : ℕ). residue k x) (sym w) in
+    ap (λ (p : ℕ). wrap s B (pos p)) r ∙ wrap-of_residue s B x h ∙ wrap-of_in_range s B x h f
+
+-- where the type has no sign, it is the number that the bytes spell
+pub unsigned-number_of : (s : Bool) (B n : ℕ) (x : ℤ) (l : List ℕ) → B ≡ 8 * n → 1 ≤ B → x ≡ wrap s B (pos (bytes_number l)) → bytes_number l < 2 ^ (8 * n) → s ≡ false → x ≡ pos (bytes_number l)
+unsigned-number_of s B n x l w h e small u =
+    e ∙ wrap-of_in_range s B (pos (bytes_number l)) h (subst (λ (b : Bool). InRange b B (pos (bytes_number l))) (sym u) (unsigned-in_range B (bytes_number l) (subst (λ (k : ℕ). bytes_number l < 2 ^ k) (sym w) small)))
+
+pub number_of-unsigned : (s : Bool) (B n : ℕ) (x : ℤ) (l : List ℕ) → B ≡ 8 * n → 1 ≤ B → InRange s B x → l ≡ bytes n x → s ≡ false → pos (bytes_number l) ≡ x
+number_of-unsigned s B n x l w h f e u =
+    let small : bytes_number l < 2 ^ (8 * n) = subst (λ (k : ℕ). k < 2 ^ (8 * n)) (sym (ap bytes_number e ∙ bytes_number-bytes n x)) (residue-lt (8 * n) x) in
+    sym (unsigned-number_of s B n x l w h (sym (wrap-number_of s B n x l w h f (sym e))) small u)
 
 -- ---- the laws of specs/Laws
 

@@ -1,8 +1,9 @@
 -- One more read, and one more write.
 use Rattle.std.proofs.Common.{◌≡◌, ℕ, ◌+◌, ◌-◌, ◌<◌, ◌≤◌, List, ◌++◌, length, take, drop, Option, sym, ap, ◌∙◌, subst, arith, length-append, length-take, take-add, take_all, length-drop, min}
 use Rattle.std.specs.Io.KnownBytes.{Appends, Consumes}
+use Rattle.arbitrary_base.specs.Stream.{AppendsBeginning}
 use Rattle.std.proofs.KnownBytes.{Appends-trans, Consumes-trans}
-use Rattle.std.proofs.lemmas.List.{take-append-le}
+use Rattle.std.proofs.lemmas.List.{take-append-le, take_min}
 use Rattle.std.proofs.Math.Seq.{take-append-add, take-append_seam}
 
 -- the next n bytes at their place
@@ -28,3 +29,17 @@ pub take-at_front : (n : ℕ) (xs ys rest : List ℕ) → n ≡ length ys → xs
 take-at_front n xs ys rest e f = (λ i. take (e i) (f i ++ rest)) ∙ take-append_seam ys rest
 
 pub ruleset fronts = (take-at_front)
+
+-- ---- for callers that write one text after another
+
+-- a beginning of a text is one of a longer text
+pub begun_append : (a b : Option (List ℕ)) (text rest : List ℕ) → AppendsBeginning a b text → AppendsBeginning a b (text ++ rest)
+begun_append a b text rest h =
+    let n = min h.0 (length text) in
+    let e : take n (text ++ rest) ≡ take h.0 text = take-append-le n text rest (omega arith) ∙ take_min h.0 text in
+    (n, subst (Appends a b) (sym e) h.1)
+
+-- all of a text, and a beginning of the next
+pub begun_after : (a b c : Option (List ℕ)) (text next : List ℕ) → Appends a b text → AppendsBeginning b c next → AppendsBeginning a c (text ++ next)
+begun_after a b c text next p h =
+    (length text + h.0, subst (Appends a c) (sym (take-append-add text next h.0)) (Appends-trans a b c text (take h.0 next) p h.1))

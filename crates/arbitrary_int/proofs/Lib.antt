@@ -4,5 +4,8 @@ pub mod Fields
 pub mod TotalSteps
 pub mod Rows
 pub mod RangeSteps
+pub mod ByteLaws
 pub use Rattle.arbitrary_base.proofs.Narrow
 pub use Rattle.arbitrary_base.proofs.Wrap
+pub use Rattle.arbitrary_base.proofs.ByteNumber
+pub use Rattle.arbitrary_base.proofs.StreamSteps

@@ -1,4 +1,5 @@
 //! Laws of the calls on bytes, each as a function that makes the calls and ensures what the law says.
+//! That a number is in range is told by `extended`.
 
 ghost use Rattle.std.specs.Prelude.{◌≡◌, ◌↔◌, IsTrue, MatchOption};
 
@@ -10,13 +11,17 @@ use arbitrary_calls::fixed_width::FixedWidth;
 pub fn swapped_twice<V: ByteOrders<N>, const N: usize>(value: V) -> V
     ensures { V.number result ≡ V.number value }
 {
-    value.swap_bytes().swap_bytes()
+    let _known = value.extended();
+    let twice = value.swap_bytes().swap_bytes();
+    let _twice = twice.extended();
+    twice
 }
 
 /// A value is read back from its little-endian bytes.
 pub fn through_le_bytes<V: ByteOrders<N>, const N: usize>(value: V) -> V
     ensures { V.number result ≡ V.number value }
 {
+    let _known = value.extended();
     V::from_le_bytes(value.to_le_bytes())
 }
 
@@ -24,6 +29,7 @@ pub fn through_le_bytes<V: ByteOrders<N>, const N: usize>(value: V) -> V
 pub fn through_be_bytes<V: ByteOrders<N>, const N: usize>(value: V) -> V
     ensures { V.number result ≡ V.number value }
 {
+    let _known = value.extended();
     V::from_be_bytes(value.to_be_bytes())
 }
 
@@ -31,15 +37,20 @@ pub fn through_be_bytes<V: ByteOrders<N>, const N: usize>(value: V) -> V
 pub fn through_borsh_bytes<V: FixedWidth>(value: V) -> Option<V>
     ensures { MatchOption result ⊥ (λ x. V.number x ≡ V.number value) }
 {
+    let _known = value.extended();
     let mut bytes = [0; 16];
     let count = value.to_borsh_bytes(&mut bytes);
-    V::from_borsh_bytes(&bytes[..count])
+    let read = V::from_borsh_bytes(&bytes[..count])?;
+    let _read = read.extended();
+    Some(read)
 }
 
 /// No two numbers share the bytes that they have in a stream.
 pub fn share_borsh_bytes<V: FixedWidth>(x: V, y: V) -> bool
     ensures { IsTrue result ↔ (V.number x ≡ V.number y) }
 {
+    let _x = x.extended();
+    let _y = y.extended();
     let mut first = [0; 16];
     let mut second = [0; 16];
     let first_count = x.to_borsh_bytes(&mut first);

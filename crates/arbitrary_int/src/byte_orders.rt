@@ -1,6 +1,6 @@
 //! Integers of whole bytes, and their bytes.
 
-ghost use Rattle.std.specs.Prelude.{◌≡◌, ◌*◌, ℤ, pos, refl, reverse};
+ghost use Rattle.std.specs.Prelude.{◌≡◌, ◌*◌, ℤ, pos, false, refl, reverse};
 ghost use Rattle.std.proofs.Common.{lit≤};
 ghost use Rattle.arbitrary_base.specs.Range.{InRange};
 ghost use Rattle.arbitrary_base.specs.Residue.{wrap};
@@ -21,9 +21,10 @@ pub trait ByteOrders<const N: usize>: FixedWidth {
 
     ghost valid_law: { Self.valid };
 
-    /// The bytes, the lowest first.
+    /// The bytes, the lowest first. Where the type has no sign, they spell the number.
     final fn to_le_bytes(self) -> [u8; N]
-        ensures { result ≡ bytes N (Self.number self) }
+        ensures bytes { result ≡ bytes N (Self.number self) }
+        ensures unsigned { Self.IS_SIGNED ≡ false → pos (bytes_number result) ≡ Self.number self }
     {
         let all = all_bytes(self.extended());
         let mut list = [0; N];
@@ -31,9 +32,10 @@ pub trait ByteOrders<const N: usize>: FixedWidth {
         list
     }
 
-    /// The bytes, the highest first.
+    /// The bytes, the highest first. Where the type has no sign, they spell the number.
     final fn to_be_bytes(self) -> [u8; N]
-        ensures { result ≡ reverse (bytes N (Self.number self)) }
+        ensures bytes { result ≡ reverse (bytes N (Self.number self)) }
+        ensures unsigned { Self.IS_SIGNED ≡ false → pos (bytes_number (reverse result)) ≡ Self.number self }
     {
         let mut list = self.to_le_bytes();
         list.reverse();
@@ -42,7 +44,8 @@ pub trait ByteOrders<const N: usize>: FixedWidth {
 
     /// The bytes as the machine keeps them: `to_le_bytes`.
     final fn to_ne_bytes(self) -> [u8; N]
-        ensures { result ≡ bytes N (Self.number self) }
+        ensures bytes { result ≡ bytes N (Self.number self) }
+        ensures unsigned { Self.IS_SIGNED ≡ false → pos (bytes_number result) ≡ Self.number self }
     {
         self.to_le_bytes()
     }
@@ -51,6 +54,7 @@ pub trait ByteOrders<const N: usize>: FixedWidth {
     final fn from_le_bytes(list: [u8; N]) -> Self
         ensures bytes { bytes N (Self.number result) ≡ list.entry }
         ensures number { Self.number result ≡ wrap Self.IS_SIGNED Self.BITS (pos (bytes_number list.entry)) }
+        ensures unsigned { Self.IS_SIGNED ≡ false → Self.number result ≡ pos (bytes_number list.entry) }
         ensures only { (x : ℤ) → InRange Self.IS_SIGNED Self.BITS x → bytes N x ≡ list.entry → Self.number result ≡ x }
     {
         Self::from_extended(pattern_of(&list))
@@ -60,6 +64,7 @@ pub trait ByteOrders<const N: usize>: FixedWidth {
     final fn from_be_bytes(list: [u8; N]) -> Self
         ensures bytes { reverse (bytes N (Self.number result)) ≡ list.entry }
         ensures number { Self.number result ≡ wrap Self.IS_SIGNED Self.BITS (pos (bytes_number (reverse list.entry))) }
+        ensures unsigned { Self.IS_SIGNED ≡ false → Self.number result ≡ pos (bytes_number (reverse list.entry)) }
         ensures only { (x : ℤ) → InRange Self.IS_SIGNED Self.BITS x → reverse (bytes N x) ≡ list.entry → Self.number result ≡ x }
     {
         let mut turned = list;
@@ -71,6 +76,7 @@ pub trait ByteOrders<const N: usize>: FixedWidth {
     final fn from_ne_bytes(list: [u8; N]) -> Self
         ensures bytes { bytes N (Self.number result) ≡ list.entry }
         ensures number { Self.number result ≡ wrap Self.IS_SIGNED Self.BITS (pos (bytes_number list.entry)) }
+        ensures unsigned { Self.IS_SIGNED ≡ false → Self.number result ≡ pos (bytes_number list.entry) }
         ensures only { (x : ℤ) → InRange Self.IS_SIGNED Self.BITS x → bytes N x ≡ list.entry → Self.number result ≡ x }
     {
         Self::from_le_bytes(list)

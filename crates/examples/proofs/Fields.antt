@@ -13,4 +13,8 @@ pub field-u16 : (n start width : ℕ) → 1 ≤ width → start + width ≤ 16 �
 unfolding field
 field-u16 n start width h g f = sym (unsigned-items width 16 start n h g f)
 
-pub ruleset extractions = (field-u32, field-u16)
+pub field-u64 : (n start width : ℕ) → 1 ≤ width → start + width ≤ 64 → n < 2 ^ 64 → field n start width ≡ val false (items start width (bits 64 (pos n)))
+unfolding field
+field-u64 n start width h g f = sym (unsigned-items width 64 start n h g f)
+
+pub ruleset extractions = (field-u64, field-u32, field-u16)

@@ -1,3 +1,5 @@
 pub mod Fields
 pub mod Samples
 pub mod Means
+pub mod Records
+pub mod Frames

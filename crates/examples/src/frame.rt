@@ -59,6 +59,7 @@ impl Frame {
 }
 
 /// What is received is what was sent.
+#[tactic(auto, using(crate::proofs::Frames::received))]
 pub fn sent_and_received(frame: Frame) -> Frame
     ensures { result ≡ frame }
 {

@@ -33,7 +33,8 @@ pub fn write<W: Write>(record: Record, writer: &mut Watched<W>) -> io::Result<()
     record.time.serialize(writer)?;
     record.level.serialize(writer)?;
     record.source.serialize(writer)?;
-    record.reading.serialize(writer)
+    record.reading.serialize(writer)?;
+    Ok(())
 }
 
 /// Reads the bytes of one record, and leaves what follows.

@@ -49,7 +49,6 @@ pub fn millivolts(sample: i12) -> i32
 
 /// The sum of the samples, from the first on, and `None` where a partial sum is out of range: it tells an
 /// overflow, also one that later samples would undo.
-#[tactic(auto, using(crate::proofs::Samples::sums))]
 pub fn sum(samples: &[i12]) -> Option<i12>
     ensures { MatchOption result (¬ (PartialsFit true 12 (λ a b. a +ℤ b) (pos 0) samples.now)) (λ x. PartialsFit true 12 (λ a b. a +ℤ b) (pos 0) samples.now × (x ≡ fold (λ a b. a +ℤ b) (pos 0) samples.now)) }
 {
