@@ -11,7 +11,9 @@ from pathlib import Path
 ROOT = Path(__file__).resolve().parent.parent
 # what the tests of each crate bring in; a table runs in arbitrary_int unless another crate is named for its title
 USES = {
-    'arbitrary_int': ['use crate::prelude::*;', 'use std::test::Fail;'],
+    'arbitrary_int': [
+        'use crate::prelude::*;', 'use crate::{Watched, range_inclusive, try_product, try_sum};', 'use std::io::sink;', 'use std::test::Fail;',
+    ],
     'bit_fields': ['use crate::{Record, disjoint};', 'use arbitrary_int::prelude::*;'],
 }
 ELSEWHERE = {'Fields in a record': 'bit_fields'}

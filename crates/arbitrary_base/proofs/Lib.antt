@@ -26,3 +26,5 @@ pub mod Extracted
 pub mod Spare
 pub mod Size
 pub mod SmallNumber
+pub mod ByteNumber
+pub mod StreamSteps

@@ -1,5 +1,5 @@
 -- The laws of what wraps and of bit lists, as statements. `laws` proves them.
-use Rattle.std.specs.Prelude.{◌≡◌, ◌≢◌, ◌↔◌, ℕ, ℤ, Bool, List, Option, Some, None, pos, length, reverse, int_div, IsTrue, if◌then◌else◌, ◌||◌, ◌+◌, ◌≤◌, ◌<◌, ◌+ℤ◌, ◌-ℤ◌, ◌*ℤ◌, false, ◌^◌, ◌<ℤ◌}
+use Rattle.std.specs.Prelude.{◌≡◌, ◌≢◌, ◌↔◌, ℕ, ℤ, Bool, List, Option, Some, None, pos, length, reverse, int_div, IsTrue, if◌then◌else◌, ◌||◌, ◌+◌, ◌≤◌, ◌<◌, ◌+ℤ◌, ◌-ℤ◌, ◌*ℤ◌, false, ◌^◌, ◌<ℤ◌, ◌*◌}
 use Rattle.std.specs.Ordering.{int_eq}
 use Rattle.arbitrary_base.specs.Range.{InRange, in_range, lo, hi}
 use Rattle.arbitrary_base.specs.Residue.{Congruent, residue, wrap}
@@ -7,6 +7,7 @@ use Rattle.arbitrary_base.specs.Field.{field}
 use Rattle.arbitrary_base.specs.Saturation.{clamp}
 use Rattle.arbitrary_base.specs.Exact.{ExactOrNone, QuotientOrNone}
 use Rattle.arbitrary_base.specs.BitList.{bits, val, bits_and, bits_or, bits_xor, shl, rotl, rotr, ones, front, tail, bits_not, items, num}
+use Rattle.arbitrary_base.specs.Bytes.{bytes, bytes_number, BorshBytes, Canonical}
 
 -- ---- what `wrap` is
 
@@ -141,3 +142,25 @@ ComplementsKeepLowBits = (s t : Bool) (A B : ℕ) (x : ℤ) → 1 ≤ A → A �
 abbrev pub LeftShiftsKeepLowBits : Type 0
 LeftShiftsKeepLowBits = (s t : Bool) (A B k : ℕ) (x : ℤ) → A ≤ B → k < A
     → wrap s A (val t (shl (bits B x) k)) ≡ val s (shl (bits A (wrap s A x)) k)
+
+-- ---- bytes, and the numbers that have them
+
+abbrev pub ByteReversalUndoesItself : Type 0
+ByteReversalUndoesItself = (l : List ℕ) → reverse (reverse l) ≡ l
+
+-- what the bytes of a number tell is that number
+abbrev pub ValueOfBytes : Type 0
+ValueOfBytes = (s : Bool) (n : ℕ) (x : ℤ) → 1 ≤ n → InRange s (8 * n) x → wrap s (8 * n) (pos (bytes_number (bytes n x))) ≡ x
+
+-- no two numbers share their bytes
+abbrev pub BytesAreUnique : Type 0
+BytesAreUnique = (s : Bool) (n : ℕ) (x y : ℤ) → 1 ≤ n → InRange s (8 * n) x → InRange s (8 * n) y → bytes n x ≡ bytes n y → x ≡ y
+
+abbrev pub BorshIsCanonical : Type 0
+BorshIsCanonical = (B : ℕ) (x : ℤ) → Canonical B (BorshBytes B x)
+
+abbrev pub ValueOfBorsh : Type 0
+ValueOfBorsh = (s : Bool) (B : ℕ) (x : ℤ) → 1 ≤ B → InRange s B x → wrap s B (pos (bytes_number (BorshBytes B x))) ≡ x
+
+abbrev pub BorshIsUnique : Type 0
+BorshIsUnique = (s : Bool) (B : ℕ) (x y : ℤ) → 1 ≤ B → InRange s B x → InRange s B y → BorshBytes B x ≡ BorshBytes B y → x ≡ y

@@ -8,4 +8,7 @@ pub mod BitField
 pub mod Power
 pub mod Order
 pub mod Watching
+pub mod Bytes
+pub mod Totals
+pub mod Stream
 pub mod Laws

@@ -1,7 +1,7 @@
 //! The laws of the definitions that the contracts cite. Each function proves its clauses, and does nothing.
 
 ghost use Rattle.arbitrary_base.specs.BitField.{PutSetsItsBits, PutKeepsOtherBits, FieldAfterPut, PutsSetTheirBits, PutsKeepOtherBits, FieldAfterPuts, PutsInAnyOrder, DisjointPutsCommute};
-ghost use Rattle.arbitrary_base.specs.Laws.{WrapIsInRange, WrapIsCongruent, WrapIsUnique, WrappedSumsCommute, WrappedSumsAssociate, WrappedProductsCommute, WrappedProductsAssociate, WrappedProductsDistribute, CheckedTellsOverflow, CheckedQuotientTellsOverflow, ValueOfBits, BitsOfValue, RotationsUndo, ReversalUndoesItself, OnesAddUp, FrontRunsFit, EndRunsFit, ExtractionComposes, SumsKeepLowBits, DifferencesKeepLowBits, ProductsKeepLowBits, AndKeepsLowBits, OrKeepsLowBits, XorKeepsLowBits, ComplementsKeepLowBits, LeftShiftsKeepLowBits, WrapKeeps, TestTellsRange, ClampKeeps, ClampEndsAbove, ClampEndsBelow, LengthOfBits, NumberOfBits, FieldIsExtracted};
+ghost use Rattle.arbitrary_base.specs.Laws.{WrapIsInRange, WrapIsCongruent, WrapIsUnique, WrappedSumsCommute, WrappedSumsAssociate, WrappedProductsCommute, WrappedProductsAssociate, WrappedProductsDistribute, CheckedTellsOverflow, CheckedQuotientTellsOverflow, ValueOfBits, BitsOfValue, RotationsUndo, ReversalUndoesItself, OnesAddUp, FrontRunsFit, EndRunsFit, ExtractionComposes, SumsKeepLowBits, DifferencesKeepLowBits, ProductsKeepLowBits, AndKeepsLowBits, OrKeepsLowBits, XorKeepsLowBits, ComplementsKeepLowBits, LeftShiftsKeepLowBits, WrapKeeps, TestTellsRange, ClampKeeps, ClampEndsAbove, ClampEndsBelow, LengthOfBits, NumberOfBits, FieldIsExtracted, ByteReversalUndoesItself, ValueOfBytes, BytesAreUnique, BorshIsCanonical, ValueOfBorsh, BorshIsUnique};
 
 /// What `wrap` is: the one number of the type that is congruent modulo `2 ^ bits`.
 #[tactic(auto, using(crate::proofs::LawProof::wrap_rules))]
@@ -83,4 +83,16 @@ pub fn field_laws()
     ensures field_after_puts { FieldAfterPuts }
     ensures any_order { PutsInAnyOrder }
     ensures puts_commute { DisjointPutsCommute }
+{}
+
+/// Reversing bytes twice leaves them. A number in range and its bytes tell each other, those of a stream too,
+/// and these are canonical.
+#[tactic(auto, using(crate::proofs::ByteNumber::byte_rules))]
+pub fn byte_laws()
+    ensures reversal { ByteReversalUndoesItself }
+    ensures value_of_bytes { ValueOfBytes }
+    ensures bytes_are_unique { BytesAreUnique }
+    ensures borsh_is_canonical { BorshIsCanonical }
+    ensures value_of_borsh { ValueOfBorsh }
+    ensures borsh_is_unique { BorshIsUnique }
 {}

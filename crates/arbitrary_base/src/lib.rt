@@ -4,6 +4,7 @@
 #![tactic(auto)]
 
 pub mod bitwise;
+pub mod byte_lists;
 pub mod checked;
 pub mod counts;
 pub mod ends;
@@ -19,6 +20,7 @@ pub mod saturating;
 pub mod shifts;
 mod small;
 pub mod storage;
+pub mod streams;
 pub mod watched;
 #[cfg(test)]
 mod worked_bits;

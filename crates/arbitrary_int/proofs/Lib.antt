@@ -2,10 +2,16 @@ pub mod StepLemmas
 pub mod RunLemmas
 pub mod LowBitRuns
 pub mod WiderRuns
+pub mod TotalSteps
+pub mod Rows
+pub mod RangeSteps
+pub mod ByteLaws
+pub mod Everyday
 pub use Rattle.arbitrary_base.proofs.Narrow
 pub use Rattle.arbitrary_base.proofs.Wrap
 pub use Rattle.arbitrary_base.proofs.BitNumber
 pub use Rattle.arbitrary_base.proofs.BitValue
 pub use Rattle.arbitrary_base.proofs.BitField
 pub use Rattle.arbitrary_base.proofs.Extracted
-pub mod Everyday
+pub use Rattle.arbitrary_base.proofs.ByteNumber
+pub use Rattle.arbitrary_base.proofs.StreamSteps

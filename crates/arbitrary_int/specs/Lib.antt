@@ -1,6 +1,9 @@
 pub mod Step
 pub mod Run
 pub mod Widths
+pub mod Reading
+pub mod Row
+pub mod Total
 -- The words that the contracts of this crate, and of those that it passes on, cite.
 pub use Rattle.arbitrary_base.specs.Range
 pub use Rattle.arbitrary_base.specs.Residue
@@ -12,3 +15,6 @@ pub use Rattle.arbitrary_base.specs.BitList
 pub use Rattle.arbitrary_base.specs.BitField
 pub use Rattle.arbitrary_base.specs.Watching
 pub use Rattle.arbitrary_base.specs.Laws
+pub use Rattle.arbitrary_base.specs.Bytes
+pub use Rattle.arbitrary_base.specs.Totals
+pub use Rattle.arbitrary_base.specs.Stream

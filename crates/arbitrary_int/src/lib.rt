@@ -2,25 +2,39 @@
 //! `UInt` and `Int` behind them, with lists of steps on registers of one such type.
 #![tactic(auto)]
 
+pub mod borsh;
+pub mod byte_laws;
+pub mod byte_orders;
 pub mod laws;
 pub mod number;
 pub mod prelude;
+pub mod ranges;
 pub mod runs;
+pub mod stepping;
 pub mod steps;
+pub mod totals;
 pub mod traits;
 pub mod widths;
 #[cfg(test)]
 mod worked;
 
+pub use crate::borsh::BorshDeserialize;
+pub use crate::borsh::BorshSerialize;
+pub use crate::byte_orders::ByteOrders;
 pub use crate::number::Number;
+pub use crate::ranges::ValueRange;
+pub use crate::ranges::range_inclusive;
 pub use crate::runs::run;
 pub use crate::runs::well_formed;
+pub use crate::stepping::Stepping;
 pub use crate::steps::ByOp;
 pub use crate::steps::OneOp;
 pub use crate::steps::Step;
 pub use crate::steps::Stop;
 pub use crate::steps::TwoOp;
 pub use crate::steps::Why;
+pub use crate::totals::try_product;
+pub use crate::totals::try_sum;
 pub use crate::widths::run_wide;
 pub use arbitrary_base::error::TryNewError;
 pub use arbitrary_base::watched::Watched;

@@ -1,5 +1,9 @@
 //! What most programs use: the types, their short names, and the traits that give them their calls.
 
+pub use crate::borsh::BorshDeserialize;
+pub use crate::borsh::BorshSerialize;
+pub use crate::byte_orders::ByteOrders;
+pub use crate::stepping::Stepping;
 pub use arbitrary_base::error::TryNewError;
 pub use arbitrary_base::storage::BuiltinInteger;
 pub use arbitrary_calls::fixed_width::FixedWidth;

@@ -2,11 +2,13 @@
 
 mod arithmetic;
 mod bits;
+mod bytes;
 mod calls;
 mod ends;
 mod first_version;
 mod keys;
 mod powers;
+mod ranges;
 mod steps;
 mod texts;
 mod widths;

@@ -1,11 +1,13 @@
-//! How the library is used: a device's register, a packet header, a sensor, lists of steps at one width
-//! and at two, code for every width, fields in a record, and numbers as text and as keys.
+//! How the library is used: a device's register, a packet header, a frame of bytes, a sensor, a log, lists of
+//! steps at one width and at two, code for every width, fields in a record, and numbers as text and as keys.
 #![tactic(auto)]
 
 mod can;
 mod first;
+mod frame;
 mod generic;
 mod header;
+mod journal;
 mod keys;
 mod register;
 mod sensor;
@@ -21,7 +23,9 @@ fn main(rt: HostRuntime) -> io::Result<()> {
     first::show(&rt)?;
     register::show(&rt)?;
     header::show(&rt)?;
+    frame::show(&rt)?;
     sensor::show(&rt)?;
+    journal::show(&rt)?;
     steps::show(&rt)?;
     widths::show(&rt)?;
     generic::show(&rt)?;

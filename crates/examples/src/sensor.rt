@@ -1,11 +1,14 @@
 //! A sensor that measures with 12 bits and a sign.
 
-ghost use Rattle.std.specs.Prelude.{◌≡◌, ◌-ℤ◌, ◌*ℤ◌, pos, int_div, true};
+ghost use Rattle.std.specs.Prelude.{◌≡◌, ◌+ℤ◌, ◌-ℤ◌, ◌*ℤ◌, pos, int_div, true, MatchOption};
+ghost use Rattle.std.specs.List.{fold};
 ghost use Rattle.arbitrary_int.specs.BitList.{bits, items, val};
 ghost use Rattle.arbitrary_int.specs.Residue.{wrap};
 ghost use Rattle.arbitrary_int.specs.Saturation.{clamp};
+ghost use Rattle.arbitrary_int.specs.Total.{PartialsFit};
 
 use arbitrary_int::prelude::*;
+use arbitrary_int::try_sum;
 use std::io;
 
 /// The sample in the low 12 bits of what the sensor sends. Bit 11 is its sign.
@@ -44,6 +47,14 @@ pub fn millivolts(sample: i12) -> i32
     sample.as_i32() * 2500 / 2048
 }
 
+/// The sum of the samples, from the first on, and `None` where a partial sum is out of range: it tells an
+/// overflow, also one that later samples would undo.
+pub fn sum(samples: &[i12]) -> Option<i12>
+    ensures { MatchOption result (¬ (PartialsFit true 12 (λ a b. a +ℤ b) (pos 0) samples.now)) (λ x. PartialsFit true 12 (λ a b. a +ℤ b) (pos 0) samples.now × (x ≡ fold (λ a b. a +ℤ b) (pos 0) samples.now)) }
+{
+    try_sum(samples.iter().copied())
+}
+
 /// Prints what becomes of a few samples.
 pub fn show(rt: &impl Print) -> io::Result<()> {
     let high = sample(0x07FF);
@@ -54,5 +65,10 @@ pub fn show(rt: &impl Print) -> io::Result<()> {
         amplified(high, i12::new(2)),
         amplified(low, i12::new(-1))
     )?;
-    println!(rt; "{} {}", difference(low, high), millivolts(low))
+    println!(rt; "{} {}", difference(low, high), millivolts(low))?;
+    println!(rt;
+        "{:?} {:?}",
+        sum(&[high, low, high]),
+        sum(&[high, high, low])
+    )
 }

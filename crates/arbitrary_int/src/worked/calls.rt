@@ -1,6 +1,8 @@
 //! The examples of docs/CALLS.md.
 
 use crate::prelude::*;
+use crate::{Watched, range_inclusive, try_product, try_sum};
+use std::io::sink;
 use std::test::Fail;
 
 #[test]
@@ -142,4 +144,49 @@ fn text(rt: HostRuntime) -> Result<(), Fail> {
         "11111111"
     );
     Ok(())
+}
+
+#[test]
+fn bytes(rt: HostRuntime) {
+    assert_eq!(rt; u24::new(0x123456).to_le_bytes(), [0x56, 0x34, 0x12]);
+    assert_eq!(rt; i24::new(-5).to_be_bytes(), [0xFF, 0xFF, 0xFB]);
+    assert_eq!(rt; u24::from_le_bytes([0x56, 0x34, 0x12]), u24::new(0x123456));
+    assert_eq!(rt; u24::from_be_bytes([0x12, 0x34, 0x56]), u24::new(0x123456));
+    assert_eq!(rt; i24::new(-5).swap_bytes(), i24::new(-262145));
+    assert_eq!(rt; u40::new(7).to_le(), u40::new(7));
+    assert_eq!(rt;
+        u9::new(300).serialize(&mut Watched::new(sink())).is_ok(),
+        true
+    );
+    assert_eq!(rt;
+        u9::deserialize_reader(&mut Watched::new([0x2C, 0x01].as_slice())).ok(),
+        Some(u9::new(300))
+    );
+    assert_eq!(rt; u9::new(300).to_borsh_bytes(&mut [0; 16]), 2);
+    assert_eq!(rt; u9::from_borsh_bytes(&[0x2C, 0x03]), None);
+}
+
+#[test]
+fn many_values(rt: HostRuntime) {
+    assert_eq!(rt;
+        try_sum([i7::new(63), i7::new(1), i7::new(-1)].iter().copied()),
+        None
+    );
+    assert_eq!(rt;
+        try_product([u7::new(4), u7::new(24)].iter().copied()),
+        Some(u7::new(96))
+    );
+    assert_eq!(rt;
+        range_inclusive(u7::new(1), u7::new(3)).next_back(),
+        Some(u7::new(3))
+    );
+    assert_eq!(rt;
+        i7::steps_between(&i7::new(-64), &i7::new(63)),
+        (127, Some(127))
+    );
+    assert_eq!(rt; i7::forward_checked(i7::min_value(), 128), None);
+    assert_eq!(rt;
+        i7::backward_checked(i7::max_value(), 127),
+        Some(i7::new(-64))
+    );
 }

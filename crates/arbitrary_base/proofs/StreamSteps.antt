@@ -1,0 +1,45 @@
+-- One more read, and one more write.
+use Rattle.std.proofs.Common.{◌≡◌, ℕ, ◌+◌, ◌-◌, ◌<◌, ◌≤◌, List, ◌++◌, length, take, drop, Option, sym, ap, ◌∙◌, subst, arith, length-append, length-take, take-add, take_all, length-drop, min}
+use Rattle.std.specs.Io.KnownBytes.{Appends, Consumes}
+use Rattle.arbitrary_base.specs.Stream.{AppendsBeginning}
+use Rattle.std.proofs.KnownBytes.{Appends-trans, Consumes-trans}
+use Rattle.std.proofs.lemmas.List.{take-append-le, take_min}
+use Rattle.std.proofs.Math.Seq.{take-append-add, take-append_seam}
+
+-- the next n bytes at their place
+pub read_more : (a b c : Option (List ℕ)) (old new post : List ℕ) (at n : ℕ) → at ≤ length old → n ≤ length new → Consumes a b (take at old) → Consumes b c (take n new)
+    → Consumes a c (take (at + n) (take at old ++ (new ++ post)))
+read_more a b c old new post at n h k p q =
+    let long : length (take at old) ≡ at = omega (arith, length-take at old) in
+    let e : take (at + n) (take at old ++ (new ++ post)) ≡ take at old ++ take n new =
+    ap (λ (m : ℕ). take (m + n) (take at old ++ (new ++ post))) (sym long) ∙ take-append-add (take at old) (new ++ post) n ∙ ap (λ (l : List ℕ). take at old ++ l) (take-append-le n new post k) in
+    subst (Consumes a c) (sym e) (Consumes-trans a b c (take at old) (take n new) p q)
+
+-- the rest of a text from a place on
+pub written_more : (a b c : Option (List ℕ)) (text : List ℕ) (at n : ℕ) → Appends a b (take at text) → Appends b c (take n (take (length text - at) (drop at text))) → Appends a c (take (at + n) text)
+written_more a b c text at n p q =
+    let rest : take (length text - at) (drop at text) ≡ drop at text = take_all (length text - at) (drop at text) (omega (arith, length-drop at text)) in
+    subst (Appends a c) (sym (take-add at n text)) (Appends-trans a b c (take at text) (take n (drop at text)) p (subst (λ (t : List ℕ). Appends b c (take n t)) rest q))
+
+pub room_left : (old new post : List ℕ) (at n : ℕ) → at ≤ length old → n ≤ length new → at + n ≤ length (take at old ++ (new ++ post))
+room_left old new post at n h k = omega (arith, length-append (take at old) (new ++ post), length-append new post, length-take at old)
+
+-- what stands at the front
+pub take-at_front : (n : ℕ) (xs ys rest : List ℕ) → n ≡ length ys → xs ≡ ys → take n (xs ++ rest) ≡ ys
+take-at_front n xs ys rest e f = (λ i. take (e i) (f i ++ rest)) ∙ take-append_seam ys rest
+
+pub ruleset fronts = (take-at_front)
+
+-- ---- for callers that write one text after another
+
+-- a beginning of a text is one of a longer text
+pub begun_append : (a b : Option (List ℕ)) (text rest : List ℕ) → AppendsBeginning a b text → AppendsBeginning a b (text ++ rest)
+begun_append a b text rest h =
+    let n = min h.0 (length text) in
+    let e : take n (text ++ rest) ≡ take h.0 text = take-append-le n text rest (omega arith) ∙ take_min h.0 text in
+    (n, subst (Appends a b) (sym e) h.1)
+
+-- all of a text, and a beginning of the next
+pub begun_after : (a b c : Option (List ℕ)) (text next : List ℕ) → Appends a b text → AppendsBeginning b c next → AppendsBeginning a c (text ++ next)
+begun_after a b c text next p h =
+    (length text + h.0, subst (Appends a c) (sym (take-append-add text next h.0)) (Appends-trans a b c text (take h.0 next) p h.1))

@@ -1,0 +1,44 @@
+//! A known number of bytes in, and all of some bytes out. After a fault no call is made again.
+
+ghost use Rattle.std.specs.Prelude.{◌≡◌, length, IsTrue, OnOk, OnErr};
+ghost use Rattle.std.specs.Io.KnownBytes.{Appends, Consumes};
+ghost use Rattle.arbitrary_base.specs.Watching.{inner_of, has_failed};
+ghost use Rattle.arbitrary_base.specs.Stream.{AppendsBeginning, FailedOrShort};
+
+use crate::watched::Watched;
+use std::io;
+use std::io::{ErrorKind, Read, Write};
+
+/// Fills `buf`, by at most as many calls as it has bytes. An input that ends before is `UnexpectedEof`.
+pub fn read_full<R: Read>(reader: &mut Watched<R>, buf: &mut [u8]) -> io::Result<()>
+    ensures all { OnOk result (Consumes (R.remaining (inner_of reader.old)) (R.remaining (inner_of reader.new)) buf.new) }
+    ensures why { OnErr result (FailedOrShort (R.remaining (inner_of reader.old)) (has_failed reader.new) (length buf.old)) }
+{
+    let mut at = 0;
+    while at < buf.len() {
+        let count = reader.read(&mut buf[at..])?;
+        if count == 0 {
+            return Err(io::Error::from(ErrorKind::UnexpectedEof));
+        }
+        at += count;
+    }
+    Ok(())
+}
+
+/// Writes all of the bytes, by at most as many calls as there are bytes. A writer that takes nothing is
+/// `WriteZero`.
+pub fn write_full<W: Write>(writer: &mut Watched<W>, bytes: &[u8]) -> io::Result<()>
+    ensures all { OnOk result (Appends (W.contents (inner_of writer.old)) (W.contents (inner_of writer.new)) bytes.now) }
+    ensures begun { OnErr result (AppendsBeginning (W.contents (inner_of writer.old)) (W.contents (inner_of writer.new)) bytes.now) }
+    ensures failed { OnErr result (IsTrue (has_failed writer.new)) }
+{
+    let mut at = 0;
+    while at < bytes.len() {
+        let count = writer.write(&bytes[at..])?;
+        if count == 0 {
+            return Err(io::Error::from(ErrorKind::WriteZero));
+        }
+        at += count;
+    }
+    Ok(())
+}

@@ -1,0 +1,121 @@
+-- Steps within a range, and numbers in a row.
+use Rattle.std.specs.Prelude.{◌≡◌, ℕ, zero, suc, ℤ, pos, negsuc, ◌+ℤ◌, ◌-ℤ◌, ◌≤ℤ◌, ◌<ℤ◌, ◌+◌, ◌*◌, ◌-◌, ◌^◌, ◌<◌, ◌≤◌, Bool, true, false, List, [], ◌∷◌, ◌++◌}
+use Rattle.std.proofs.Common.{refl, ap, sym, subst, ◌∙◌, arith, lit≤}
+use Rattle.std.proofs.lemmas.Int.{ints}
+use Rattle.std.proofs.lemmas.Nat.{pow_pos}
+use Rattle.arbitrary_base.specs.Range.{lo, hi, InRange}
+use Rattle.arbitrary_base.specs.Residue.{Congruent, wrap}
+use Rattle.arbitrary_base.proofs.Congruence.{Congruent-add, Congruent-refl, Congruent-sym, Congruent-trans, Congruent-from_apart, Apart-from_congruent, span, pow_le}
+use Rattle.arbitrary_base.proofs.Wrap.{wrap-congruent, wrap-same, wrap-of_in_range}
+use Rattle.arbitrary_int.specs.Row.{row, natural, numbers, left}
+
+Congruent-sub : (B : ℕ) (x x' y y' : ℤ) → Congruent B x x' → Congruent B y y' → Congruent B (x -ℤ y) (x' -ℤ y')
+Congruent-sub B x x' y y' c d =
+    let a = Apart-from_congruent B x x' c in
+    let b = Apart-from_congruent B y y' d in
+    let e = a.2 in
+    let f = b.2 in
+    Congruent-from_apart B (x -ℤ y) (x' -ℤ y') (a.0 + b.1, a.1 + b.0, omega (arith, ints))
+
+-- a wrapped sum or difference with what is left of a number
+pub moved_up : (s : Bool) (B : ℕ) (x y m z : ℤ) → 1 ≤ B → InRange s B (x +ℤ y) → m ≡ wrap s B y → z ≡ wrap s B (x +ℤ m) → z ≡ x +ℤ y
+moved_up s B x y m z h i e f =
+    let c : Congruent B (x +ℤ m) (x +ℤ y) = Congruent-add B x x m y (Congruent-refl B x) (subst (λ (k : ℤ). Congruent B k y) (sym e) (wrap-congruent s B y)) in
+    f ∙ wrap-same s B (x +ℤ m) (x +ℤ y) h c ∙ wrap-of_in_range s B (x +ℤ y) h i
+
+pub moved_down : (s : Bool) (B : ℕ) (x y m z : ℤ) → 1 ≤ B → InRange s B (x -ℤ y) → m ≡ wrap s B y → z ≡ wrap s B (x -ℤ m) → z ≡ x -ℤ y
+moved_down s B x y m z h i e f =
+    let c : Congruent B (x -ℤ m) (x -ℤ y) = Congruent-sub B x x m y (Congruent-refl B x) (subst (λ (k : ℤ). Congruent B k y) (sym e) (wrap-congruent s B y)) in
+    f ∙ wrap-same s B (x -ℤ m) (x -ℤ y) h c ∙ wrap-of_in_range s B (x -ℤ y) h i
+
+pub ruleset moves = (moved_up, moved_down)
+
+pub apart_by : (s : Bool) (B : ℕ) (x y p q r : ℤ) → 1 ≤ B → B ≤ 128 → InRange s B x → InRange s B y → x ≤ℤ y → p ≡ wrap false 128 y → q ≡ wrap false 128 x → r ≡ wrap false 128 (p -ℤ q) → r ≡ y -ℤ x
+apart_by s B x y p q r h k f g le e d w =
+    let c : Congruent 128 (p -ℤ q) (y -ℤ x) = Congruent-sub 128 p y q x (subst (λ (m : ℤ). Congruent 128 m y) (sym e) (wrap-congruent false 128 y)) (subst (λ (m : ℤ). Congruent 128 m x) (sym d) (wrap-congruent false 128 x)) in
+    let wide = span s B h in
+    let most = pow_le B 128 k in
+    let low = f.low in
+    let high = g.high in
+    let i : InRange false 128 (y -ℤ x) = record { low = omega (arith, ints); high = omega (arith, ints) } in
+    w ∙ wrap-same false 128 (p -ℤ q) (y -ℤ x) (lit≤ tt) c ∙ wrap-of_in_range false 128 (y -ℤ x) (lit≤ tt) i
+
+pub ruleset distances = (apart_by)
+
+-- ---- rows
+
+row-last : (x : ℤ) (n : ℕ) → row x (suc n) ≡ row x n ++ (x +ℤ pos n) ∷ []
+row-last x zero = let e : x ≡ x +ℤ pos 0 = omega (arith, ints) in ap (λ (w : ℤ). w ∷ []) e
+row-last x (suc n) =
+    let e : x +ℤ pos 1 +ℤ pos n ≡ x +ℤ pos (suc n) = omega (arith, ints) in
+    ap (λ (ys : List ℤ). x ∷ ys) (row-last (x +ℤ pos 1) n ∙ ap (λ (w : ℤ). row (x +ℤ pos 1) n ++ w ∷ []) e)
+
+count-suc : (z : ℤ) → pos 0 ≤ℤ z → natural (z +ℤ pos 1) ≡ suc (natural z)
+count-suc (pos n) h = omega (arith, ints)
+count-suc (negsuc n) h = absurd (omega (arith, ints))
+
+count-none : (z : ℤ) → z ≤ℤ pos 0 → natural z ≡ 0
+count-none (pos n) h = omega (arith, ints)
+count-none (negsuc n) h = refl
+
+-- none where the first is greater
+pub numbers-none : (a b : ℤ) → b <ℤ a → numbers a b ≡ []
+numbers-none a b h = ap (row a) (count-none (b +ℤ pos 1 -ℤ a) (omega (arith, ints)))
+
+counted : (a b : ℤ) → a ≤ℤ b → natural (b +ℤ pos 1 -ℤ a) ≡ suc (natural (b -ℤ a))
+counted a b h = let e : b +ℤ pos 1 -ℤ a ≡ b -ℤ a +ℤ pos 1 = omega (arith, ints) in ap natural e ∙ count-suc (b -ℤ a) (omega (arith, ints))
+
+-- the first, and those after it
+pub numbers-first : (a b c : ℤ) → a ≤ℤ b → c ≡ a +ℤ pos 1 → numbers a b ≡ a ∷ numbers c b
+numbers-first a b c h e =
+    let f : b -ℤ a ≡ b +ℤ pos 1 -ℤ c = omega (arith, ints) in
+    ap (row a) (counted a b h) ∙ (λ i. a ∷ row (sym e i) (natural (f i)))
+
+natural-pos : (z : ℤ) → pos 0 ≤ℤ z → pos (natural z) ≡ z
+natural-pos (pos n) h = refl
+natural-pos (negsuc n) h = absurd (omega (arith, ints))
+
+-- the last, and those before it
+pub numbers-last : (a b c : ℤ) → a ≤ℤ b → c ≡ b -ℤ pos 1 → numbers a b ≡ numbers a c ++ b ∷ []
+numbers-last a b c h e =
+    let f : b -ℤ a ≡ c +ℤ pos 1 -ℤ a = omega (arith, ints) in
+    let g = natural-pos (b -ℤ a) (omega (arith, ints)) in
+    let k : a +ℤ pos (natural (b -ℤ a)) ≡ b = omega (arith, ints) in
+    ap (row a) (counted a b h) ∙ row-last a (natural (b -ℤ a)) ∙ (λ i. row a (natural (f i)) ++ k i ∷ [])
+
+-- one number alone
+pub numbers-one : (a b : ℤ) → a ≡ b → numbers a b ≡ a ∷ []
+numbers-one a b e = numbers-first a b (a +ℤ pos 1) (omega (arith, ints)) refl ∙ ap (λ (l : List ℤ). a ∷ l) (numbers-none (a +ℤ pos 1) b (omega (arith, ints)))
+
+pub numbers-one_back : (a b : ℤ) → a ≡ b → numbers a b ≡ b ∷ []
+numbers-one_back a b e = numbers-one a b e ∙ ap (λ (z : ℤ). z ∷ []) e
+
+pub in_up : (s : Bool) (B : ℕ) (a b : ℤ) → InRange s B a → InRange s B b → a <ℤ b → InRange s B (a +ℤ pos 1)
+in_up s B a b f g h = record { low = let e = f.low in omega (arith, ints); high = let e = g.high in omega (arith, ints) }
+
+pub in_down : (s : Bool) (B : ℕ) (a b : ℤ) → InRange s B a → InRange s B b → a <ℤ b → InRange s B (b -ℤ pos 1)
+in_down s B a b f g h = record { low = let e = f.low in omega (arith, ints); high = let e = g.high in omega (arith, ints) }
+
+pub ruleset ends = (in_up)
+
+-- ---- what a call of a range's `next` or `next_back` leaves
+
+pub left-first : (d : Bool) (a b c : ℤ) → d ≡ false → a <ℤ b → c ≡ a +ℤ pos 1 → left d a b ≡ a ∷ left d c b
+left-first true a b c e h f = absurd (cc)
+left-first false a b c e h f = numbers-first a b c (omega (arith, ints)) f
+
+pub left-last : (d : Bool) (a b c : ℤ) → d ≡ false → a <ℤ b → c ≡ b -ℤ pos 1 → left d a b ≡ left d a c ++ b ∷ []
+left-last true a b c e h f = absurd (cc)
+left-last false a b c e h f = numbers-last a b c (omega (arith, ints)) f
+
+pub left-one : (d : Bool) (a b : ℤ) → d ≡ false → a ≡ b → left d a b ≡ a ∷ left true a b
+left-one true a b e h = absurd (cc)
+left-one false a b e h = numbers-one a b h
+
+pub left-one_back : (d : Bool) (a b : ℤ) → d ≡ false → a ≡ b → left d a b ≡ left true a b ++ b ∷ []
+left-one_back true a b e h = absurd (cc)
+left-one_back false a b e h = numbers-one_back a b h
+
+pub left-none : (d : Bool) (a b : ℤ) → b <ℤ a → left d a b ≡ []
+left-none true a b h = refl
+left-none false a b h = numbers-none a b h

@@ -1,0 +1,17 @@
+-- Sums and products of what an iterator gives.
+use Rattle.std.specs.Prelude.{◌≡◌, ℕ, ℤ, Bool, List, map, Option, MatchOption}
+use Rattle.std.specs.Iterator.Runs.{SomeRun, WholeRun}
+use Rattle.std.specs.List.{fold}
+use Rattle.arbitrary_base.specs.Totals.{AllInRange, partials}
+
+module _ (s : Bool) (B : ℕ) (op : ℤ → ℤ → ℤ) (first : ℤ) where
+  -- the first number and what each item leaves are in range
+  abbrev pub PartialsFit : List ℤ → Type 0
+  PartialsFit l = AllInRange s B (partials op first l)
+
+  module _ {I V : Type 0} (next : I → Option V → I → Type 0) (number : V → ℤ) where
+    -- what all items leave, where all partial results fit, and `None` where those of some first items do not
+    abbrev pub TotalOrNone : I → Option V → Type 0
+    TotalOrNone i r = MatchOption r
+        (SomeRun next i (λ p. ¬ (PartialsFit (map number p.items))))
+        (λ t. WholeRun next i (λ p. PartialsFit (map number p.items) × (number t ≡ fold op first (map number p.items))))

@@ -1,0 +1,120 @@
+//! Values in a stream, in the Borsh form.
+
+ghost use Rattle.std.specs.Prelude.{◌≡◌, ◌≤◌, ℕ, List, length, take, drop, IsTrue, IfOk, OnOk, OnErr, MatchOption};
+ghost use Rattle.std.specs.Io.KnownBytes.{Appends, Consumes};
+ghost use Rattle.arbitrary_base.specs.Watching.{inner_of, has_failed};
+ghost use Rattle.arbitrary_base.specs.Bytes.{BorshBytes, Canonical, byte_count};
+ghost use Rattle.arbitrary_base.specs.Stream.{AppendsBeginning};
+ghost use Rattle.arbitrary_int.specs.Reading.{Unreadable};
+
+use arbitrary_base::byte_lists::{all_bytes, pattern_of};
+use arbitrary_base::narrowing::{cut, low_bits};
+use arbitrary_base::streams::{read_full, write_full};
+use arbitrary_base::watched::Watched;
+use arbitrary_calls::fixed_width::FixedWidth;
+use std::io;
+use std::io::{ErrorKind, Read, Write};
+
+/// What can be written to a stream. `UInt` and `Int` can, at every width: their bytes are the residue modulo
+/// `2 ^ BITS`, the lowest byte first, in `(BITS + 7) / 8` bytes.
+pub trait BorshSerialize {
+    // The bytes of a value.
+    ghost bytes_of: { Self → List ℕ };
+
+    /// Writes the bytes of the value, and nothing else. An error is the writer's own, or `WriteZero` where it
+    /// takes nothing; a beginning of the bytes was written then. No call is made after a failed one.
+    fn serialize<W: Write>(&self, writer: &mut Watched<W>) -> io::Result<()>
+        ensures all { OnOk result (Appends (W.contents (inner_of writer.old)) (W.contents (inner_of writer.new)) (bytes_of self.now)) }
+        ensures begun { OnErr result (AppendsBeginning (W.contents (inner_of writer.old)) (W.contents (inner_of writer.new)) (bytes_of self.now)) }
+        ensures failed { OnErr result (IsTrue (has_failed writer.new)) };
+
+    /// Puts the bytes of the value at the front of `out`, and tells how many they are. The rest of `out` stays
+    /// as it was.
+    fn to_borsh_bytes(&self, out: &mut [u8; 16]) -> usize
+        ensures count { result ≡ length (bytes_of self.now) }
+        ensures bytes { take result out.new ≡ bytes_of self.now }
+        ensures rest { drop result out.new ≡ drop result out.old };
+}
+
+/// What can be read from a stream. `UInt` and `Int` can, at every valid width: a list of bytes is canonical where
+/// it has `(BITS + 7) / 8` bytes and spells a number below `2 ^ BITS`.
+pub trait BorshDeserialize: Sized {
+    // Whether the type has values at all.
+    ghost readable: { Type 0 };
+
+    // How many bytes each value has, which lists of bytes are those of a value, and of which.
+    ghost count: { ℕ };
+
+    ghost canonical: { List ℕ → Type 0 };
+
+    ghost read_bytes: { Self → List ℕ };
+
+    /// Reads exactly the bytes of one value, and never asks for a further one. An error is the reader's own,
+    /// `UnexpectedEof` where the input ends before, or `InvalidData` where the bytes are not canonical. No call
+    /// is made after a failed one. The width is valid.
+    fn deserialize_reader<R: Read>(reader: &mut Watched<R>) -> io::Result<Self>
+        requires { readable }
+        ensures taken { IfOk result (λ x. Consumes (R.remaining (inner_of reader.old)) (R.remaining (inner_of reader.new)) (read_bytes x)) }
+        ensures canonical { IfOk result (λ x. canonical (read_bytes x)) }
+        ensures why { OnErr result (Unreadable canonical (R.remaining (inner_of reader.old)) (has_failed reader.new) count) };
+
+    /// The value that has these bytes, and `None` exactly where they are not canonical. The width is valid.
+    fn from_borsh_bytes(bytes: &[u8]) -> Option<Self>
+        requires { readable }
+        ensures { MatchOption result (¬ (canonical bytes.now)) (λ x. canonical bytes.now × (read_bytes x ≡ bytes.now)) };
+}
+
+/// The bytes of the value, at the front of as many as any value has, and how many they are.
+fn written<V: FixedWidth>(value: V) -> ([u8; 16], usize)
+    ensures count { result.1 ≡ length (BorshBytes V.BITS (V.number value)) }
+    ensures fits { result.1 ≤ 16 }
+    ensures bytes { take result.1 result.0 ≡ BorshBytes V.BITS (V.number value) }
+{
+    let all = all_bytes(low_bits(value.kept(), V::BITS));
+    (all, (V::BITS + 7) / 8)
+}
+
+impl<V: FixedWidth> BorshSerialize for V {
+    ghost bytes_of = { λ x. BorshBytes V.BITS (V.number x) };
+
+    fn serialize<W: Write>(&self, writer: &mut Watched<W>) -> io::Result<()> {
+        let (all, count) = written(*self);
+        write_full(writer, &all[..count])
+    }
+
+    #[tactic(auto, using(arbitrary_base::proofs::StreamSteps::fronts))]
+    fn to_borsh_bytes(&self, out: &mut [u8; 16]) -> usize {
+        let (all, count) = written(*self);
+        out[..count].copy_from_slice(&all[..count]);
+        count
+    }
+}
+
+impl<V: FixedWidth> BorshDeserialize for V {
+    ghost readable = { V.valid };
+
+    ghost count = { byte_count V.BITS };
+
+    ghost canonical = { Canonical V.BITS };
+
+    ghost read_bytes = { λ x. BorshBytes V.BITS (V.number x) };
+
+    fn deserialize_reader<R: Read>(reader: &mut Watched<R>) -> io::Result<V> {
+        let mut all = [0; 16];
+        let bytes = &mut all[..(V::BITS + 7) / 8];
+        read_full(reader, bytes)?;
+        V::from_borsh_bytes(bytes).ok_or(io::Error::from(ErrorKind::InvalidData))
+    }
+
+    fn from_borsh_bytes(bytes: &[u8]) -> Option<V> {
+        if bytes.len() != (V::BITS + 7) / 8 {
+            return None;
+        }
+        let pattern = pattern_of(bytes);
+        if cut(pattern, V::BITS) == pattern {
+            Some(V::from_extended(pattern))
+        } else {
+            None
+        }
+    }
+}

@@ -1,0 +1,59 @@
+//! Laws of the calls on bytes, each as a function that makes the calls and ensures what the law says.
+//! That a number is in range is told by `extended`.
+
+ghost use Rattle.std.specs.Prelude.{◌≡◌, ◌↔◌, IsTrue, MatchOption};
+
+use crate::borsh::{BorshDeserialize, BorshSerialize};
+use crate::byte_orders::ByteOrders;
+use arbitrary_calls::fixed_width::FixedWidth;
+
+/// Bytes that are reversed twice are those of the value again.
+pub fn swapped_twice<V: ByteOrders<N>, const N: usize>(value: V) -> V
+    ensures { V.number result ≡ V.number value }
+{
+    let _known = value.extended();
+    let twice = value.swap_bytes().swap_bytes();
+    let _twice = twice.extended();
+    twice
+}
+
+/// A value is read back from its little-endian bytes.
+pub fn through_le_bytes<V: ByteOrders<N>, const N: usize>(value: V) -> V
+    ensures { V.number result ≡ V.number value }
+{
+    let _known = value.extended();
+    V::from_le_bytes(value.to_le_bytes())
+}
+
+/// A value is read back from its big-endian bytes.
+pub fn through_be_bytes<V: ByteOrders<N>, const N: usize>(value: V) -> V
+    ensures { V.number result ≡ V.number value }
+{
+    let _known = value.extended();
+    V::from_be_bytes(value.to_be_bytes())
+}
+
+/// The bytes that a value has in a stream are canonical, and the value is read back from them.
+pub fn through_borsh_bytes<V: FixedWidth>(value: V) -> Option<V>
+    ensures { MatchOption result ⊥ (λ x. V.number x ≡ V.number value) }
+{
+    let _known = value.extended();
+    let mut bytes = [0; 16];
+    let count = value.to_borsh_bytes(&mut bytes);
+    let read = V::from_borsh_bytes(&bytes[..count])?;
+    let _read = read.extended();
+    Some(read)
+}
+
+/// No two numbers share the bytes that they have in a stream.
+pub fn share_borsh_bytes<V: FixedWidth>(x: V, y: V) -> bool
+    ensures { IsTrue result ↔ (V.number x ≡ V.number y) }
+{
+    let _x = x.extended();
+    let _y = y.extended();
+    let mut first = [0; 16];
+    let mut second = [0; 16];
+    let first_count = x.to_borsh_bytes(&mut first);
+    let second_count = y.to_borsh_bytes(&mut second);
+    first[..first_count] == second[..second_count]
+}

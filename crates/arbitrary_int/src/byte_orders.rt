@@ -1,0 +1,311 @@
+//! Integers of whole bytes, and their bytes.
+
+ghost use Rattle.std.specs.Prelude.{◌≡◌, ◌*◌, ℤ, pos, false, refl, reverse};
+ghost use Rattle.std.proofs.Common.{lit≤};
+ghost use Rattle.arbitrary_base.specs.Range.{InRange};
+ghost use Rattle.arbitrary_base.specs.Residue.{wrap};
+ghost use Rattle.arbitrary_base.specs.Bytes.{bytes, bytes_number};
+
+use arbitrary_base::byte_lists::{all_bytes, pattern_of};
+use arbitrary_calls::fixed_width::FixedWidth;
+use arbitrary_core::signed::Int;
+use arbitrary_core::unsigned::UInt;
+
+/// An integer of `N` whole bytes: `BITS` is `8 * N`, and the storage has more bits than that.
+///
+/// The bytes are those of two's complement in `BITS` bits. In the contracts `bytes N` of a number lists them,
+/// the lowest first: the little-endian order. The big-endian order is the same list reversed. The machine's own
+/// order is little-endian. Nothing is refused: each list of `N` bytes is that of one value.
+pub trait ByteOrders<const N: usize>: FixedWidth {
+    ghost width_law: { Self.BITS ≡ 8 * N };
+
+    ghost valid_law: { Self.valid };
+
+    /// The bytes, the lowest first. Where the type has no sign, they spell the number.
+    final fn to_le_bytes(self) -> [u8; N]
+        ensures bytes { result ≡ bytes N (Self.number self) }
+        ensures unsigned { Self.IS_SIGNED ≡ false → pos (bytes_number result) ≡ Self.number self }
+    {
+        let all = all_bytes(self.extended());
+        let mut list = [0; N];
+        list.copy_from_slice(&all[..N]);
+        list
+    }
+
+    /// The bytes, the highest first. Where the type has no sign, they spell the number.
+    final fn to_be_bytes(self) -> [u8; N]
+        ensures bytes { result ≡ reverse (bytes N (Self.number self)) }
+        ensures unsigned { Self.IS_SIGNED ≡ false → pos (bytes_number (reverse result)) ≡ Self.number self }
+    {
+        let mut list = self.to_le_bytes();
+        list.reverse();
+        list
+    }
+
+    /// The bytes as the machine keeps them: `to_le_bytes`.
+    final fn to_ne_bytes(self) -> [u8; N]
+        ensures bytes { result ≡ bytes N (Self.number self) }
+        ensures unsigned { Self.IS_SIGNED ≡ false → pos (bytes_number result) ≡ Self.number self }
+    {
+        self.to_le_bytes()
+    }
+
+    /// The value that has these bytes, the lowest first.
+    final fn from_le_bytes(list: [u8; N]) -> Self
+        ensures bytes { bytes N (Self.number result) ≡ list.entry }
+        ensures number { Self.number result ≡ wrap Self.IS_SIGNED Self.BITS (pos (bytes_number list.entry)) }
+        ensures unsigned { Self.IS_SIGNED ≡ false → Self.number result ≡ pos (bytes_number list.entry) }
+        ensures only { (x : ℤ) → InRange Self.IS_SIGNED Self.BITS x → bytes N x ≡ list.entry → Self.number result ≡ x }
+    {
+        Self::from_extended(pattern_of(&list))
+    }
+
+    /// The value that has these bytes, the highest first.
+    final fn from_be_bytes(list: [u8; N]) -> Self
+        ensures bytes { reverse (bytes N (Self.number result)) ≡ list.entry }
+        ensures number { Self.number result ≡ wrap Self.IS_SIGNED Self.BITS (pos (bytes_number (reverse list.entry))) }
+        ensures unsigned { Self.IS_SIGNED ≡ false → Self.number result ≡ pos (bytes_number (reverse list.entry)) }
+        ensures only { (x : ℤ) → InRange Self.IS_SIGNED Self.BITS x → reverse (bytes N x) ≡ list.entry → Self.number result ≡ x }
+    {
+        let mut turned = list;
+        turned.reverse();
+        Self::from_le_bytes(turned)
+    }
+
+    /// The value that has these bytes as the machine keeps them: `from_le_bytes`.
+    final fn from_ne_bytes(list: [u8; N]) -> Self
+        ensures bytes { bytes N (Self.number result) ≡ list.entry }
+        ensures number { Self.number result ≡ wrap Self.IS_SIGNED Self.BITS (pos (bytes_number list.entry)) }
+        ensures unsigned { Self.IS_SIGNED ≡ false → Self.number result ≡ pos (bytes_number list.entry) }
+        ensures only { (x : ℤ) → InRange Self.IS_SIGNED Self.BITS x → bytes N x ≡ list.entry → Self.number result ≡ x }
+    {
+        Self::from_le_bytes(list)
+    }
+
+    /// The value that has the same bytes in the other order.
+    final fn swap_bytes(self) -> Self
+        ensures { bytes N (Self.number result) ≡ reverse (bytes N (Self.number self)) }
+    {
+        Self::from_be_bytes(self.to_le_bytes())
+    }
+
+    /// The value itself, as the machine is little-endian.
+    final fn to_le(self) -> Self
+        ensures { result ≡ self }
+    {
+        self
+    }
+
+    /// `swap_bytes`, as the machine is little-endian.
+    final fn to_be(self) -> Self
+        ensures { bytes N (Self.number result) ≡ reverse (bytes N (Self.number self)) }
+    {
+        self.swap_bytes()
+    }
+
+    /// The value itself, as the machine is little-endian.
+    final fn from_le(value: Self) -> Self
+        ensures { result ≡ value }
+    {
+        value
+    }
+
+    /// `swap_bytes`, as the machine is little-endian.
+    final fn from_be(value: Self) -> Self
+        ensures { bytes N (Self.number result) ≡ reverse (bytes N (Self.number value)) }
+    {
+        value.swap_bytes()
+    }
+}
+
+impl ByteOrders<3> for UInt<u32, 24> {
+    ghost width_law = { refl };
+
+    ghost valid_law = { (lit≤ tt, lit≤ tt) };
+}
+
+impl ByteOrders<3> for Int<i32, 24> {
+    ghost width_law = { refl };
+
+    ghost valid_law = { (lit≤ tt, lit≤ tt) };
+}
+
+impl ByteOrders<3> for UInt<u64, 24> {
+    ghost width_law = { refl };
+
+    ghost valid_law = { (lit≤ tt, lit≤ tt) };
+}
+
+impl ByteOrders<3> for Int<i64, 24> {
+    ghost width_law = { refl };
+
+    ghost valid_law = { (lit≤ tt, lit≤ tt) };
+}
+
+impl ByteOrders<3> for UInt<u128, 24> {
+    ghost width_law = { refl };
+
+    ghost valid_law = { (lit≤ tt, lit≤ tt) };
+}
+
+impl ByteOrders<3> for Int<i128, 24> {
+    ghost width_law = { refl };
+
+    ghost valid_law = { (lit≤ tt, lit≤ tt) };
+}
+
+impl ByteOrders<5> for UInt<u64, 40> {
+    ghost width_law = { refl };
+
+    ghost valid_law = { (lit≤ tt, lit≤ tt) };
+}
+
+impl ByteOrders<5> for Int<i64, 40> {
+    ghost width_law = { refl };
+
+    ghost valid_law = { (lit≤ tt, lit≤ tt) };
+}
+
+impl ByteOrders<5> for UInt<u128, 40> {
+    ghost width_law = { refl };
+
+    ghost valid_law = { (lit≤ tt, lit≤ tt) };
+}
+
+impl ByteOrders<5> for Int<i128, 40> {
+    ghost width_law = { refl };
+
+    ghost valid_law = { (lit≤ tt, lit≤ tt) };
+}
+
+impl ByteOrders<6> for UInt<u64, 48> {
+    ghost width_law = { refl };
+
+    ghost valid_law = { (lit≤ tt, lit≤ tt) };
+}
+
+impl ByteOrders<6> for Int<i64, 48> {
+    ghost width_law = { refl };
+
+    ghost valid_law = { (lit≤ tt, lit≤ tt) };
+}
+
+impl ByteOrders<6> for UInt<u128, 48> {
+    ghost width_law = { refl };
+
+    ghost valid_law = { (lit≤ tt, lit≤ tt) };
+}
+
+impl ByteOrders<6> for Int<i128, 48> {
+    ghost width_law = { refl };
+
+    ghost valid_law = { (lit≤ tt, lit≤ tt) };
+}
+
+impl ByteOrders<7> for UInt<u64, 56> {
+    ghost width_law = { refl };
+
+    ghost valid_law = { (lit≤ tt, lit≤ tt) };
+}
+
+impl ByteOrders<7> for Int<i64, 56> {
+    ghost width_law = { refl };
+
+    ghost valid_law = { (lit≤ tt, lit≤ tt) };
+}
+
+impl ByteOrders<7> for UInt<u128, 56> {
+    ghost width_law = { refl };
+
+    ghost valid_law = { (lit≤ tt, lit≤ tt) };
+}
+
+impl ByteOrders<7> for Int<i128, 56> {
+    ghost width_law = { refl };
+
+    ghost valid_law = { (lit≤ tt, lit≤ tt) };
+}
+
+impl ByteOrders<9> for UInt<u128, 72> {
+    ghost width_law = { refl };
+
+    ghost valid_law = { (lit≤ tt, lit≤ tt) };
+}
+
+impl ByteOrders<9> for Int<i128, 72> {
+    ghost width_law = { refl };
+
+    ghost valid_law = { (lit≤ tt, lit≤ tt) };
+}
+
+impl ByteOrders<10> for UInt<u128, 80> {
+    ghost width_law = { refl };
+
+    ghost valid_law = { (lit≤ tt, lit≤ tt) };
+}
+
+impl ByteOrders<10> for Int<i128, 80> {
+    ghost width_law = { refl };
+
+    ghost valid_law = { (lit≤ tt, lit≤ tt) };
+}
+
+impl ByteOrders<11> for UInt<u128, 88> {
+    ghost width_law = { refl };
+
+    ghost valid_law = { (lit≤ tt, lit≤ tt) };
+}
+
+impl ByteOrders<11> for Int<i128, 88> {
+    ghost width_law = { refl };
+
+    ghost valid_law = { (lit≤ tt, lit≤ tt) };
+}
+
+impl ByteOrders<12> for UInt<u128, 96> {
+    ghost width_law = { refl };
+
+    ghost valid_law = { (lit≤ tt, lit≤ tt) };
+}
+
+impl ByteOrders<12> for Int<i128, 96> {
+    ghost width_law = { refl };
+
+    ghost valid_law = { (lit≤ tt, lit≤ tt) };
+}
+
+impl ByteOrders<13> for UInt<u128, 104> {
+    ghost width_law = { refl };
+
+    ghost valid_law = { (lit≤ tt, lit≤ tt) };
+}
+
+impl ByteOrders<13> for Int<i128, 104> {
+    ghost width_law = { refl };
+
+    ghost valid_law = { (lit≤ tt, lit≤ tt) };
+}
+
+impl ByteOrders<14> for UInt<u128, 112> {
+    ghost width_law = { refl };
+
+    ghost valid_law = { (lit≤ tt, lit≤ tt) };
+}
+
+impl ByteOrders<14> for Int<i128, 112> {
+    ghost width_law = { refl };
+
+    ghost valid_law = { (lit≤ tt, lit≤ tt) };
+}
+
+impl ByteOrders<15> for UInt<u128, 120> {
+    ghost width_law = { refl };
+
+    ghost valid_law = { (lit≤ tt, lit≤ tt) };
+}
+
+impl ByteOrders<15> for Int<i128, 120> {
+    ghost width_law = { refl };
+
+    ghost valid_law = { (lit≤ tt, lit≤ tt) };
+}

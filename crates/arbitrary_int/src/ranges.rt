@@ -1,0 +1,82 @@
+//! The values from one to another.
+
+ghost use Rattle.std.specs.Prelude.{◌≡◌, ⊤, length};
+ghost use Rattle.std.specs.Iterator.{YieldsFirstBy, YieldsLastBy, at_most};
+ghost use Rattle.arbitrary_int.specs.Row.{left, numbers};
+
+use crate::stepping::{after, before};
+use arbitrary_calls::fixed_width::FixedWidth;
+use std::cmp::Ordering;
+
+/// The values that are left, each in turn.
+#[derive(Drop)]
+pub struct ValueRange<V: FixedWidth> {
+    start: V,
+    end: V,
+    done: bool,
+}
+
+/// The values from `start` to `end`, none where `start` is greater.
+pub fn range_inclusive<V: FixedWidth>(start: V, end: V) -> ValueRange<V>
+    ensures { left result.done (V.number result.start) (V.number result.end) ≡ numbers (V.number start) (V.number end) }
+{
+    ValueRange {
+        start,
+        end,
+        done: false,
+    }
+}
+
+impl<V: FixedWidth> Iterator for ValueRange<V> {
+    type Item = V;
+
+    ghost can_next = { λ _. ⊤ };
+
+    ghost next_gives = { YieldsFirstBy V.number (λ r. left r.done (V.number r.start) (V.number r.end)) };
+
+    ghost remaining = { λ r. at_most (length (left r.done (V.number r.start) (V.number r.end))) };
+
+    #[tactic(auto, using(crate::proofs::RangeSteps::first_steps))]
+    fn next(&mut self) -> Option<V> {
+        if self.done {
+            return None;
+        }
+        let item = self.start;
+        match item.cmp(&self.end) {
+            Ordering::Less => {
+                self.start = after(item, self.end);
+                Some(item)
+            }
+            Ordering::Equal => {
+                self.done = true;
+                Some(item)
+            }
+            Ordering::Greater => None,
+        }
+    }
+}
+
+impl<V: FixedWidth> DoubleEndedIterator for ValueRange<V> {
+    ghost can_next_back = { λ _. ⊤ };
+
+    ghost next_back_gives = { YieldsLastBy V.number (λ r. left r.done (V.number r.start) (V.number r.end)) };
+
+    #[tactic(auto, using(crate::proofs::RangeSteps::last_steps))]
+    fn next_back(&mut self) -> Option<V> {
+        if self.done {
+            return None;
+        }
+        let item = self.end;
+        match self.start.cmp(&item) {
+            Ordering::Less => {
+                self.end = before(item, self.start);
+                Some(item)
+            }
+            Ordering::Equal => {
+                self.done = true;
+                Some(item)
+            }
+            Ordering::Greater => None,
+        }
+    }
+}

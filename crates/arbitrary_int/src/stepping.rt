@@ -1,0 +1,109 @@
+//! Steps from one value to another.
+
+ghost use Rattle.std.specs.Prelude.{◌≡◌, ◌+ℤ◌, ◌-ℤ◌, ◌≤ℤ◌, ◌<ℤ◌, pos};
+ghost use Rattle.arbitrary_base.specs.Range.{InRange};
+ghost use Rattle.arbitrary_base.specs.Exact.{ExactOrNone};
+ghost use Rattle.arbitrary_int.specs.Row.{StepsBetween};
+
+use arbitrary_base::storage::Storage;
+use arbitrary_calls::fixed_width::FixedWidth;
+
+/// The next value. The limit shows that there is one.
+#[tactic(auto, using(crate::proofs::Rows::in_up))]
+pub(crate) fn after<V: FixedWidth>(x: V, limit: V) -> V
+    requires { V.number x <ℤ V.number limit }
+    ensures { V.number result ≡ V.number x +ℤ pos 1 }
+{
+    let _known = x.extended();
+    let _limit = limit.extended();
+    forward(x, 1)
+}
+
+/// The value before. The limit shows that there is one.
+#[tactic(auto, using(crate::proofs::Rows::in_down))]
+pub(crate) fn before<V: FixedWidth>(x: V, limit: V) -> V
+    requires { V.number limit <ℤ V.number x }
+    ensures { V.number result ≡ V.number x -ℤ pos 1 }
+{
+    let _known = x.extended();
+    let _limit = limit.extended();
+    backward(x, 1)
+}
+
+/// The value `by` above, which the type has.
+#[tactic(auto, using(crate::proofs::Rows::moves))]
+fn forward<V: FixedWidth>(x: V, by: u128) -> V
+    requires { InRange V.IS_SIGNED V.BITS (V.number x +ℤ pos by) }
+    ensures { V.number result ≡ V.number x +ℤ pos by }
+{
+    let _known = x.extended();
+    x.wrapping_add(V::masked_new(by))
+}
+
+/// The value `by` below, which the type has.
+#[tactic(auto, using(crate::proofs::Rows::moves))]
+fn backward<V: FixedWidth>(x: V, by: u128) -> V
+    requires { InRange V.IS_SIGNED V.BITS (V.number x -ℤ pos by) }
+    ensures { V.number result ≡ V.number x -ℤ pos by }
+{
+    let _known = x.extended();
+    x.wrapping_sub(V::masked_new(by))
+}
+
+/// How far it is from `start` up to `end`, which is not less.
+#[tactic(auto, using(crate::proofs::Rows::distances))]
+fn distance<V: FixedWidth>(start: V, end: V) -> u128
+    requires { V.number start ≤ℤ V.number end }
+    ensures { pos result ≡ V.number end -ℤ V.number start }
+{
+    let _first = start.extended();
+    let _last = end.extended();
+    Storage::wrapping_sub(end.as_u128(), start.as_u128())
+}
+
+/// Values a number of steps apart: `UInt` and `Int`, at every width.
+pub trait Stepping: FixedWidth {
+    /// How many steps it is from `start` up to `end`: twice the number, `(usize::MAX, None)` where a `usize` has
+    /// not so many, and `(0, None)` where `start` is greater.
+    final fn steps_between(start: &Self, end: &Self) -> (usize, Option<usize>)
+        ensures { StepsBetween (Self.number end.now -ℤ Self.number start.now) result }
+    {
+        if end < start {
+            return (0, None);
+        }
+        let steps = distance(*start, *end);
+        if steps <= usize::MAX as u128 {
+            (steps as usize, Some(steps as usize))
+        } else {
+            (usize::MAX, None)
+        }
+    }
+
+    /// The value `count` steps above, and `None` exactly where the type has none.
+    #[tactic(auto, using(crate::proofs::Rows::ends))]
+    final fn forward_checked(start: Self, count: usize) -> Option<Self>
+        ensures { ExactOrNone Self.number Self.IS_SIGNED Self.BITS (Self.number start +ℤ pos count) result }
+    {
+        let _known = start.extended();
+        if count as u128 <= distance(start, Self::max_value()) {
+            Some(forward(start, count as u128))
+        } else {
+            None
+        }
+    }
+
+    /// The value `count` steps below, and `None` exactly where the type has none.
+    #[tactic(auto, using(crate::proofs::Rows::ends))]
+    final fn backward_checked(start: Self, count: usize) -> Option<Self>
+        ensures { ExactOrNone Self.number Self.IS_SIGNED Self.BITS (Self.number start -ℤ pos count) result }
+    {
+        let _known = start.extended();
+        if count as u128 <= distance(Self::min_value(), start) {
+            Some(backward(start, count as u128))
+        } else {
+            None
+        }
+    }
+}
+
+impl<V: FixedWidth> Stepping for V {}

@@ -1,0 +1,61 @@
+//! Sums and products of many values, from the left.
+
+ghost use Rattle.std.specs.Prelude.{◌+ℤ◌, ◌*ℤ◌, pos};
+ghost use Rattle.std.specs.Iterator.{IsFinite};
+ghost use Rattle.arbitrary_base.specs.Exact.{ExactOrNone};
+ghost use Rattle.arbitrary_int.specs.Total.{TotalOrNone};
+
+use arbitrary_calls::fixed_width::FixedWidth;
+
+/// The sum of the items, from 0 and from the left, and `None` exactly where a partial sum is out of range, also
+/// where later items would bring it back. The iterator ends, and the width is valid.
+pub fn try_sum<V: FixedWidth, I: Iterator<Item = V> + Drop>(iter: I) -> Option<V>
+    requires width { V.valid }
+    requires can { I.can_next iter }
+    requires ends { IsFinite (I.remaining iter) }
+    ensures { TotalOrNone V.IS_SIGNED V.BITS (λ a b. a +ℤ b) (pos 0) I.next_gives V.number iter result }
+{
+    let mut total = V::zero();
+    for item in iter {
+        match total.checked_add(item) {
+            Some(sum) => total = sum,
+            None => return None,
+        }
+    }
+    Some(total)
+}
+
+/// The number 1, and `None` where the type has none: the signed type of one bit.
+#[tactic(auto, using(crate::proofs::TotalSteps::ones))]
+fn one<V: FixedWidth>() -> Option<V>
+    requires { V.valid }
+    ensures { ExactOrNone V.number V.IS_SIGNED V.BITS (pos 1) result }
+{
+    let signed = V::IS_SIGNED;
+    if !signed {
+        return Some(V::masked_new(1u8));
+    }
+    let bits = V::BITS;
+    if bits == 1 {
+        return None;
+    }
+    Some(V::masked_new(1u8))
+}
+
+/// The product of the items, from 1 and from the left, and `None` exactly where 1 or a partial product is out of
+/// range: always on the signed type of one bit, which has no 1. The iterator ends, and the width is valid.
+pub fn try_product<V: FixedWidth, I: Iterator<Item = V> + Drop>(iter: I) -> Option<V>
+    requires width { V.valid }
+    requires can { I.can_next iter }
+    requires ends { IsFinite (I.remaining iter) }
+    ensures { TotalOrNone V.IS_SIGNED V.BITS (λ a b. a *ℤ b) (pos 1) I.next_gives V.number iter result }
+{
+    let mut total = one::<V>()?;
+    for item in iter {
+        match total.checked_mul(item) {
+            Some(product) => total = product,
+            None => return None,
+        }
+    }
+    Some(total)
+}

@@ -1,0 +1,238 @@
+//! Bytes, and values in streams.
+
+use crate::Watched;
+use crate::prelude::*;
+use std::io;
+use std::io::{ErrorKind, Read, Write};
+use std::test::Fail;
+
+#[test]
+fn bytes_in_both_orders(rt: HostRuntime) {
+    assert_eq!(rt; i24::new(-5).to_be_bytes(), [0xFF, 0xFF, 0xFB]);
+    assert_eq!(rt; i24::new(-5).swap_bytes(), i24::new(-262145));
+    assert_eq!(rt; i24::new(-904106).to_le_bytes(), [0x56, 0x34, 0xF2]);
+    assert_eq!(rt; u24::from_le_bytes([0x56, 0x34, 0x12]), u24::new(0x123456));
+    assert_eq!(rt; u24::from_be_bytes([0x12, 0x34, 0x56]), u24::new(0x123456));
+    assert_eq!(rt; u24::new(0x123456).swap_bytes(), u24::new(0x563412));
+    assert_eq!(rt;
+        u40::new(0x123456789A).to_le_bytes(),
+        [0x9A, 0x78, 0x56, 0x34, 0x12]
+    );
+    assert_eq!(rt;
+        i40::new(0x123456789A).swap_bytes(),
+        i40::new(0x9A78563412 - (1 << 40))
+    );
+}
+
+#[test]
+fn the_machine_is_little_endian(rt: HostRuntime) {
+    let value = UInt::<u128, 24>::new(0x123456);
+    let swapped = UInt::<u128, 24>::new(0x563412);
+    assert_eq!(rt; value.to_ne_bytes(), [0x56, 0x34, 0x12]);
+    assert_eq!(rt; UInt::<u128, 24>::from_ne_bytes([0x56, 0x34, 0x12]), value);
+    assert_eq!(rt; (value.to_le(), value.to_be()), (value, swapped));
+    assert_eq!(rt;
+        (
+            UInt::<u128, 24>::from_le(value),
+            UInt::<u128, 24>::from_be(value)
+        ),
+        (value, swapped)
+    );
+}
+
+#[test]
+fn each_width_of_whole_bytes(rt: HostRuntime) {
+    assert_eq!(rt; u48::new(1).to_be_bytes(), [0, 0, 0, 0, 0, 1]);
+    assert_eq!(rt; u56::new(1).swap_bytes(), u56::new(1 << 48));
+    assert_eq!(rt; i72::new(-2).swap_bytes(), i72::new(-(1 << 64) - 1));
+    assert_eq!(rt; u80::new(1).swap_bytes(), u80::new(1 << 72));
+    assert_eq!(rt; u88::new(1).swap_bytes(), u88::new(1 << 80));
+    assert_eq!(rt; u96::new(1).swap_bytes(), u96::new(1 << 88));
+    assert_eq!(rt; u104::new(1).swap_bytes(), u104::new(1 << 96));
+    assert_eq!(rt; u112::new(1).swap_bytes(), u112::new(1 << 104));
+    assert_eq!(rt; u120::new(1).swap_bytes(), u120::new(1 << 112));
+    assert_eq!(rt; Int::<i64, 24>::new(-5).to_be_bytes(), [0xFF, 0xFF, 0xFB]);
+}
+
+#[test]
+fn bytes_of_a_stream_in_memory(rt: HostRuntime) {
+    let mut out = [0xAA; 16];
+    assert_eq!(rt; u9::new(300).to_borsh_bytes(&mut out), 2);
+    let mut wanted = [0xAA; 16];
+    wanted[0] = 0x2C;
+    wanted[1] = 0x01;
+    assert_eq!(rt; out, wanted);
+    assert_eq!(rt; i9::new(-1).to_borsh_bytes(&mut out), 2);
+    assert_eq!(rt; [out[0], out[1]], [0xFF, 0x01]);
+    assert_eq!(rt; Int::<i128, 128>::new(-1).to_borsh_bytes(&mut out), 16);
+    assert_eq!(rt; out, [0xFF; 16]);
+    assert_eq!(rt; u9::from_borsh_bytes(&[0x2C, 0x01]), Some(u9::new(300)));
+    assert!(rt; u9::from_borsh_bytes(&[0x2C, 0x01, 0x07]).is_none());
+    assert!(rt; u1::from_borsh_bytes(&[2]).is_none());
+    assert!(rt; u1::from_borsh_bytes(&[]).is_none());
+}
+
+#[test]
+fn values_go_through_a_stream(rt: HostRuntime) -> Result<(), Fail> {
+    let mut reader = Watched::new([0x2C, 0x01, 0x07].as_slice());
+    assert_eq!(rt; u9::deserialize_reader(&mut reader)?, u9::new(300));
+    assert_eq!(rt; reader.into_inner(), [0x07].as_slice());
+    let mut wrong = Watched::new([0x2C, 0x03].as_slice());
+    let read = u9::deserialize_reader(&mut wrong);
+    assert_eq!(rt;
+        read.err().map(|error| error.kind()),
+        Some(ErrorKind::InvalidData)
+    );
+    let mut short = Watched::new([0x2C].as_slice());
+    let read = u9::deserialize_reader(&mut short);
+    assert_eq!(rt;
+        read.err().map(|error| error.kind()),
+        Some(ErrorKind::UnexpectedEof)
+    );
+    assert!(rt; !short.failed());
+    let mut writer = Watched::new(Vec::new(rt.alloc()));
+    u9::new(300).serialize(&mut writer)?;
+    i9::new(-1).serialize(&mut writer)?;
+    assert_eq!(rt;
+        writer.into_inner().as_slice(),
+        [0x2C, 0x01, 0xFF, 0x01].as_slice()
+    );
+    Ok(())
+}
+
+/// Gives or takes one byte at each call, and counts the calls. The call at place `fails_at` fails, and each later one
+/// is cut short: it gives or takes nothing.
+#[derive(Drop)]
+struct Faulty {
+    calls: usize,
+    fails_at: usize,
+    kind: ErrorKind,
+    bytes: [u8; 16],
+}
+
+impl Faulty {
+    /// Fails at a call with an error of the kind.
+    fn at(fails_at: usize, kind: ErrorKind) -> Self {
+        Faulty {
+            calls: 0,
+            fails_at,
+            kind,
+            bytes: [0x7E; 16],
+        }
+    }
+
+    /// Whether the next call goes well, or its fault.
+    fn turn(&mut self) -> io::Result<bool> {
+        let call = self.calls;
+        self.calls = call.saturating_add(1);
+        if call == self.fails_at {
+            return Err(io::Error::from(self.kind));
+        }
+        Ok(call < self.fails_at && call < 16)
+    }
+}
+
+impl Read for Faulty {
+    fn read(&mut self, buf: &mut [u8]) -> io::Result<usize> {
+        let place = self.calls;
+        if !self.turn()? || buf.is_empty() {
+            return Ok(0);
+        }
+        buf[0] = if place < 16 { self.bytes[place] } else { 0 };
+        Ok(1)
+    }
+}
+
+impl Write for Faulty {
+    fn write(&mut self, buf: &[u8]) -> io::Result<usize> {
+        let place = self.calls;
+        if !self.turn()? || buf.is_empty() {
+            return Ok(0);
+        }
+        if place < 16 {
+            self.bytes[place] = buf[0];
+        }
+        Ok(1)
+    }
+
+    fn flush(&mut self) -> io::Result<()> {
+        Ok(())
+    }
+}
+
+#[test]
+fn a_reader_that_fails_in_mid_stream(rt: HostRuntime) -> Result<(), Fail> {
+    for kind in [ErrorKind::Other, ErrorKind::Interrupted] {
+        for fails_at in 0..15 {
+            let mut reader = Watched::new(Faulty::at(fails_at, kind));
+            let read = u120::deserialize_reader(&mut reader);
+            assert_eq!(rt; read.err().map(|error| error.kind()), Some(kind));
+            assert!(rt; reader.failed());
+            assert_eq!(rt; reader.into_inner().calls, fails_at + 1);
+        }
+    }
+    let mut reader = Watched::new(Faulty::at(15, ErrorKind::Other));
+    let wanted = u120::from_le_bytes([0x7E; 15]);
+    assert_eq!(rt; u120::deserialize_reader(&mut reader)?, wanted);
+    assert!(rt; !reader.failed());
+    assert_eq!(rt; reader.into_inner().calls, 15);
+    Ok(())
+}
+
+#[test]
+fn a_writer_that_fails_in_mid_stream(rt: HostRuntime) -> Result<(), Fail> {
+    let value = u120::from_le_bytes([1, 2, 3, 4, 5, 6, 7, 8, 9, 10, 11, 12, 13, 14, 15]);
+    for kind in [ErrorKind::Other, ErrorKind::Interrupted] {
+        for fails_at in 0..15 {
+            let mut writer = Watched::new(Faulty::at(fails_at, kind));
+            let written = value.serialize(&mut writer);
+            assert_eq!(rt; written.err().map(|error| error.kind()), Some(kind));
+            assert!(rt; writer.failed());
+            let inner = writer.into_inner();
+            assert_eq!(rt; inner.calls, fails_at + 1);
+            for place in 0..16 {
+                let wanted = if place < fails_at {
+                    place as u8 + 1
+                } else {
+                    0x7E
+                };
+                assert_eq!(rt; inner.bytes[place], wanted);
+            }
+        }
+    }
+    let mut writer = Watched::new(Faulty::at(15, ErrorKind::Other));
+    value.serialize(&mut writer)?;
+    assert!(rt; !writer.failed());
+    assert_eq!(rt; writer.into_inner().calls, 15);
+    Ok(())
+}
+
+#[test]
+fn a_stream_that_stops_giving_or_taking(rt: HostRuntime) {
+    let mut reader = Watched::new(Faulty {
+        calls: 3,
+        fails_at: 2,
+        kind: ErrorKind::Other,
+        bytes: [0; 16],
+    });
+    let read = u120::deserialize_reader(&mut reader);
+    assert_eq!(rt;
+        read.err().map(|error| error.kind()),
+        Some(ErrorKind::UnexpectedEof)
+    );
+    assert!(rt; !reader.failed());
+    assert_eq!(rt; reader.into_inner().calls, 4);
+    let mut writer = Watched::new(Faulty {
+        calls: 3,
+        fails_at: 2,
+        kind: ErrorKind::Other,
+        bytes: [0; 16],
+    });
+    let written = u120::max_value().serialize(&mut writer);
+    assert_eq!(rt;
+        written.err().map(|error| error.kind()),
+        Some(ErrorKind::WriteZero)
+    );
+    assert!(rt; writer.failed());
+    assert_eq!(rt; writer.into_inner().calls, 4);
+}
