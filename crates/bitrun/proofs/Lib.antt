@@ -9,3 +9,4 @@ pub mod Decimals
 pub mod Operands
 pub mod Families
 pub mod Unique
+pub mod UsualLines

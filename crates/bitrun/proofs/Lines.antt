@@ -61,7 +61,7 @@ words-blank : (byte : ℕ) (line : List ℕ) → is_blank byte ≡ true → word
 unfolding words_of
 words-blank byte line blank = ap (filter has_bytes) (slice_split-cons_yes is_blank byte line blank)
 
-left-blank : (byte : ℕ) (bytes : List ℕ) → is_blank byte ≡ true → left_of (byte ∷ bytes) ≡ left_of bytes
+pub left-blank : (byte : ℕ) (bytes : List ℕ) → is_blank byte ≡ true → left_of (byte ∷ bytes) ≡ left_of bytes
 unfolding left_of
 left-blank byte bytes blank =
     let other = blank-not_lf byte blank in

@@ -15,7 +15,7 @@ use Rattle.bitrun.proofs.Lines.{word_taken, no_word_taken}
 digit-in_word : (byte : ℕ) → is_ascii_digit byte ≡ true → ends_word byte ≡ false
 digit-in_word byte digit = grind (arith, nat_tests)
 
-take-take : {X : Type 0} (m n : ℕ) (xs : List X) → m ≤ n → take m (take n xs) ≡ take m xs
+pub take-take : {X : Type 0} (m n : ℕ) (xs : List X) → m ≤ n → take m (take n xs) ≡ take m xs
 take-take zero n xs h = refl
 take-take (suc m) zero xs h = absurd (omega arith)
 take-take (suc m) (suc n) [] h = refl

@@ -2,8 +2,20 @@
 use Rattle.std.proofs.Common.{◌≡◌, ℕ, suc, List, [], ◌∷◌, filter, Some, None, is_some, true, sym, refl}
 use Rattle.std.specs.List.{AllZip}
 use Rattle.arbitrary_int.specs.declared.steps.Step.{Step}
+use Rattle.arbitrary_int.specs.Step.{StepWithin}
 use Rattle.bitrun.specs.Operation.{step_named}
 use Rattle.bitrun.specs.Form.{IsStep, HasStepForm, FirstBad, has_words}
+
+-- the words of a line name the step, and the later lines are left
+pub record LineRead (count : ℕ) (words : List (List ℕ)) (rest : List (List (List ℕ))) (step : Step) (after : List (List (List ℕ))) : Type 0 where
+  pub named : Some step ≡ step_named count words
+  pub same : after ≡ rest
+  pub within : StepWithin count step
+
+pub some_words : (count : ℕ) (words : List (List ℕ)) (step : Step) → Some step ≡ step_named count words → (word : List ℕ) × (operands : List (List ℕ)) × (words ≡ word ∷ operands)
+unfolding step_named
+some_words count [] step named = absurd cc
+some_words count (word ∷ operands) step named = (word, operands, refl)
 
 -- the lines are one of these words, and the rest
 module _ (count : ℕ) (lines rest after : List (List (List ℕ))) (words : List (List ℕ)) (taken : lines ≡ words ∷ rest) (same : after ≡ rest) where

@@ -6,4 +6,5 @@ pub mod Kind
 pub mod Operation
 pub mod Form
 pub mod Answer
+pub mod Usual
 pub mod Serving

@@ -19,6 +19,7 @@ mod stream;
 #[cfg(test)]
 mod tests;
 mod text;
+mod usual;
 
 use crate::fault::Fault;
 use crate::serving::serve;

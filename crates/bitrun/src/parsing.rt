@@ -10,6 +10,7 @@ use crate::fault::Fault;
 use crate::numeral::value_named;
 use crate::operation::step_named;
 use crate::text::Cursor;
+use crate::usual::usual_step;
 use arbitrary_int::Step;
 use arbitrary_int::traits::FixedWidth;
 use std::alloc::{AllocError, Allocator};
@@ -48,15 +49,30 @@ pub fn steps<'a, A: Allocator>(
     ensures within { IfOk result (λ steps. WellFormed steps.items count) }
     ensures fault { IfErr result (StepsFault count lines.old.later) }
 {
-    let mut steps = Vec::new(alloc);
+    // A cursor of its own, so that the place need not be kept in memory.
+    let mut line = lines.copy();
+    // A line of a step has 11 bytes or so: room for most of them, and not too much for other lines.
+    let mut steps = Vec::with_capacity(alloc, line.text().len() / 16)?;
     let mut number = 2;
-    while lines.next_line() {
+    while line.next_line() {
         number += 1;
-        let Some(word) = lines.next_word() else {
+        if line.is_at_lf() {
             continue;
-        };
-        let Some(step) = step_named(word, lines, count) else {
-            return Err(Fault::Line(number));
+        }
+        let step = match usual_step(line.text(), count) {
+            Some((step, rest)) => {
+                line.go_to(rest);
+                step
+            }
+            None => {
+                let Some(word) = line.next_word() else {
+                    continue;
+                };
+                let Some(step) = step_named(word, &mut line, count) else {
+                    return Err(Fault::Line(number));
+                };
+                step
+            }
         };
         steps.push(step)?;
     }

@@ -1,6 +1,6 @@
 //! The lines and the words of a text, in one pass.
 
-ghost use Rattle.std.specs.Prelude.{◌≡◌, ◌==◌, ◌<◌, [], ◌∷◌, drop, length, position, Some, None, IfSome, MatchOption, if◌then◌else◌};
+ghost use Rattle.std.specs.Prelude.{◌≡◌, ◌==◌, ◌<◌, [], ◌∷◌, true, drop, length, position, Some, None, IfSome, MatchOption, if◌then◌else◌};
 ghost use Rattle.std.specs.List.{position_or_len, before_first, after_first};
 ghost use Rattle.bitrun.specs.Numeral.{number_below, first_number};
 ghost use Rattle.bitrun.specs.Text.{ends_line, is_blank, is_solid, ends_word, word_lines, Left, left_of};
@@ -59,6 +59,34 @@ impl<'a> Cursor<'a> {
     {
         let (word, _) = split_word(without_blanks(self.rest));
         word.is_empty()
+    }
+
+    /// A cursor of its own at the same place.
+    pub fn copy(&self) -> Cursor<'a>
+        ensures { result ≡ self.now }
+    {
+        Cursor { rest: self.rest }
+    }
+
+    /// The text from this place on.
+    pub fn text(&self) -> &'a [u8]
+        ensures { left_of result.now ≡ self.now }
+    {
+        self.rest
+    }
+
+    /// Goes on to the beginning of the text.
+    pub fn go_to(&mut self, text: &'a [u8])
+        ensures { self.new ≡ left_of text.now }
+    {
+        self.rest = text;
+    }
+
+    /// Whether the line ends right here, with no blank before its LF.
+    pub fn is_at_lf(&self) -> bool
+        ensures { result ≡ true → self.now.words ≡ [] }
+    {
+        begins_with_lf(self.rest)
     }
 
     /// Goes on to the next line, whatever is left on this one, and tells whether there is one.
@@ -126,10 +154,20 @@ fn is_word_end(text: &[u8]) -> bool
     }
 }
 
+/// Whether the text begins with an LF.
+pub fn begins_with_lf(text: &[u8]) -> bool
+    ensures { result ≡ true → text.now ≡ 10 ∷ drop 1 text.now }
+{
+    matches!(text, [b'\n', ..])
+}
+
 /// What follows the first line.
 fn after_line(text: &[u8]) -> &[u8]
     ensures { result.now ≡ after_first ends_line text.now }
 {
+    if let [b'\n', rest @ ..] = text {
+        return rest;
+    }
     match line_end(text) {
         Some(end) => {
             let (_, rest) = text.split_at(end + 1);

@@ -5,15 +5,15 @@ use Rattle.arbitrary_int.specs.declared.steps.Step.{Step}
 use Rattle.bitrun.specs.Form.{IsStep, FirstBad, HasStepForm, has_words}
 use Rattle.bitrun.proofs.parsing.steps.Given as goal
 
-abbrev pub invariant-loop-number : goal.invariant-loop-number
-invariant-loop-number g l = record {
-  found : (others : List Step) → AllZip (IsStep l.count) (filter has_words l.lines.later) others
+abbrev pub invariant-loop-line : goal.invariant-loop-line
+invariant-loop-line g l = record {
+  found : (others : List Step) → AllZip (IsStep l.count) (filter has_words l.line.later) others
       → AllZip (IsStep l.count) (filter has_words l.fn.lines.later) (l.steps.items ++ others);
-  fault : (i : ℕ) → FirstBad (HasStepForm l.count) l.lines.later i → FirstBad (HasStepForm l.count) l.fn.lines.later (l.number - 2 + i);
+  fault : (i : ℕ) → FirstBad (HasStepForm l.count) l.line.later i → FirstBad (HasStepForm l.count) l.fn.lines.later (l.number - 2 + i);
   within : WellFormed l.steps.items l.count;
-  counted : l.number + length l.lines.later ≡ 2 + length l.fn.lines.later;
+  counted : l.number + length l.line.later ≡ 2 + length l.fn.lines.later;
   start : 2 ≤ l.number;
 }
 
-abbrev pub decreases-loop-number : goal.decreases-loop-number
-decreases-loop-number g l = length l.lines.later
+abbrev pub decreases-loop-line : goal.decreases-loop-line
+decreases-loop-line g l = length l.line.later
