@@ -8,6 +8,9 @@ ghost use Rattle.arbitrary_base.specs.Watching.{inner_of, has_failed};
 use std::io;
 use std::io::{Read, Write};
 
+#[cfg(test)]
+mod tests;
+
 /// A reader or a writer, with a flag that rises where one of its calls fails, and never falls.
 ///
 /// The flag is what lets a caller's contract say that a fault was the stream's own.
@@ -79,45 +82,5 @@ impl<D: Write> Watched<D> {
             self.failed = true;
         }
         outcome
-    }
-}
-
-#[cfg(test)]
-mod tests {
-    use super::*;
-    use std::io::ErrorKind;
-
-    /// Fails at each call, with an error of the kind.
-    #[derive(Drop)]
-    struct Broken {
-        kind: ErrorKind,
-    }
-
-    impl Read for Broken {
-        fn read(&mut self, _buf: &mut [u8]) -> io::Result<usize> {
-            Err(io::Error::from(self.kind))
-        }
-    }
-
-    impl Write for Broken {
-        fn write(&mut self, _buf: &[u8]) -> io::Result<usize> {
-            Err(io::Error::from(self.kind))
-        }
-
-        fn flush(&mut self) -> io::Result<()> {
-            Ok(())
-        }
-    }
-
-    #[test]
-    fn faults_keep_their_kind(rt: HostRuntime) {
-        for kind in [ErrorKind::Other, ErrorKind::Interrupted] {
-            let mut reader = Watched::new(Broken { kind });
-            let read = reader.read(&mut [0]);
-            assert_eq!(rt; read.err().map(|error| error.kind()), Some(kind));
-            let mut writer = Watched::new(Broken { kind });
-            let written = writer.write(&[0]);
-            assert_eq!(rt; written.err().map(|error| error.kind()), Some(kind));
-        }
     }
 }
