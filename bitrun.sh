@@ -33,7 +33,7 @@ prove_and_build() {
     flock -n "$lock" || stop "another bitrun.sh is proving and building bitrun right now; try again when it is done"
     local now
     now="$(sources)"
-    echo "bitrun.sh: proving and building bitrun first, which takes some ten minutes on four cores in a fresh clone" >&2
+    echo "bitrun.sh: proving and building bitrun first, which takes ten to thirty minutes in a fresh clone, and less after that" >&2
     # `rt run` builds and then runs: on this input, with status 0.
     (cd "$here/crates/bitrun" && rt run <<<$'run u7\n' >/dev/null) || stop "bitrun was not proved and built: rt says why, above"
     printf '%s\n' "$now" >"$built_from"

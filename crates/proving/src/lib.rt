@@ -11,3 +11,4 @@ pub mod first;
 mod from_rust;
 pub mod generic;
 pub mod places;
+pub mod storages;
