@@ -28,9 +28,10 @@ def definitions(file):
             continue
         # `do` stands for the operator that it is made of.
         line = re.sub(r'= do$', '= do >>=', line)
-        head = re.match(r'(?:(?:abbrev|unfoldable) (?:pub )?|(?:pub )?record )(\S+)|(?:pub )?(\S+) :(?= )', line)
-        if head:
-            name = head.group(1) or head.group(2)
+        # Definitions of a module with parameters are indented, and its own line is counted with the one before it.
+        head = re.match(r'\s*(?:(?:abbrev|unfoldable) (?:pub )?|(?:pub )?record )(\S+)|(?:pub )?(\S+) :(?= )', line)
+        if head or not found:
+            name = head.group(1) or head.group(2) if head else file.stem
             found.append((name.strip('◌'), []))
         found[-1][1].append(line)
     return found
@@ -38,7 +39,7 @@ def definitions(file):
 
 def is_proved(lines):
     """Whether it is a lemma, or the statement of a law."""
-    return not re.match(r'abbrev|unfoldable|pub record|record', lines[0]) or re.match(r'abbrev pub \S+ : Type 0$', lines[0])
+    return not re.match(r'\s*(abbrev|unfoldable|pub record|record|module)', lines[0]) or re.match(r'\s*abbrev pub \S+ : Type 0$', lines[0])
 
 
 def contracts(file):
