@@ -1,23 +1,44 @@
 #!/usr/bin/env bash
 # Runs bitrun on standard input, and gives its output and its status. It is proved and built first, where that is not
-# done or a source has changed since; where that fails, the status is 1, and why stands on standard error.
+# done or a source has changed since: standard error shows how that goes. Where it can't be had, the status is 1, and
+# the last line on standard error says why.
 set -euo pipefail
-here="$(cd "$(dirname "$0")" && pwd)"
-program="$here/crates/bitrun/out/bitrun"
+# With CDPATH set, `cd` looks elsewhere, and prints where it went.
+unset CDPATH
+here="$(cd -- "$(dirname -- "$(readlink -f -- "${BASH_SOURCE[0]}")")" && pwd)"
+out="$here/crates/bitrun/out"
+program="$out/bitrun"
+# The sources as they were before the program was built from them.
+built_from="$out/bitrun.sources"
 
-is_built() {
-    [ -x "$program" ] && [ -z "$(find "$here/crates.txt" "$here/crates" -path '*/out' -prune -o -type f -newer "$program" -print -quit)" ]
+stop() {
+    printf 'bitrun.sh: %s\n' "$1" >&2
+    exit 1
 }
 
-if ! is_built; then
-    log="$(mktemp)"
-    trap 'rm -f "$log"' EXIT
+# Each source, with the moment at which it last changed or came here. A file that is edited while it is read has another one.
+sources() {
+    (cd "$here" && find crates.txt crates -name out -prune -o -type f \( -name '*.rt' -o -name '*.antt' -o -name crates.txt \) \
+        -printf '%p %C@ %i\n' | LC_ALL=C sort)
+}
+
+is_built() {
+    [ -x "$program" ] && [ -f "$built_from" ] && sources | cmp -s - "$built_from"
+}
+
+prove_and_build() {
+    command -v rt >/dev/null || stop "bitrun is still to be proved and built, and there is no rt on the PATH to do it with"
+    mkdir -p "$out"
+    exec {lock}>"$out/bitrun.lock"
+    flock -n "$lock" || stop "another bitrun.sh is proving and building bitrun right now; try again when it is done"
+    local now
+    now="$(sources)"
+    echo "bitrun.sh: proving and building bitrun first, which takes ten to thirty minutes in a fresh clone, and less after that" >&2
     # `rt run` builds and then runs: on this input, with status 0.
-    if ! (cd "$here/crates/bitrun" && printf 'run u7\n\n' | rt run) >"$log" 2>&1; then
-        cat "$log" >&2
-        exit 1
-    fi
-    touch "$program"
-    rm -f "$log"
-fi
+    (cd "$here/crates/bitrun" && rt run <<<$'run u7\n' >/dev/null) || stop "bitrun was not proved and built: rt says why, above"
+    printf '%s\n' "$now" >"$built_from"
+    exec {lock}>&-
+}
+
+is_built || prove_and_build
 exec "$program"

@@ -1,29 +1,33 @@
 #!/usr/bin/env python3
 """document_examples.py [--write]
 
-Tells whether the examples in docs/CALLS.md are those that run as tests, and the README's those of crates/examples. With
---write it writes the tests anew from the tables; run `rt fmt` in crates/arbitrary_int and crates/bit_fields afterwards.
+Tells whether what the documents show is what the gate runs: the examples in docs/CALLS.md and the table "In Rust you wrote"
+in docs/DIFFERENCES.md are tests, the functions in the README and in docs/PROVING.md stand in crates/proving, and each
+line that docs/PROVING.md calls refused is an edit that the prover must refuse. With --write it writes the tests anew
+from the tables; run `rt fmt` in their crates afterwards.
 """
 import re
 import sys
 from pathlib import Path
 
 ROOT = Path(__file__).resolve().parent.parent
-# what the tests of each crate bring in; a table runs in arbitrary_int unless another crate is named for its title
+# What the tests of each crate bring in. A table of docs/CALLS.md runs in arbitrary_int, unless its title is named here.
 USES = {
     'arbitrary_int': [
-        'use crate::prelude::*;', 'use crate::{Watched, range_inclusive, try_product, try_sum};', 'use std::io::sink;', 'use std::test::Fail;',
+        'use crate::prelude::*;', 'use crate::{Watched, range_inclusive, try_product, try_sum};', 'use std::io::sink;',
+        'use std::test::Fail;',
     ],
     'bit_fields': ['use crate::{Record, disjoint};', 'use arbitrary_int::prelude::*;'],
 }
 ELSEWHERE = {'Fields in a record': 'bit_fields'}
-FIRST = ROOT / 'crates/examples/src/first.rt'
+FROM_RUST = ROOT / 'crates/proving/src/from_rust.rt'
+PROVING = ROOT / 'crates/proving'
 
 
-def tables():
-    """The title of each table, with its examples: an expression and its value."""
+def tables(page):
+    """The title of each table of a page, with its examples: an expression and its value."""
     title, examples = None, []
-    for line in (ROOT / 'docs/CALLS.md').read_text().splitlines():
+    for line in (ROOT / page).read_text().splitlines():
         if line.startswith('## '):
             if examples:
                 yield title, examples
@@ -35,18 +39,41 @@ def tables():
         yield title, examples
 
 
-def tests(crate):
-    """The module of tests that these tables make in a crate."""
+def test(name, known, examples):
+    """A test of each example, with what is known before them."""
+    takes_memory = any('in alloc' in expression for expression, _ in examples)
+    lines = ['', '#[test]', f'fn {name}(rt: HostRuntime){" -> Result<(), Fail>" if takes_memory else ""} {{']
+    lines += ['    let alloc = rt.alloc();'] if takes_memory else []
+    lines += [f'    {line}' for line in known]
+    lines += [f'    assert_eq!(rt; {expression}, {value});' for expression, value in examples]
+    return lines + (['    Ok(())', '}'] if takes_memory else ['}'])
+
+
+def calls(crate):
+    """The module of tests that the tables of calls make in a crate."""
     lines = ['//! The examples of docs/CALLS.md.', '', *USES[crate]]
-    for title, examples in tables():
-        if ELSEWHERE.get(title, 'arbitrary_int') != crate:
-            continue
-        name = re.sub(r'\W+', '_', title.lower())
-        takes_memory = any('in alloc' in expression for expression, _ in examples)
-        lines += ['', '#[test]', f'fn {name}(rt: HostRuntime){" -> Result<(), Fail>" if takes_memory else ""} {{']
-        lines += ['    let alloc = rt.alloc();'] if takes_memory else []
-        lines += [f'    assert_eq!(rt; {expression}, {value});' for expression, value in examples]
-        lines += ['    Ok(())', '}'] if takes_memory else ['}']
+    for title, examples in tables('docs/CALLS.md'):
+        if ELSEWHERE.get(title, 'arbitrary_int') == crate:
+            lines += test(re.sub(r'\W+', '_', title.lower()), [], examples)
+    return '\n'.join(lines) + '\n'
+
+
+def from_rust():
+    """The module of tests that the table of lines from Rust makes, of so many lines each."""
+    title, examples = next(table for table in tables('docs/DIFFERENCES.md') if table[0] == 'In Rust you wrote')
+    known = [
+        ('n', 'u4::new(9)'), ('flag', 'u1::new(1)'), ('a', 'u12::new(1000)'), ('b', 'u12::new(7)'), ('s', 'i12::new(-300)'),
+        ('list', '[u12::new(1000), u12::new(7)]'), ('byte', '200u8'), ('yes', 'true'),
+    ]
+    lines = [
+        '//! The table "In Rust you wrote" of docs/DIFFERENCES.md.', '', 'use crate::constants::{LIMIT, WIDTH, limit};',
+        'use crate::copies::Frame;', 'use crate::generic::is_greatest;', 'use arbitrary_int::prelude::*;',
+    ]
+    at_once = 8
+    for start in range(0, len(examples), at_once):
+        part = examples[start:start + at_once]
+        words = set(re.findall(r'\w+', ' '.join(sum(part, []))))
+        lines += test(f'lines_from_{start + 1}', [f'let {name} = {value};' for name, value in known if name in words], part)
     return '\n'.join(lines) + '\n'
 
 
@@ -55,18 +82,37 @@ def squeezed(text):
     return re.sub(r',(?=[)}\]])', '', re.sub(r'\s+', '', text))
 
 
+def shown(page):
+    """The functions in each block of code on a page: what follows the lines above the first item, item by item."""
+    for code in re.findall(r'```rust\n(.*?)```', (ROOT / page).read_text(), re.S):
+        yield from re.split(r'\n\n(?=///|#\[test])', code[code.index('///'):].strip())
+
+
+def refused(page):
+    """The lines that a page calls refused."""
+    return re.findall(r'^Refused: `(.*)`$', (ROOT / page).read_text(), re.M)
+
+
 def main():
     wrong = []
-    for crate in USES:
-        file = ROOT / f'crates/{crate}/src/worked/calls.rt'
+    tests = [(ROOT / f'crates/{crate}/src/worked/calls.rt', calls(crate)) for crate in USES]
+    for file, text in [*tests, (FROM_RUST, from_rust())]:
         if '--write' in sys.argv[1:]:
-            file.write_text(tests(crate))
-        elif squeezed(file.read_text()) != squeezed(tests(crate)):
-            wrong.append(f'{file}: not the examples of docs/CALLS.md; write them by tools/document_examples.py --write')
-    for code in re.findall(r'```rust\n(.*?)```', (ROOT / 'README.md').read_text(), re.S):
-        functions = code.split('\n\n', 1)[1]
-        if functions not in FIRST.read_text():
-            wrong.append(f'{FIRST}: not the example of the README')
+            file.write_text(text)
+        elif squeezed(file.read_text()) != squeezed(text):
+            wrong.append(f'{file}: not the examples of the documents; write them by tools/document_examples.py --write')
+    code = ''.join(file.read_text() for file in sorted((PROVING / 'src').glob('*.rt')))
+    for page in ['README.md', 'docs/PROVING.md']:
+        for functions in shown(page):
+            if functions not in code:
+                wrong.append(f'{page}: not in {PROVING / "src"}:\n{functions}')
+    edits = [line for file in (PROVING / 'must-fail').iterdir() for line in re.findall('^new: (.*)$', file.read_text(), re.M)]
+    for line in refused('docs/PROVING.md'):
+        if line not in edits:
+            wrong.append(f'docs/PROVING.md: no edit in {PROVING / "must-fail"} has the refused line {line}')
+    for line in edits:
+        if line not in refused('docs/PROVING.md'):
+            wrong.append(f'{PROVING / "must-fail"}: not a line that docs/PROVING.md calls refused: {line}')
     print('\n'.join(wrong) or 'examples of the documents: as they should be')
     return 1 if wrong else 0
 

@@ -1,0 +1,20 @@
+//! What clauses say of such integers: a value is its whole number there.
+
+ghost use Rattle.std.specs.Prelude.{◌≡◌, ◌+ℤ◌, ◌<ℤ◌, ◌%◌, pos};
+
+use arbitrary_int::prelude::*;
+
+/// The low half of a byte.
+pub fn low_half(byte: u8) -> u4
+    ensures number { result ≡ pos (byte % 16) }
+    ensures small { result <ℤ pos 16 }
+{
+    u4::new(byte % 16)
+}
+
+/// The sum of two halves, in a byte.
+pub fn sum(a: u4, b: u4) -> u8
+    ensures { pos result ≡ a +ℤ b }
+{
+    a.value() + b.value()
+}

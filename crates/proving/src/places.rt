@@ -1,0 +1,44 @@
+//! Values behind `&mut`, and in loops.
+
+use arbitrary_int::prelude::*;
+
+/// Counts one more, where there is room.
+pub fn count(counter: &mut u12) {
+    if counter.value() < 4095 {
+        *counter += u12::new(1);
+    }
+}
+
+/// The next count, which stays at the greatest.
+pub fn next(count: u12) -> u12 {
+    if count < u12::max_value() {
+        count + u12::new(1)
+    } else {
+        count
+    }
+}
+
+/// The same by a function of values.
+pub fn count_by_value(counter: &mut u12) {
+    *counter = next(*counter);
+}
+
+/// The sum of the samples, or the greatest number.
+pub fn total(samples: &[u4]) -> u12 {
+    let mut total = u12::new(0);
+    for sample in samples {
+        total = total.saturating_add(u12::new(u16::from(sample.value())));
+    }
+    total
+}
+
+/// How many steps there are, or the greatest number.
+pub fn steps(count: u32) -> u12 {
+    let mut total = u12::new(0);
+    for _ in 0..count {
+        if total.value() < 4095 {
+            total += u12::new(1);
+        }
+    }
+    total
+}

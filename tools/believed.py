@@ -1,0 +1,93 @@
+#!/usr/bin/env python3
+"""believed.py [--words] [--write]
+
+Counts the lines that a reader of the contracts must believe: the definitions in specs/ that the contracts of the libraries'
+public items cite, and those of the program's `serve` and `Fault`, then the definitions that these cite, and so on. Comments,
+blank lines and imports are not counted. With --words it prints every word, its lines, and where it stands. It fails where
+docs/ARCHITECTURE.md gives another figure; with --write it writes the figure there.
+
+What is proved need not be believed: lemmas, and the statements of laws, which are words without arguments whose type is
+`Type 0`. Nor need the words that only the contracts inside a crate cite.
+"""
+import re
+import sys
+from pathlib import Path
+
+ROOT = Path(__file__).resolve().parent.parent
+LIBRARIES = ['arbitrary_base', 'arbitrary_traits', 'arbitrary_core', 'arbitrary_calls', 'arbitrary_int']
+# Of the program's modules, those whose contracts speak of what it does as a whole.
+PROGRAM = [ROOT / 'crates/bitrun/src' / name for name in ['serving.rt', 'fault.rt']]
+WORD = re.compile(r'[^\s(){}\[\],.;:]+')
+
+
+def definitions(file):
+    """Each definition of a file: its name and its lines."""
+    found = []
+    for line in file.read_text().splitlines():
+        if not line.strip() or line.lstrip().startswith('--') or re.match(r'(pub )?use |pub mod |infix', line):
+            continue
+        # `do` stands for the operator that it is made of.
+        line = re.sub(r'= do$', '= do >>=', line)
+        # Definitions of a module with parameters are indented, and its own line is counted with the one before it.
+        head = re.match(r'\s*(?:(?:abbrev|unfoldable) (?:pub )?|(?:pub )?record )(\S+)|(?:pub )?(\S+) :(?= )', line)
+        if head or not found:
+            name = head.group(1) or head.group(2) if head else file.stem
+            found.append((name.strip('◌'), []))
+        found[-1][1].append(line)
+    return found
+
+
+def is_proved(lines):
+    """Whether it is a lemma, or the statement of a law."""
+    return not re.match(r'\s*(abbrev|unfoldable|pub record|record|module)', lines[0]) or re.match(r'\s*abbrev pub \S+ : Type 0$', lines[0])
+
+
+def contracts(file):
+    """What the clauses of a file's public functions say, and those of its traits and their impls."""
+    said, block, public, depth = [], '', False, 0
+    for line in file.read_text().splitlines():
+        if re.match(r'(pub )?(trait|impl)\b', line):
+            block = line
+        elif line == '}':
+            block = ''
+        if re.match(r'\s*(pub )?(final )?(const )?(unsafe )?fn ', line):
+            public = 'pub fn' in line or (line.startswith(' ') and ('trait ' in block or ' for ' in block))
+        clause = re.match(r'\s*(requires|ensures)\b', line) and public
+        if clause or depth > 0 or re.match(r'\s*ghost (?!use )', line):
+            said.append(line)
+            depth = max(0, depth + line.count('{') - line.count('}'))
+    return set(WORD.findall('\n'.join(said)))
+
+
+def main():
+    known = {}
+    for crate in LIBRARIES + ['bitrun']:
+        for file in sorted((ROOT / 'crates' / crate / 'specs').rglob('*.antt')):
+            known |= {name: (file.relative_to(ROOT), lines) for name, lines in definitions(file)}
+    todo = PROGRAM + [file for crate in LIBRARIES for file in (ROOT / 'crates' / crate / 'src').rglob('*.rt')]
+    cited = {word for file in todo for word in contracts(file) if word in known}
+    todo = list(cited)
+    while todo:
+        more = {word for word in WORD.findall('\n'.join(known[todo.pop()][1])) if word in known} - cited
+        cited |= more
+        todo += more
+    count = {'believed': 0, 'proved': 0, 'inside': 0}
+    for word, (file, lines) in known.items():
+        kind = 'proved' if is_proved(lines) else 'believed' if word in cited else 'inside'
+        count[kind] += len(lines)
+        if '--words' in sys.argv[1:]:
+            print(f'{kind:9}{len(lines):3}  {file}  {word}')
+    print(f'{count["believed"]} lines must be believed; {count["proved"]} are of what is proved, {count["inside"]} are used inside a crate')
+    page = ROOT / 'docs/ARCHITECTURE.md'
+    figure = re.compile(r'\b\d+(?= lines must be believed)')
+    stated = figure.sub(str(count['believed']), page.read_text())
+    if '--write' in sys.argv[1:]:
+        page.write_text(stated)
+    elif stated != page.read_text() or not figure.search(stated):
+        print(f'{page}: gives another figure; write it by tools/believed.py --write')
+        return 1
+    return 0
+
+
+if __name__ == '__main__':
+    sys.exit(main())
