@@ -1,30 +1,22 @@
 -- A field by plain arithmetic: what was extracted is the source, shifted down.
-use Rattle.std.specs.Prelude.{◌≡◌, ℕ, ℤ, Bool, List, [], ◌∷◌, not, true, false, zero, suc, pos, negsuc, neg_ℤ, ◌+◌, ◌-◌, ◌*◌, ◌/◌, ◌%◌, ◌^◌, ◌≤◌, ◌<◌, ◌+ℤ◌, ◌-ℤ◌, ◌*ℤ◌, ◌≤ℤ◌, ◌<ℤ◌, unsigned_abs, int_div, length, reverse, take, drop, replicate, ◌++◌}
+use Rattle.std.specs.Prelude.{◌≡◌, ℕ, ℤ, Bool, true, false, pos, negsuc, neg_ℤ, ◌+◌, ◌-◌, ◌*◌, ◌/◌, ◌%◌, ◌^◌, ◌≤◌, ◌<◌, ◌-ℤ◌, ◌*ℤ◌, unsigned_abs, length, take, drop, replicate}
 use Rattle.std.specs.Int.{int_shr}
-use Rattle.std.specs.Int.Bits.{bit_and, bit_or, bit_xor}
-use Rattle.std.proofs.Common.{arith, refl, ap, ap₂, sym, subst, ◌∙◌, mod-lt, length-drop, length-take, take-append-drop, pow-add, lt_of_lt_of_le}
-use Rattle.std.proofs.Math.Nat.{div-add-mod'}
-use Rattle.std.proofs.Math.Pow.{shr_lt}
+use Rattle.std.proofs.Common.{arith, refl, ap, sym, ◌∙◌, length-drop, pow-add}
 use Rattle.std.proofs.lemmas.Int.{ints}
-use Rattle.std.proofs.lemmas.Nat.{pow_pos, or_lt, xor_lt}
-use Rattle.std.proofs.lemmas.List.{length-reverse, reverse-reverse, take_at, drop_at, take-append-le}
-use Rattle.arbitrary_base.specs.Range.{lo, hi, InRange}
+use Rattle.std.proofs.lemmas.Nat.{pow_pos}
+use Rattle.std.proofs.lemmas.List.{take-append-le}
+use Rattle.arbitrary_base.specs.Range.{InRange}
 use Rattle.arbitrary_base.specs.Residue.{Congruent, residue, wrap}
-use Rattle.arbitrary_base.specs.Saturation.{clamp}
-use Rattle.arbitrary_base.specs.BitList.{bits, num, val, bits_and, bits_or, bits_xor, differs, fill, items, shl, shr, rotl, rotr, ones, front, tail, bits_not}
+use Rattle.arbitrary_base.specs.BitList.{bits, num, val, fill, items}
 use Rattle.arbitrary_base.specs.Field.{IsField, field}
-use Rattle.arbitrary_base.proofs.Ring.{sub-mul_z, add-mul_z, mul_assoc_z, neg-mul_z, pos-unsigned_abs}
-use Rattle.arbitrary_base.proofs.Congruence.{Congruent-refl, Congruent-sym, Congruent-trans, Congruent-add, Congruent-mul_left, Congruent-from_apart, pow_half, pow_le}
-use Rattle.arbitrary_base.proofs.Wrap.{residue-congruent, residue-lt, wrap-congruent, wrap-of_in_range, wrap-same}
-use Rattle.arbitrary_base.proofs.Sum.{wrap-zero}
-use Rattle.arbitrary_base.proofs.Primitive.{residue-pos, unsigned-in_range, wrap-pos, mod-congruent}
+use Rattle.arbitrary_base.proofs.Ring.{sub-mul_z, mul_assoc_z, neg-mul_z, pos-unsigned_abs}
+use Rattle.arbitrary_base.proofs.Wrap.{residue-congruent, wrap-same}
+use Rattle.arbitrary_base.proofs.Primitive.{residue-pos, wrap-pos}
 use Rattle.arbitrary_base.proofs.Narrow.{residue-mod}
-use Rattle.arbitrary_base.proofs.Clamp.{clamp-in_range, clamp-below, clamp-above}
-use Rattle.arbitrary_base.proofs.BitNumber.{length-bits, length-and, length-not, length-or, length-xor, num-and, num-bits_small, num-lt_of, num-not, num-or, num-take, num-xor}
-use Rattle.arbitrary_base.proofs.BitCount.{ones-not, tail-le}
-use Rattle.arbitrary_base.proofs.BitShift.{length-items, length-rotl, length-rotr, rotr-rotl}
-use Rattle.arbitrary_base.proofs.BitValue.{bits-negsuc, bits-val, val-bits_in_range, val-num, num-bits_residue}
-use Rattle.arbitrary_base.proofs.BitSign.{bits-int_shr, val-shl, val-shr}
+use Rattle.arbitrary_base.proofs.BitNumber.{length-bits, num-take}
+use Rattle.arbitrary_base.proofs.BitShift.{length-items}
+use Rattle.arbitrary_base.proofs.BitValue.{val-num, num-bits_residue}
+use Rattle.arbitrary_base.proofs.BitSign.{bits-int_shr}
 use Rattle.arbitrary_base.proofs.BitResult.{items-value}
 use Rattle.arbitrary_base.proofs.Wrapped.{wrapped-congruent}
 use Rattle.arbitrary_base.proofs.Shifted.{int_shr-low, int_shr-high}
@@ -55,17 +47,17 @@ items-number false B W start (pos n) z d h g f e =
 
 -- ---- of a source with a sign
 
-items-shifted : (t : Bool) (B W start : ℕ) (x : ℤ) → 1 ≤ B → start + B ≤ W → InRange t W x → items start B (bits W x) ≡ take B (bits W (int_shr x start))
-items-shifted t B W start x h g r =
+items-shifted : (B W start : ℕ) (x : ℤ) → 1 ≤ B → start + B ≤ W → InRange true W x → items start B (bits W x) ≡ take B (bits W (int_shr x start))
+items-shifted B W start x h g r =
     let n : B ≤ length (drop start (bits W x)) = omega (arith, length-drop start (bits W x), length-bits W x) in
-    sym (ap (take B) (bits-int_shr t W start x (omega arith) (omega arith) r)
-    ∙ take-append-le B (drop start (bits W x)) (replicate start (fill t (bits W x))) n)
+    sym (ap (take B) (bits-int_shr true W start x (omega arith) (omega arith) r)
+    ∙ take-append-le B (drop start (bits W x)) (replicate start (fill true (bits W x))) n)
 
-items-wrap : (s t : Bool) (B W start : ℕ) (x z : ℤ) → 1 ≤ B → start + B ≤ W → InRange t W x → z ≡ val s (items start B (bits W x)) → z ≡ wrap s B (int_shr x start)
-items-wrap s t B W start x z h g r e =
+items-wrap : (s : Bool) (B W start : ℕ) (x z : ℤ) → 1 ≤ B → start + B ≤ W → InRange true W x → z ≡ val s (items start B (bits W x)) → z ≡ wrap s B (int_shr x start)
+items-wrap s B W start x z h g r e =
     let l : length (items start B (bits W x)) ≡ B = length-items start B (bits W x) (omega (arith, length-bits W x)) in
     let n : num (items start B (bits W x)) ≡ residue B (int_shr x start) =
-    ap num (items-shifted t B W start x h g r) ∙ num-take B (bits W (int_shr x start)) ∙ ap (λ (m : ℕ). m % 2 ^ B) (num-bits_residue W (int_shr x start))
+    ap num (items-shifted B W start x h g r) ∙ num-take B (bits W (int_shr x start)) ∙ ap (λ (m : ℕ). m % 2 ^ B) (num-bits_residue W (int_shr x start))
     ∙ residue-mod B W (int_shr x start) h (omega arith) in
     e ∙ val-num s B _ l ∙ ap (λ (m : ℕ). wrap s B (pos m)) n ∙ wrap-same s B _ (int_shr x start) h (residue-congruent B (int_shr x start))
 
@@ -84,7 +76,7 @@ field-of start B x z c =
     let turned = neg-mul_z c.times (pos (2 ^ (start + B))) in
     record { below = unsigned_abs (x -ℤ int_shr x start *ℤ pos (2 ^ start)); above = neg_ℤ c.times; short = omega (arith, ints); made = omega (arith, ints) }
 
-pub items-field : (s t : Bool) (B W start : ℕ) (x z : ℤ) → 1 ≤ B → start + B ≤ W → InRange t W x → z ≡ val s (items start B (bits W x)) → IsField start B x z
-items-field s t B W start x z h g r e = field-of start B x z (wrapped-congruent s B (int_shr x start) z (items-wrap s t B W start x z h g r e))
+pub items-field : (s : Bool) (B W start : ℕ) (x : ℤ) → 1 ≤ B → start + B ≤ W → InRange true W x → IsField start B x (val s (items start B (bits W x)))
+items-field s B W start x h g r = field-of start B x _ (wrapped-congruent s B (int_shr x start) _ (items-wrap s B W start x _ h g r refl))
 
 pub ruleset fields = (items-congruent, items-plain, items-field)

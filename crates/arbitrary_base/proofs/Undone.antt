@@ -1,31 +1,16 @@
 -- Calls that undo each other: a sum and a difference that wrap, the two rotations, the reversal, and the same `xor` twice.
-use Rattle.std.specs.Prelude.{◌≡◌, ℕ, ℤ, Bool, List, [], ◌∷◌, not, true, false, zero, suc, pos, negsuc, neg_ℤ, ◌+◌, ◌-◌, ◌*◌, ◌/◌, ◌%◌, ◌^◌, ◌≤◌, ◌<◌, ◌+ℤ◌, ◌-ℤ◌, ◌*ℤ◌, ◌≤ℤ◌, ◌<ℤ◌, unsigned_abs, int_div, length, reverse, take, drop, replicate, ◌++◌}
-use Rattle.std.specs.Int.{int_shr}
-use Rattle.std.specs.Int.Bits.{bit_and, bit_or, bit_xor}
-use Rattle.std.proofs.Common.{arith, refl, ap, ap₂, sym, subst, ◌∙◌, mod-lt, length-drop, length-take, take-append-drop, pow-add, lt_of_lt_of_le}
-use Rattle.std.proofs.Math.Nat.{div-add-mod'}
-use Rattle.std.proofs.Math.Pow.{shr_lt}
+use Rattle.std.specs.Prelude.{◌≡◌, ℕ, ℤ, Bool, List, [], ◌∷◌, true, false, neg_ℤ, ◌+◌, ◌-◌, ◌≤◌, ◌+ℤ◌, ◌-ℤ◌, length, reverse, take, drop}
+use Rattle.std.proofs.Common.{arith, refl, ap, ap₂, sym, ◌∙◌, length-drop, take-append-drop}
 use Rattle.std.proofs.lemmas.Int.{ints}
-use Rattle.std.proofs.lemmas.Nat.{pow_pos, or_lt, xor_lt}
-use Rattle.std.proofs.lemmas.List.{length-reverse, reverse-reverse, take_at, drop_at, take-append-le}
-use Rattle.arbitrary_base.specs.Range.{lo, hi, InRange}
-use Rattle.arbitrary_base.specs.Residue.{Congruent, residue, wrap}
-use Rattle.arbitrary_base.specs.Saturation.{clamp}
-use Rattle.arbitrary_base.specs.BitList.{bits, num, val, bits_and, bits_or, bits_xor, differs, fill, items, shl, shr, rotl, rotr, ones, front, tail, bits_not}
-use Rattle.arbitrary_base.specs.Field.{IsField}
-use Rattle.arbitrary_base.proofs.Ring.{sub-mul_z, add-mul_z, mul_assoc_z, neg-mul_z, pos-unsigned_abs}
-use Rattle.arbitrary_base.proofs.Congruence.{Congruent-refl, Congruent-sym, Congruent-trans, Congruent-add, Congruent-mul_left, Congruent-from_apart, pow_half, pow_le}
-use Rattle.arbitrary_base.proofs.Wrap.{residue-congruent, residue-lt, wrap-congruent, wrap-of_in_range, wrap-same}
-use Rattle.arbitrary_base.proofs.Sum.{wrap-zero}
-use Rattle.arbitrary_base.proofs.Primitive.{residue-pos, unsigned-in_range, wrap-pos, mod-congruent}
-use Rattle.arbitrary_base.proofs.Narrow.{residue-mod}
-use Rattle.arbitrary_base.proofs.Clamp.{clamp-in_range, clamp-below, clamp-above}
-use Rattle.arbitrary_base.proofs.BitNumber.{length-bits, length-and, length-not, length-or, length-xor, num-and, num-bits_small, num-lt_of, num-not, num-or, num-take, num-xor}
-use Rattle.arbitrary_base.proofs.BitCount.{ones-not, tail-le}
-use Rattle.arbitrary_base.proofs.BitShift.{length-items, length-rotl, length-rotr, rotr-rotl}
-use Rattle.arbitrary_base.proofs.BitValue.{bits-negsuc, bits-val, val-bits_in_range, val-num, num-bits_residue}
-use Rattle.arbitrary_base.proofs.BitSign.{bits-int_shr, val-shl, val-shr}
-use Rattle.arbitrary_base.proofs.BitResult.{items-value}
+use Rattle.std.proofs.lemmas.List.{length-reverse, reverse-reverse, take_at, drop_at}
+use Rattle.arbitrary_base.specs.Range.{InRange}
+use Rattle.arbitrary_base.specs.Residue.{wrap}
+use Rattle.arbitrary_base.specs.BitList.{bits, val, bits_xor, differs, rotl, rotr}
+use Rattle.arbitrary_base.proofs.Congruence.{Congruent-refl, Congruent-add}
+use Rattle.arbitrary_base.proofs.Wrap.{wrap-of_in_range, wrap-same}
+use Rattle.arbitrary_base.proofs.BitNumber.{length-bits, length-xor}
+use Rattle.arbitrary_base.proofs.BitShift.{length-rotl, length-rotr, rotr-rotl}
+use Rattle.arbitrary_base.proofs.BitValue.{bits-val, val-bits_in_range}
 use Rattle.arbitrary_base.proofs.Wrapped.{wrapped-congruent}
 use Rattle.arbitrary_base.proofs.BitArithmetic.{alike}
 

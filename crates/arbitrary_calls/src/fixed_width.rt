@@ -3,7 +3,6 @@
 ghost use Rattle.std.specs.Prelude.{◌≡◌, ◌≢◌, ◌↔◌, ◌≤◌, ◌+◌, ◌-◌, ◌*◌, ◌/◌, ◌%◌, ◌^◌, ◌≤ℤ◌, ◌<ℤ◌, ◌+ℤ◌, ◌-ℤ◌, ◌*ℤ◌, ℤ, pos, unsigned_abs, IsTrue, IsNone, IfSome, false, true, int_div, reverse};
 ghost use Rattle.arbitrary_base.specs.Range.{InRange, lo, hi};
 ghost use Rattle.arbitrary_base.specs.Residue.{Congruent, wrap};
-ghost use Rattle.arbitrary_base.specs.Field.{IsField};
 ghost use Rattle.arbitrary_base.specs.Saturation.{clamp};
 ghost use Rattle.arbitrary_base.specs.Exact.{ExactOrNone, QuotientOrNone};
 ghost use Rattle.arbitrary_base.specs.Power.{power, binary_digits};
@@ -65,6 +64,7 @@ pub trait FixedWidth: Integer {
         ensures kept { InRange Self.IS_SIGNED Self.BITS (Self.number self +ℤ Self.number rhs) → Self.number result ≡ Self.number self +ℤ Self.number rhs }
         ensures congruent { Congruent Self.BITS (Self.number result) (Self.number self +ℤ Self.number rhs) }
         ensures undo { (y : ℤ) → InRange Self.IS_SIGNED Self.BITS y → Self.number self ≡ wrap Self.IS_SIGNED Self.BITS (y -ℤ Self.number rhs) → Self.number result ≡ y }
+        ensures range { InRange Self.IS_SIGNED Self.BITS (Self.number self) }
     {
         Self::from_kept(wrapping::add(self.kept(), rhs.kept(), Self::BITS))
     }
@@ -109,6 +109,7 @@ pub trait FixedWidth: Integer {
         ensures kept { InRange Self.IS_SIGNED Self.BITS (Self.number self -ℤ Self.number rhs) → Self.number result ≡ Self.number self -ℤ Self.number rhs }
         ensures congruent { Congruent Self.BITS (Self.number result) (Self.number self -ℤ Self.number rhs) }
         ensures undo { (y : ℤ) → InRange Self.IS_SIGNED Self.BITS y → Self.number self ≡ wrap Self.IS_SIGNED Self.BITS (y +ℤ Self.number rhs) → Self.number result ≡ y }
+        ensures range { InRange Self.IS_SIGNED Self.BITS (Self.number self) }
     {
         Self::from_kept(wrapping::sub(self.kept(), rhs.kept(), Self::BITS))
     }
@@ -338,6 +339,7 @@ pub trait FixedWidth: Integer {
     final fn rotate_left(self, amount: u32) -> Self
         ensures value { Self.number result ≡ val Self.IS_SIGNED (rotl (bits Self.BITS (Self.number self)) (amount % Self.BITS)) }
         ensures undo { (y : ℤ) → InRange Self.IS_SIGNED Self.BITS y → Self.number self ≡ val Self.IS_SIGNED (rotr (bits Self.BITS y) (amount % Self.BITS)) → Self.number result ≡ y }
+        ensures range { InRange Self.IS_SIGNED Self.BITS (Self.number self) }
     {
         Self::from_kept(rotations::rotate_left(self.kept(), amount, Self::BITS))
     }
@@ -347,6 +349,7 @@ pub trait FixedWidth: Integer {
     final fn rotate_right(self, amount: u32) -> Self
         ensures value { Self.number result ≡ val Self.IS_SIGNED (rotr (bits Self.BITS (Self.number self)) (amount % Self.BITS)) }
         ensures undo { (y : ℤ) → InRange Self.IS_SIGNED Self.BITS y → Self.number self ≡ val Self.IS_SIGNED (rotl (bits Self.BITS y) (amount % Self.BITS)) → Self.number result ≡ y }
+        ensures range { InRange Self.IS_SIGNED Self.BITS (Self.number self) }
     {
         Self::from_kept(rotations::rotate_right(self.kept(), amount, Self::BITS))
     }
@@ -355,6 +358,7 @@ pub trait FixedWidth: Integer {
     final fn reverse_bits(self) -> Self
         ensures value { Self.number result ≡ val Self.IS_SIGNED (reverse (bits Self.BITS (Self.number self))) }
         ensures undo { (y : ℤ) → InRange Self.IS_SIGNED Self.BITS y → Self.number self ≡ val Self.IS_SIGNED (reverse (bits Self.BITS y)) → Self.number result ≡ y }
+        ensures range { InRange Self.IS_SIGNED Self.BITS (Self.number self) }
     {
         Self::from_kept(rotations::reverse_bits(self.kept(), Self::BITS))
     }
@@ -478,8 +482,7 @@ pub trait FixedWidth: Integer {
     final fn extract_i8(value: i8, start_bit: usize) -> Self
         requires width { Self.valid }
         requires within { start_bit + Self.BITS ≤ 8 }
-        ensures value { Self.number result ≡ val Self.IS_SIGNED (items start_bit Self.BITS (bits 8 value)) }
-        ensures field { IsField start_bit Self.BITS value (Self.number result) }
+        ensures { Self.number result ≡ val Self.IS_SIGNED (items start_bit Self.BITS (bits 8 value)) }
     {
         Self::from_kept(extraction::extract(value, start_bit, Self::BITS))
     }
@@ -488,8 +491,7 @@ pub trait FixedWidth: Integer {
     final fn extract_i16(value: i16, start_bit: usize) -> Self
         requires width { Self.valid }
         requires within { start_bit + Self.BITS ≤ 16 }
-        ensures value { Self.number result ≡ val Self.IS_SIGNED (items start_bit Self.BITS (bits 16 value)) }
-        ensures field { IsField start_bit Self.BITS value (Self.number result) }
+        ensures { Self.number result ≡ val Self.IS_SIGNED (items start_bit Self.BITS (bits 16 value)) }
     {
         Self::from_kept(extraction::extract(value, start_bit, Self::BITS))
     }
@@ -498,8 +500,7 @@ pub trait FixedWidth: Integer {
     final fn extract_i32(value: i32, start_bit: usize) -> Self
         requires width { Self.valid }
         requires within { start_bit + Self.BITS ≤ 32 }
-        ensures value { Self.number result ≡ val Self.IS_SIGNED (items start_bit Self.BITS (bits 32 value)) }
-        ensures field { IsField start_bit Self.BITS value (Self.number result) }
+        ensures { Self.number result ≡ val Self.IS_SIGNED (items start_bit Self.BITS (bits 32 value)) }
     {
         Self::from_kept(extraction::extract(value, start_bit, Self::BITS))
     }
@@ -508,8 +509,7 @@ pub trait FixedWidth: Integer {
     final fn extract_i64(value: i64, start_bit: usize) -> Self
         requires width { Self.valid }
         requires within { start_bit + Self.BITS ≤ 64 }
-        ensures value { Self.number result ≡ val Self.IS_SIGNED (items start_bit Self.BITS (bits 64 value)) }
-        ensures field { IsField start_bit Self.BITS value (Self.number result) }
+        ensures { Self.number result ≡ val Self.IS_SIGNED (items start_bit Self.BITS (bits 64 value)) }
     {
         Self::from_kept(extraction::extract(value, start_bit, Self::BITS))
     }
@@ -518,8 +518,7 @@ pub trait FixedWidth: Integer {
     final fn extract_i128(value: i128, start_bit: usize) -> Self
         requires width { Self.valid }
         requires within { start_bit + Self.BITS ≤ 128 }
-        ensures value { Self.number result ≡ val Self.IS_SIGNED (items start_bit Self.BITS (bits 128 value)) }
-        ensures field { IsField start_bit Self.BITS value (Self.number result) }
+        ensures { Self.number result ≡ val Self.IS_SIGNED (items start_bit Self.BITS (bits 128 value)) }
     {
         Self::from_kept(extraction::extract(value, start_bit, Self::BITS))
     }

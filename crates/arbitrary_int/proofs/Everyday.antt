@@ -1,13 +1,19 @@
 -- For callers: what no single call can say, as one set to name: `#[tactic(auto, using(arbitrary_int::proofs::Everyday::everyday))]`.
-use Rattle.std.specs.Prelude.{◌≡◌, ℕ, ◌+◌, ◌*◌, ◌/◌, ◌%◌, ◌^◌, ◌<◌}
+use Rattle.std.specs.Prelude.{◌≡◌, ℕ, ℤ, Bool, ◌+◌, ◌*◌, ◌/◌, ◌%◌, ◌^◌, ◌≤◌, ◌<◌}
 use Rattle.std.specs.Int.Bits.{bit_or}
 use Rattle.std.proofs.Common.{arith, ap, sym, ◌∙◌, mod-eq_of_lt}
 use Rattle.std.proofs.lemmas.Grind.{low_zeros, or_after_shift}
-use Rattle.arbitrary_base.proofs.Wrap.{wrap-congruent, wrap-of_in_range}
+use Rattle.arbitrary_base.specs.Range.{InRange}
+use Rattle.arbitrary_base.specs.Residue.{wrap}
+use Rattle.arbitrary_base.proofs.Wrap.{wrap-congruent, wrap-of_in_range, wrap-same}
 use Rattle.arbitrary_base.proofs.Clamp.{clamp-fits}
 use Rattle.arbitrary_base.proofs.BitNumber.{length-bits}
 use Rattle.arbitrary_base.proofs.BitValue.{num-bits_residue, val-bits_in_range}
 use Rattle.arbitrary_base.proofs.LawProof.{in_range-tells, sums-associate}
+
+-- to a type of the other sign, and back
+pub wrap-wrap : (s t : Bool) (B : ℕ) (x : ℤ) → 1 ≤ B → InRange s B x → wrap s B (wrap t B x) ≡ x
+wrap-wrap s t B x h f = wrap-same s B (wrap t B x) x h (wrap-congruent t B x) ∙ wrap-of_in_range s B x h f
 
 regroup : (x m d y : ℕ) → x * (m * d) + y * d ≡ (x * m + y) * d
 regroup x m d y = grind arith
@@ -22,4 +28,4 @@ or_three x c w y d v b p q e f g h k =
     let n : (x * (c / d) + y) * d % ((x * (c / d) + y) * d + 1) ≡ (x * (c / d) + y) * d = mod-eq_of_lt (omega arith) in
     ap (λ (n : ℕ). bit_or n b) (first ∙ z ∙ sym n) ∙ or_after_shift (x * (c / d) + y) d ((x * (c / d) + y) * d + 1) b q g (omega arith) ∙ ap (λ (n : ℕ). n + b) (sym z)
 
-pub ruleset everyday = (wrap-of_in_range, wrap-congruent, clamp-fits, length-bits, num-bits_residue, val-bits_in_range, in_range-tells, sums-associate, or_three)
+pub ruleset everyday = (wrap-of_in_range, wrap-congruent, wrap-wrap, clamp-fits, length-bits, num-bits_residue, val-bits_in_range, in_range-tells, sums-associate, or_three)

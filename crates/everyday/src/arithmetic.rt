@@ -65,11 +65,19 @@ pub fn borrow(a: u4, b: u4) -> bool
 }
 
 pub fn next(x: u4) -> u4 {
-    if x < u4::max_value() { x + u4::new(1) } else { u4::new(0) }
+    if x < u4::max_value() {
+        x + u4::new(1)
+    } else {
+        u4::new(0)
+    }
 }
 
 pub fn next_by_number(x: u4) -> u4 {
-    if x.value() < 15 { x + u4::new(1) } else { u4::new(0) }
+    if x.value() < 15 {
+        x + u4::new(1)
+    } else {
+        u4::new(0)
+    }
 }
 
 pub fn less_three(x: u4) -> u4 {
@@ -123,7 +131,11 @@ pub fn quotient(a: u12) -> u12
 }
 
 pub fn absolute(x: i12) -> i12 {
-    if x.is_negative() && x != i12::min_value() { -x } else { x }
+    if x.is_negative() && x != i12::min_value() {
+        -x
+    } else {
+        x
+    }
 }
 
 // ---- of types with a sign

@@ -1,3 +1,6 @@
+use Rattle.std.specs.Prelude.{Bool}
+use Rattle.std.proofs.Common.{subst}
+use Rattle.arbitrary_base.specs.Range.{InRange}
 use Rattle.std.specs.Prelude.{◌%◌, ◌≤◌}
 use Rattle.std.proofs.Common.{arith}
 use Rattle.arbitrary_base.proofs.Undone.{rotl-undoes}
@@ -9,3 +12,7 @@ returns-clause-undo g c y f d =
     let o = c.kept.ensures.some in
     let l : c.args.amount % g.Self.Integer.BITS ≤ g.Self.Integer.BITS = omega arith in
     rotl-undoes _ _ (c.args.amount % g.Self.Integer.BITS) _ _ y o l f d (cc)
+
+pub returns-clause-range : goal.returns-clause-range
+returns-clause-range g c =
+    subst (λ (s : Bool). InRange s g.Self.Integer.BITS (g.Self.Integer.number c.args.self)) g.met.Self.FixedWidth.sign_law c.kept.ensures.range

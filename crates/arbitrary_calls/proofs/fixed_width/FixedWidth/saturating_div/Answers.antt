@@ -8,4 +8,4 @@ pub returns-clause-above : goal.returns-clause-above
 returns-clause-above g c f = let t = g.met.Self.FixedWidth.sign_law in clamped-above _ _ _ _ c.kept.ensures.some f (cc)
 
 pub returns-clause-below : goal.returns-clause-below
-returns-clause-below g c f = let t = g.met.Self.FixedWidth.sign_law in clamped-below _ _ _ _ f (cc)
+returns-clause-below g c f = let t = g.met.Self.FixedWidth.sign_law in clamped-below g.Self.Integer.IS_SIGNED g.Self.Integer.BITS _ _ f (cc)

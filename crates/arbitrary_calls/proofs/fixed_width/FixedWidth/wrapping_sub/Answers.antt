@@ -1,3 +1,6 @@
+use Rattle.std.specs.Prelude.{Bool}
+use Rattle.std.proofs.Common.{subst}
+use Rattle.arbitrary_base.specs.Range.{InRange}
 use Rattle.arbitrary_base.proofs.Wrapped.{wrapped-kept}
 use Rattle.arbitrary_base.proofs.Undone.{sub-undoes}
 use Rattle.arbitrary_calls.proofs.fixed_width.FixedWidth.wrapping_sub.Goals as goal
@@ -7,3 +10,7 @@ returns-clause-kept g c f = let t = g.met.Self.FixedWidth.sign_law in wrapped-ke
 
 pub returns-clause-undo : goal.returns-clause-undo
 returns-clause-undo g c y f d = let t = g.met.Self.FixedWidth.sign_law in sub-undoes _ _ _ (g.Self.Integer.number c.args.rhs) _ y c.kept.ensures.some f d (cc)
+
+pub returns-clause-range : goal.returns-clause-range
+returns-clause-range g c =
+    subst (λ (s : Bool). InRange s g.Self.Integer.BITS (g.Self.Integer.number c.args.self)) g.met.Self.FixedWidth.sign_law c.kept.ensures.range
