@@ -1,8 +1,15 @@
 #!/usr/bin/env bash
 # Checks the short names and the examples of the documents, then proves, tests and runs everything from nothing, and tries each
-# edit that must be refused.
+# edit that must be refused. Last it runs the program on damaged and on random inputs, as both compilers have just built it.
 set -euo pipefail
 cd "$(dirname "$0")"
 python3 tools/short_names.py
 python3 tools/document_examples.py
-exec rt ci
+log="$(mktemp)"
+trap 'rm -f "$log"' EXIT
+rt ci | tee "$log"
+programs=(crates/bitrun/out/bitrun crates/bitrun/out/bitrun.by-rattle)
+python3 tools/endings.py "${programs[@]}"
+python3 tools/fuzz.py "${programs[@]}"
+# how `rt ci` ended: 'N passed, 0 failed'
+tail -n 1 "$log"
