@@ -1,6 +1,7 @@
 #!/usr/bin/env bash
 # Checks the short names, the examples of the documents, the count of the definitions and bitrun.sh, then proves, tests and runs
-# everything from nothing, and tries each edit that must be refused.
+# everything from nothing, and tries each edit that must be refused. Last it runs the program on damaged and on random inputs, as
+# both compilers have just built it.
 set -euo pipefail
 unset CDPATH
 cd -- "$(dirname -- "$0")"
@@ -8,4 +9,11 @@ python3 tools/short_names.py
 python3 tools/document_examples.py
 python3 tools/believed.py
 python3 tools/bitrun_cases.py
-exec rt ci
+log="$(mktemp)"
+trap 'rm -f "$log"' EXIT
+rt ci | tee "$log"
+programs=(crates/bitrun/out/bitrun crates/bitrun/out/bitrun.by-rattle)
+python3 tools/endings.py "${programs[@]}"
+python3 tools/fuzz.py "${programs[@]}"
+# how `rt ci` ended: 'N passed, 0 failed'
+tail -n 1 "$log"
