@@ -89,7 +89,10 @@ fn the_narrow_registers_are_told_after_a_stop_too(rt: HostRuntime) {
     let mut narrow = [u7::new(0), u7::new(0)];
     let why = Why::Refused;
     assert!(rt; well_formed(&steps, 2));
-    assert_eq!(rt; run_wide(&steps, &mut wide, &mut narrow), Err(Stop { at: 0, why }));
+    assert_eq!(rt;
+        run_wide(&steps, &mut wide, &mut narrow),
+        Err(Stop { at: 0, why })
+    );
     assert_eq!(rt; wide, [u14::new(200), u14::new(16383)]);
     assert_eq!(rt; narrow, [u7::new(72), u7::new(127)]);
 }
