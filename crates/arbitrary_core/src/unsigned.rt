@@ -1,14 +1,14 @@
 //! Unsigned integers of any width.
 
-ghost use Rattle.std.specs.Prelude.{◌≡◌, ◌↔◌, ◌<◌, ◌≤◌, ◌+◌, ◌/◌, ◌%◌, ◌-ℤ◌, ◌^◌, pos, unsigned_abs, IsTrue, MatchResult, ⊤};
+ghost use Rattle.std.specs.Prelude.{◌≡◌, ◌↔◌, ◌<◌, ◌≤◌, ◌+◌, ◌/◌, ◌%◌, ◌-ℤ◌, ◌^◌, pos, unsigned_abs, IsTrue, MatchResult, ⊤, neg_ℤ};
 ghost use Rattle.arbitrary_base.specs.Range.{InRange, IsValidWidth};
 ghost use Rattle.arbitrary_base.specs.Residue.{wrap};
 ghost use Rattle.arbitrary_base.specs.BitList.{bits, items, val};
 
 use arbitrary_base::error::TryNewError;
-use arbitrary_base::extraction;
 use arbitrary_base::narrowing::{convert, is_in_range, ones};
 use arbitrary_base::storage::UnsignedStorage;
+use arbitrary_base::{extraction, wrapping};
 use std::alloc::AllocError;
 use std::marker::Model;
 
@@ -175,5 +175,12 @@ impl<T: UnsignedStorage, const BITS: usize> UInt<T, BITS> {
         ensures { result ≡ pos value }
     {
         UInt::new(convert(value, BITS))
+    }
+
+    /// The negated number, wrapped.
+    pub fn wrapping_neg(self) -> Self
+        ensures { result ≡ wrap T.SIGNED BITS (neg_ℤ self) }
+    {
+        UInt::new(wrapping::neg(self.value(), BITS))
     }
 }

@@ -15,7 +15,7 @@ use Rattle.arbitrary_int.specs.Widths.{IsLowBitTwo, IsLowBitOne, IsLowBitBy, IsL
 use Rattle.arbitrary_int.specs.declared.steps.TwoOp.{TwoOp}
 use Rattle.arbitrary_int.specs.declared.steps.TwoOp.TheVariants.{WrappingAdd, WrappingSub, WrappingMul, And, Or, Xor}
 use Rattle.arbitrary_int.specs.declared.steps.OneOp.{OneOp}
-use Rattle.arbitrary_int.specs.declared.steps.OneOp.TheVariants.{Not}
+use Rattle.arbitrary_int.specs.declared.steps.OneOp.TheVariants.{Not, WrappingNeg}
 use Rattle.arbitrary_int.specs.declared.steps.ByOp.{ByOp}
 use Rattle.arbitrary_int.specs.declared.steps.ByOp.TheVariants.{WrappingShl}
 use Rattle.arbitrary_int.specs.declared.steps.Step.{Step}
@@ -44,6 +44,11 @@ low-two_meaning s t A B op x y h g l = absurd l
 low-one_meaning : (s t : Bool) (A B : ℕ) (op : OneOp) (x : ℤ) → 1 ≤ A → A ≤ B → IsLowBitOne op
     → LowAnswer s A (one_meaning t B op x) (one_meaning s A op (wrap s A x))
 low-one_meaning s t A B Not x h g l = record { number = val t (bits_not (bits B x)); wide_is = refl; narrow_is = ap Ok (sym (low-not s t A B x h g)) }
+low-one_meaning s t A B WrappingNeg x h g l = record {
+  number = wrap t B (pos 0 -ℤ x);
+  wide_is = refl;
+  narrow_is = ap Ok (sym (low-difference s t A B (pos 0) x h g ∙ ap (λ (z : ℤ). wrap s A (z -ℤ wrap s A x)) (wrap-zero s A h)));
+}
 low-one_meaning s t A B op x h g l = absurd l
 
 low-by_meaning : (s t : Bool) (A B : ℕ) (op : ByOp) (x : ℤ) (amount : ℕ) → 1 ≤ A → A ≤ B → IsLowBitBy A op amount

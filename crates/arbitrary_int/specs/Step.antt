@@ -9,7 +9,7 @@ use Rattle.arbitrary_base.specs.BitList.{bits, val, bits_and, bits_or, bits_xor,
 use Rattle.arbitrary_int.specs.declared.steps.TwoOp.{TwoOp}
 use Rattle.arbitrary_int.specs.declared.steps.TwoOp.TheVariants.{WrappingAdd, WrappingSub, WrappingMul, WrappingDiv, SaturatingAdd, SaturatingSub, SaturatingMul, SaturatingDiv, CheckedAdd, CheckedSub, CheckedMul, CheckedDiv, And, Or, Xor}
 use Rattle.arbitrary_int.specs.declared.steps.OneOp.{OneOp}
-use Rattle.arbitrary_int.specs.declared.steps.OneOp.TheVariants.{Not, ReverseBits}
+use Rattle.arbitrary_int.specs.declared.steps.OneOp.TheVariants.{Not, ReverseBits, WrappingNeg}
 use Rattle.arbitrary_int.specs.declared.steps.ByOp.{ByOp}
 use Rattle.arbitrary_int.specs.declared.steps.ByOp.TheVariants.{WrappingShl, WrappingShr, CheckedShl, CheckedShr, RotateLeft, RotateRight, SaturatingPow}
 use Rattle.arbitrary_int.specs.declared.steps.Step.{Step}
@@ -55,6 +55,7 @@ two_meaning s B Xor x y = Ok (val s (bits_xor (bits B x) (bits B y)))
 abbrev pub one_meaning : Bool → ℕ → OneOp → ℤ → Result ℤ Why
 one_meaning s B Not x = Ok (val s (bits_not (bits B x)))
 one_meaning s B ReverseBits x = Ok (val s (reverse (bits B x)))
+one_meaning s B WrappingNeg x = Ok (wrap s B (pos 0 -ℤ x))
 
 -- what an operation makes of the number x by an amount
 abbrev pub by_meaning : Bool → ℕ → ByOp → ℤ → ℕ → Result ℤ Why

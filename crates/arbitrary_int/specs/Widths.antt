@@ -4,7 +4,7 @@ use Rattle.arbitrary_base.specs.Range.{lo, hi}
 use Rattle.arbitrary_int.specs.declared.steps.TwoOp.{TwoOp}
 use Rattle.arbitrary_int.specs.declared.steps.TwoOp.TheVariants.{WrappingAdd, WrappingSub, WrappingMul, CheckedAdd, CheckedSub, CheckedMul, CheckedDiv, And, Or, Xor}
 use Rattle.arbitrary_int.specs.declared.steps.OneOp.{OneOp}
-use Rattle.arbitrary_int.specs.declared.steps.OneOp.TheVariants.{Not}
+use Rattle.arbitrary_int.specs.declared.steps.OneOp.TheVariants.{Not, WrappingNeg}
 use Rattle.arbitrary_int.specs.declared.steps.ByOp.{ByOp}
 use Rattle.arbitrary_int.specs.declared.steps.ByOp.TheVariants.{WrappingShl}
 use Rattle.arbitrary_int.specs.declared.steps.Step.{Step}
@@ -24,6 +24,7 @@ IsLowBitTwo op = ⊥
 
 abbrev pub IsLowBitOne : OneOp → Type 0
 IsLowBitOne Not = Unit {0}
+IsLowBitOne WrappingNeg = Unit {0}
 IsLowBitOne op = ⊥
 
 abbrev pub IsLowBitBy : ℕ → ByOp → ℕ → Type 0

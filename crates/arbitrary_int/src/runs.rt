@@ -1,7 +1,8 @@
 //! Lists of steps on registers.
 
-ghost use Rattle.std.specs.Prelude.{◌≡◌, ◌↔◌, ◌<◌, ℕ, Bool, map, length, pos, IsTrue, MatchResult, Ok, Err};
+ghost use Rattle.std.specs.Prelude.{◌≡◌, ◌↔◌, ◌<◌, ℕ, Bool, map, length, pos, ◌-ℤ◌, IsTrue, MatchResult, Ok, Err};
 ghost use Rattle.std.specs.Ordering.{int_eq};
+ghost use Rattle.arbitrary_base.specs.Residue.{wrap};
 ghost use Rattle.arbitrary_int.specs.Step.{StepWithin, answer_of, by_meaning, meaning, one_meaning, target_of, two_meaning};
 ghost use Rattle.arbitrary_int.specs.Run.{RunOf, WellFormed};
 ghost use Rattle.arbitrary_int.specs.Widths.{OnlyCheckedArithmetic, RangeWithin, carried_out};
@@ -93,6 +94,15 @@ fn two<R: FixedWidth>(op: TwoOp, x: R, y: R) -> Result<R, Why>
     }
 }
 
+/// The negated number, wrapped.
+fn negated<R: FixedWidth>(x: R) -> R
+    ensures { R.number result ≡ wrap R.IS_SIGNED R.BITS (pos 0 -ℤ R.number x) }
+{
+    // shows that the width is valid
+    let _pattern = x.extended();
+    R::zero().wrapping_sub(x)
+}
+
 /// What an operation makes of one value.
 #[tactic(auto, using(crate::proofs::StepLemmas::answers))]
 fn one<R: FixedWidth>(op: OneOp, x: R) -> R
@@ -101,6 +111,7 @@ fn one<R: FixedWidth>(op: OneOp, x: R) -> R
     match op {
         OneOp::Not => !x,
         OneOp::ReverseBits => x.reverse_bits(),
+        OneOp::WrappingNeg => negated(x),
     }
 }
 

@@ -29,6 +29,8 @@ pub enum TwoOp {
 pub enum OneOp {
     Not,
     ReverseBits,
+    /// The negated number, wrapped.
+    WrappingNeg,
 }
 
 /// What a step makes of one register and an amount.

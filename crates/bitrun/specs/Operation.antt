@@ -29,13 +29,14 @@ operation_named word =
     if bytes_eq word (codes "xor") then Some (operations.Two twos.Xor) else (
     if bytes_eq word (codes "not") then Some (operations.One ones.Not) else (
     if bytes_eq word (codes "rev") then Some (operations.One ones.ReverseBits) else (
+    if bytes_eq word (codes "neg") then Some (operations.One ones.WrappingNeg) else (
     if bytes_eq word (codes "wshl") then Some (operations.By bys.WrappingShl) else (
     if bytes_eq word (codes "wshr") then Some (operations.By bys.WrappingShr) else (
     if bytes_eq word (codes "cshl") then Some (operations.By bys.CheckedShl) else (
     if bytes_eq word (codes "cshr") then Some (operations.By bys.CheckedShr) else (
     if bytes_eq word (codes "rotl") then Some (operations.By bys.RotateLeft) else (
     if bytes_eq word (codes "rotr") then Some (operations.By bys.RotateRight) else (
-    if bytes_eq word (codes "spow") then Some (operations.By bys.SaturatingPow) else None)))))))))))))))))))))))
+    if bytes_eq word (codes "spow") then Some (operations.By bys.SaturatingPow) else None))))))))))))))))))))))))
 
 infixl 10 ◌>>=◌
 abbrev pub ◌>>=◌ : {A B : Type 0} → Option A → (A → Option B) → Option B

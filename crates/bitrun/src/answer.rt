@@ -10,7 +10,7 @@ ghost use Rattle.bitrun.specs.Answer.{after_space, cause_text, ending_text, regi
 
 use crate::decimal::push_decimal;
 use crate::fault::Fault;
-use crate::kind::{Kind, WidePair, RegisterType, kind_named};
+use crate::kind::{Kind, RegisterType, WidePair, kind_named};
 use crate::parsing::{registers, steps};
 use crate::text::Cursor;
 use arbitrary_int::traits::{FixedWidth, Integer};

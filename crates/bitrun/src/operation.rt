@@ -44,7 +44,7 @@ fn operation_named(word: &[u8]) -> Option<Operation>
         b'a' => and_named(name),
         b'o' => or_named(name),
         b'x' => xor_named(name),
-        b'n' => not_named(name),
+        b'n' => complement_or_negation_named(name),
         _ => None,
     }
 }
@@ -159,11 +159,13 @@ fn xor_named(name: &[u8]) -> Option<Operation>
 }
 
 #[tactic(auto, unfolding(crate::specs::Operation::operation_named))]
-fn not_named(name: &[u8]) -> Option<Operation>
+fn complement_or_negation_named(name: &[u8]) -> Option<Operation>
     ensures { result ≡ operation_named (codes "n" ++ name.now) }
 {
     if name == b"ot".as_slice() {
         Some(Operation::One(OneOp::Not))
+    } else if name == b"eg".as_slice() {
+        Some(Operation::One(OneOp::WrappingNeg))
     } else {
         None
     }

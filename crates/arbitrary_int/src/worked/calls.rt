@@ -82,6 +82,7 @@ fn arithmetic(rt: HostRuntime) {
         (i14::new(-8192), true)
     );
     assert_eq!(rt; i7::new(-64).wrapping_neg(), i7::new(-64));
+    assert_eq!(rt; u7::new(5).wrapping_neg(), u7::new(123));
     assert_eq!(rt; i7::new(-64).saturating_neg(), i7::new(63));
     assert_eq!(rt; i7::new(-64).checked_neg(), None);
     assert_eq!(rt; i7::new(-64).overflowing_neg(), (i7::new(-64), true));

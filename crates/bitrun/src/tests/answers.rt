@@ -13,7 +13,7 @@ const WIDE: &[u8] = b"wide u14 i7\n200 300\nwmul 0 0 1\nnot 1 1\n";
 
 #[test]
 fn answers(rt: HostRuntime) -> Result<(), Fail> {
-    let rows: [(&[u8], &[u8]); 26] = [
+    let rows: [(&[u8], &[u8]); 31] = [
         (STOPPED, b"100 50 22\nstopped at 1: refused\n"),
         (b"run u7\n\n", b"\ndone\n"),
         (b"run u14\n16383 200\nwadd 0 0 1", b"199 200\ndone\n"),
@@ -73,6 +73,14 @@ fn answers(rt: HostRuntime) -> Result<(), Fail> {
             b"200 16383\n72 127\nstopped at 0: refused\n",
         ),
         (b"wide i14 u7\n\n", b"\n\ndone\n"),
+        (b"run u7\n5 0\nneg 0 0\nneg 1 1", b"123 0\ndone\n"),
+        (b"run i7\n-64\nneg 0 0", b"-64\ndone\n"),
+        (b"run i1\n-1\nneg 0 0", b"-1\ndone\n"),
+        (b"wide u14 i7\n200\nneg 0 0", b"16184\n56\ndone\n"),
+        (
+            b"wide i14 u7\n-8192 1\nneg 0 0\nneg 1 1",
+            b"-8192 -1\n0 127\ndone\n",
+        ),
     ];
     for (input, answer) in rows {
         let mut reader = Watched::new(input);
