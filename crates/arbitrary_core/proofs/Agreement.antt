@@ -1,5 +1,5 @@
 -- Equality of whole numbers, for the law that equality, order and hash agree.
-use Rattle.std.specs.Prelude.{◌≡◌, ◌↔◌, ℤ, IsTrue}
+use Rattle.std.specs.Prelude.{◌≡◌, ℤ, IsTrue}
 use Rattle.std.specs.Ordering.{int_eq}
 use Rattle.std.proofs.lemmas.Bool.Decides.{Decides-int_eq}
 use Rattle.std.proofs.Common.{ap}
