@@ -1,11 +1,13 @@
 -- The laws of what wraps and of bit lists, as statements. `laws` proves them.
 use Rattle.std.specs.Prelude.{◌≡◌, ◌≢◌, ◌↔◌, ℕ, ℤ, Bool, List, Option, Some, None, pos, length, reverse, int_div, IsTrue, if◌then◌else◌, ◌||◌, ◌+◌, ◌≤◌, ◌*◌, ◌+ℤ◌, ◌*ℤ◌}
 use Rattle.std.specs.Ordering.{int_eq}
+use Rattle.std.specs.List.{fold, last_or}
 use Rattle.arbitrary_base.specs.Range.{InRange}
 use Rattle.arbitrary_base.specs.Residue.{Congruent, wrap}
 use Rattle.arbitrary_base.specs.Exact.{ExactOrNone, QuotientOrNone}
 use Rattle.arbitrary_base.specs.BitList.{bits, val, rotl, rotr, ones, front, tail, bits_not, items}
 use Rattle.arbitrary_base.specs.Bytes.{bytes, bytes_number, BorshBytes, Canonical}
+use Rattle.arbitrary_base.specs.Totals.{partials}
 
 -- ---- what `wrap` is
 
@@ -99,3 +101,9 @@ ValueOfBorsh = (s : Bool) (B : ℕ) (x : ℤ) → 1 ≤ B → InRange s B x → 
 
 abbrev pub BorshIsUnique : Type 0
 BorshIsUnique = (s : Bool) (B : ℕ) (x y : ℤ) → 1 ≤ B → InRange s B x → InRange s B y → BorshBytes B x ≡ BorshBytes B y → x ≡ y
+
+-- ---- sums and products of many numbers
+
+-- what all items leave is the last of the partial results
+abbrev pub TotalIsTheLastPartial : Type 0
+TotalIsTheLastPartial = (op : ℤ → ℤ → ℤ) (first : ℤ) (l : List ℤ) → last_or None (partials op first l) ≡ Some (fold op first l)
