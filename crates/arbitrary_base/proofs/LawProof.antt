@@ -1,6 +1,7 @@
 -- The laws of specs/Laws: those that no other proof needs are proved here, and `laws` cites all by these names.
-use Rattle.std.specs.Prelude.{◌≡◌, ◌≢◌, ◌↔◌, ℕ, zero, suc, ℤ, Bool, true, false, pos, Option, Some, None, int_div, IsTrue, if◌then◌else◌, ◌||◌, ◌+ℤ◌, ◌-ℤ◌, ◌*ℤ◌, ◌≤◌}
+use Rattle.std.specs.Prelude.{◌≡◌, ◌≢◌, ◌↔◌, ℕ, zero, suc, ℤ, Bool, true, false, pos, Option, Some, None, int_div, IsTrue, if◌then◌else◌, ◌||◌, ◌+ℤ◌, ◌-ℤ◌, ◌*ℤ◌, ◌≤◌, List, [], ◌∷◌}
 use Rattle.std.specs.Ordering.{int_eq}
+use Rattle.std.specs.List.{fold, last_or}
 use Rattle.std.proofs.Common.{arith, refl, ap, sym, ◌∙◌}
 use Rattle.std.proofs.lemmas.Int.{ints}
 use Rattle.std.proofs.lemmas.List.{reverse-reverse}
@@ -9,6 +10,7 @@ use Rattle.std.proofs.Math.IntN.{*ℤ_comm}
 use Rattle.arbitrary_base.specs.Range.{InRange, in_range, lo}
 use Rattle.arbitrary_base.specs.Residue.{Congruent, wrap}
 use Rattle.arbitrary_base.specs.Exact.{ExactOrNone, QuotientOrNone}
+use Rattle.arbitrary_base.specs.Totals.{partials}
 use Rattle.arbitrary_base.proofs.Ring.{add-mul_z, mul_assoc_z}
 use Rattle.arbitrary_base.proofs.Congruence.{Congruent-refl, Congruent-add, Congruent-mul}
 use Rattle.arbitrary_base.proofs.Wrap.{residue-lt, wrap-of_in_range, wrap-in_range, wrap-congruent, wrap-unique, wrap-same}
@@ -108,3 +110,7 @@ in_range-tells s B x = ((λ t. record { low = grind (arith, ints); high = grind 
 pub ruleset range_rules = (in_range-tells, clamp-fits, clamp-above, clamp-below)
 
 pub ruleset bit_list_rules = (length-bits, num-bits_residue, field-items, val-bits_in_range, bits-val, rotr-rotl, reverse-reverse, ones-not, prefix_len-le-length, tail-le, items-items)
+
+pub last-partials : (op : ℤ → ℤ → ℤ) (o : Option ℤ) (first : ℤ) (l : List ℤ) → last_or o (partials op first l) ≡ Some (fold op first l)
+last-partials op o first [] = refl
+last-partials op o first (x ∷ l) = last-partials op (Some first) (op first x) l

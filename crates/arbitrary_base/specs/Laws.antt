@@ -5,9 +5,11 @@ use Rattle.arbitrary_base.specs.Range.{InRange, in_range, lo, hi}
 use Rattle.arbitrary_base.specs.Residue.{Congruent, residue, wrap}
 use Rattle.arbitrary_base.specs.Field.{field}
 use Rattle.arbitrary_base.specs.Saturation.{clamp}
+use Rattle.std.specs.List.{fold, last_or}
 use Rattle.arbitrary_base.specs.Exact.{ExactOrNone, QuotientOrNone}
 use Rattle.arbitrary_base.specs.BitList.{bits, val, bits_and, bits_or, bits_xor, shl, rotl, rotr, ones, front, tail, bits_not, items, num}
 use Rattle.arbitrary_base.specs.Bytes.{bytes, bytes_number, BorshBytes, Canonical}
+use Rattle.arbitrary_base.specs.Totals.{partials}
 
 -- ---- what `wrap` is
 
@@ -164,3 +166,9 @@ ValueOfBorsh = (s : Bool) (B : ℕ) (x : ℤ) → 1 ≤ B → InRange s B x → 
 
 abbrev pub BorshIsUnique : Type 0
 BorshIsUnique = (s : Bool) (B : ℕ) (x y : ℤ) → 1 ≤ B → InRange s B x → InRange s B y → BorshBytes B x ≡ BorshBytes B y → x ≡ y
+
+-- ---- sums and products of many numbers
+
+-- what all items leave is the last of the partial results
+abbrev pub TotalIsTheLastPartial : Type 0
+TotalIsTheLastPartial = (op : ℤ → ℤ → ℤ) (first : ℤ) (l : List ℤ) → last_or None (partials op first l) ≡ Some (fold op first l)
