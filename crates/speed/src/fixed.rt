@@ -2,8 +2,8 @@
 
 use crate::rounds::{Call, Nothing, Operands, repeat};
 use arbitrary_calls::fixed_width::FixedWidth;
-use arbitrary_core::aliases::signed::i14;
-use arbitrary_core::aliases::unsigned::u7;
+use arbitrary_core::aliases::signed::{i7, i14};
+use arbitrary_core::aliases::unsigned::{u7, u14};
 
 struct WrappingSum;
 
@@ -71,6 +71,14 @@ impl<V: FixedWidth> Call<V> for OverflowingProduct {
     }
 }
 
+struct SaturatingPower;
+
+impl<V: FixedWidth> Call<V> for SaturatingPower {
+    fn answer(_x: V, y: V, amount: u32) -> V {
+        y.saturating_pow(amount)
+    }
+}
+
 struct Shifted;
 
 impl<V: FixedWidth> Call<V> for Shifted {
@@ -111,6 +119,18 @@ impl Call<u7> for Extracted {
     }
 }
 
+impl Call<i7> for Extracted {
+    fn answer(_x: i7, y: i7, amount: u32) -> i7 {
+        i7::extract_u32(amount, (y.to_bits() % 16) as usize)
+    }
+}
+
+impl Call<u14> for Extracted {
+    fn answer(_x: u14, y: u14, amount: u32) -> u14 {
+        u14::extract_u32(amount, (y.value() % 16) as usize)
+    }
+}
+
 impl Call<i14> for Extracted {
     fn answer(_x: i14, y: i14, amount: u32) -> i14 {
         i14::extract_u32(amount, (y.to_bits() % 16) as usize)
@@ -129,6 +149,7 @@ pub fn answers<V: FixedWidth>(call: &str, operands: &Operands<V>, rounds: u32) -
         "checked_mul" => Some(repeat::<V, CheckedProduct>(operands, rounds)),
         "saturating_mul" => Some(repeat::<V, SaturatingProduct>(operands, rounds)),
         "overflowing_mul" => Some(repeat::<V, OverflowingProduct>(operands, rounds)),
+        "saturating_pow" => Some(repeat::<V, SaturatingPower>(operands, rounds)),
         "wrapping_shl" => Some(repeat::<V, Shifted>(operands, rounds)),
         "rotate_left" => Some(repeat::<V, Rotated>(operands, rounds)),
         "reverse_bits" => Some(repeat::<V, Reversed>(operands, rounds)),
@@ -140,6 +161,16 @@ pub fn answers<V: FixedWidth>(call: &str, operands: &Operands<V>, rounds: u32) -
 /// The last answers of `u7::extract_u32`.
 pub fn extracts_u7(operands: &Operands<u7>, rounds: u32) -> [u7; 16] {
     repeat::<u7, Extracted>(operands, rounds)
+}
+
+/// The last answers of `i7::extract_u32`.
+pub fn extracts_i7(operands: &Operands<i7>, rounds: u32) -> [i7; 16] {
+    repeat::<i7, Extracted>(operands, rounds)
+}
+
+/// The last answers of `u14::extract_u32`.
+pub fn extracts_u14(operands: &Operands<u14>, rounds: u32) -> [u14; 16] {
+    repeat::<u14, Extracted>(operands, rounds)
 }
 
 /// The last answers of `i14::extract_u32`.

@@ -113,6 +113,18 @@ impl Call<u8> for Extracted {
     }
 }
 
+impl Call<i8> for Extracted {
+    fn answer(_x: i8, y: i8, amount: u32) -> i8 {
+        (((amount >> (y.cast_unsigned() % 16)) % 256) as u8).cast_signed()
+    }
+}
+
+impl Call<u16> for Extracted {
+    fn answer(_x: u16, y: u16, amount: u32) -> u16 {
+        ((amount >> (y % 16)) % 65536) as u16
+    }
+}
+
 impl Call<i16> for Extracted {
     fn answer(_x: i16, y: i16, amount: u32) -> i16 {
         (((amount >> (y.cast_unsigned() % 16)) % 65536) as u16).cast_signed()
@@ -153,6 +165,16 @@ pub fn answers<
 /// The last answers of a shift and a cast to `u8`.
 pub fn extracts_u8(operands: &Operands<u8>, rounds: u32) -> [u8; 16] {
     repeat::<u8, Extracted>(operands, rounds)
+}
+
+/// The last answers of a shift and a cast to `i8`.
+pub fn extracts_i8(operands: &Operands<i8>, rounds: u32) -> [i8; 16] {
+    repeat::<i8, Extracted>(operands, rounds)
+}
+
+/// The last answers of a shift and a cast to `u16`.
+pub fn extracts_u16(operands: &Operands<u16>, rounds: u32) -> [u16; 16] {
+    repeat::<u16, Extracted>(operands, rounds)
 }
 
 /// The last answers of a shift and a cast to `i16`.

@@ -1,11 +1,13 @@
 //! The loop around a call.
 
+ghost use Rattle.std.specs.Prelude.{◌≤◌};
+
 use arbitrary_traits::integer::Integer;
 
 /// A call on two values.
 pub trait Call<V> {
     /// Its answer. A call on one value is made on `y`, as `nothing` reads it too, and an answer that
-    /// is no value of the type picks one of the two. `amount` is any number.
+    /// is no value of the type picks one of the two. `amount` is one of the amounts of the operands.
     fn answer(x: V, y: V, amount: u32) -> V;
 }
 
@@ -23,6 +25,7 @@ impl<V: Drop> Call<V> for Nothing {
 pub struct Operands<V> {
     left: [V; 16],
     right: [V; 16],
+    amounts: [u32; 16],
 }
 
 /// Values of all sizes. The width is valid.
@@ -38,14 +41,29 @@ fn values<V: Integer>(seed: u128) -> [V; 16]
     values
 }
 
+/// Amounts below the limit.
+fn amounts_below(limit: u32) -> [u32; 16]
+    requires { 1 ≤ limit }
+{
+    let mut amounts = [0; 16];
+    let mut pattern = 5u128;
+    for i in 0..16 {
+        pattern = pattern.wrapping_mul(0x9e37_79b9_7f4a_7c15_f39c_c060_5ced_c835);
+        amounts[i] = ((pattern >> 64) % limit as u128) as u32;
+    }
+    amounts
+}
+
 impl<V: Integer> Operands<V> {
-    /// Values of all sizes. The width is valid.
-    pub fn new() -> Self
-        requires { V.valid }
+    /// Values of all sizes, and amounts below the limit. The width is valid.
+    pub fn new(limit: u32) -> Self
+        requires width { V.valid }
+        requires some { 1 ≤ limit }
     {
         Operands {
             left: values(1),
             right: values(3),
+            amounts: amounts_below(limit),
         }
     }
 }
@@ -60,7 +78,7 @@ pub fn repeat<V: Copy + Drop, C: Call<V>>(operands: &Operands<V>, rounds: u32) -
     for i in 0..rounds {
         let x = operands.left[(i % 16) as usize];
         let y = operands.right[(i / 16 % 16) as usize];
-        answers[(i % 16) as usize] = C::answer(x, y, i);
+        answers[(i % 16) as usize] = C::answer(x, y, operands.amounts[(i % 16) as usize]);
     }
     answers
 }
