@@ -25,14 +25,14 @@ PROVING = ROOT / 'crates/proving'
 
 
 def tables(page):
-    """The title of each table of a page, with its examples: an expression and its value."""
+    """The title of each table below one on a page, with its examples: an expression and its value."""
     title, examples = None, []
     for line in (ROOT / page).read_text().splitlines():
         if line.startswith('## '):
             if examples:
                 yield title, examples
             title, examples = line[3:], []
-        elif line.startswith('| `'):
+        elif title and line.startswith('| `'):
             cells = [cell.strip() for cell in re.split(r'(?<!\\)\|', line)[1:-1]]
             examples.append([cell.strip('`').replace('\\|', '|') for cell in cells[-2:]])
     if examples:

@@ -30,4 +30,3 @@ ones-unsigned false B W z d h g e =
     wrapped-kept false W (pos (2 ^ B) -ℤ pos 1) z (omega arith) (record { low = omega (arith, ints); high = omega (arith, ints) }) e
 
 pub ruleset wrapped = (wrap-of_in_range, wrap-congruent)
-

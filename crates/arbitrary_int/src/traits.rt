@@ -1,6 +1,8 @@
 //! The traits of the integer types.
 
-pub use arbitrary_base::storage::{BuiltinInteger, PatternOf, SignedOf, SignedStorage, Storage, UnsignedStorage};
+pub use arbitrary_base::storage::{
+    BuiltinInteger, PatternOf, SignedOf, SignedStorage, Storage, UnsignedStorage,
+};
 pub use arbitrary_calls::fixed_width::FixedWidth;
 pub use arbitrary_traits::integer::{Integer, SignedInteger, UnsignedInteger};
 pub use arbitrary_traits::shift_amount::ShiftAmount;
