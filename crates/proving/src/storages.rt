@@ -3,17 +3,17 @@
 use arbitrary_int::prelude::*;
 use arbitrary_int::traits::{PatternOf, SignedStorage, UnsignedStorage};
 
-/// Whether the number is 0, of a `UInt` of any storage and width.
-pub fn is_zero<T: UnsignedStorage, const BITS: usize>(number: UInt<T, BITS>) -> bool {
-    number.extended() == 0
+/// The number in its storage, of a `UInt` of any storage and width.
+pub fn stored<T: UnsignedStorage, const BITS: usize>(number: UInt<T, BITS>) -> T {
+    number.value()
 }
 
-/// Whether the number is -1, of an `Int` of any storage and width.
-pub fn is_minus_one<T: BuiltinInteger + SignedStorage, const BITS: usize>(
+/// Whether the number is below 0, of an `Int` of any storage and width.
+pub fn is_below_zero<T: BuiltinInteger + SignedStorage, const BITS: usize>(
     number: Int<T, BITS>,
 ) -> bool
 where
     T::Unsigned: PatternOf<T>,
 {
-    number.extended() == u128::MAX
+    number.is_negative()
 }
