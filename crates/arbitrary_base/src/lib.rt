@@ -6,7 +6,6 @@
 pub mod bitwise;
 pub mod byte_lists;
 pub mod checked;
-pub mod counts;
 pub mod ends;
 pub mod error;
 pub mod extraction;

