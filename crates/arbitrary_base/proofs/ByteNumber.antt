@@ -1,5 +1,5 @@
 -- The bytes of a number, and the number of bytes. Everything goes through the bytes by division.
-use Rattle.std.proofs.Common.{get_or, ◌≡◌, ℕ, zero, suc, ◌+◌, ◌-◌, ◌*◌, ◌/◌, ◌%◌, ◌^◌, ◌<◌, ◌≤◌, Bool, List, [], ◌∷◌, length, take, drop, pos, ℤ, refl, sym, ap, ◌∙◌, subst, arith, false, mod-eq_of_lt}
+use Rattle.std.proofs.Common.{get_or, ◌≡◌, ℕ, zero, suc, ◌+◌, ◌*◌, ◌/◌, ◌%◌, ◌^◌, ◌<◌, ◌≤◌, Bool, List, [], ◌∷◌, length, take, drop, pos, ℤ, refl, sym, ap, ◌∙◌, subst, arith, false, mod-eq_of_lt}
 use Rattle.std.proofs.Math.Nat.{pow-suc, div-div-eq-div-mul, div-one, mod-one}
 use Rattle.std.proofs.lemmas.Nat.{pow-add, mod-pow-add}
 use Rattle.std.proofs.lemmas.List.{get_or-drop, length-drop, reverse-reverse}

@@ -1,5 +1,5 @@
 -- One more read, and one more write.
-use Rattle.std.proofs.Common.{◌≡◌, ℕ, ◌+◌, ◌-◌, ◌<◌, ◌≤◌, List, ◌++◌, length, take, drop, Option, sym, ap, ◌∙◌, subst, arith, length-append, length-take, take-add, take_all, length-drop, min}
+use Rattle.std.proofs.Common.{◌≡◌, ℕ, ◌+◌, ◌-◌, ◌≤◌, List, ◌++◌, length, take, drop, Option, sym, ap, ◌∙◌, subst, arith, length-append, length-take, take-add, take_all, length-drop, min}
 use Rattle.std.specs.Io.KnownBytes.{Appends, Consumes}
 use Rattle.arbitrary_base.specs.Stream.{AppendsBeginning}
 use Rattle.std.proofs.KnownBytes.{Appends-trans, Consumes-trans}

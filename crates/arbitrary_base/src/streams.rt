@@ -1,6 +1,6 @@
 //! A known number of bytes in, and all of some bytes out. After a fault no call is made again.
 
-ghost use Rattle.std.specs.Prelude.{◌≡◌, length, IsTrue, OnOk, OnErr};
+ghost use Rattle.std.specs.Prelude.{length, IsTrue, OnOk, OnErr};
 ghost use Rattle.std.specs.Io.KnownBytes.{Appends, Consumes};
 ghost use Rattle.arbitrary_base.specs.Watching.{inner_of, has_failed};
 ghost use Rattle.arbitrary_base.specs.Stream.{AppendsBeginning, FailedOrShort};

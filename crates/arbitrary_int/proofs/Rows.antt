@@ -1,11 +1,10 @@
 -- Steps within a range, and numbers in a row.
-use Rattle.std.specs.Prelude.{◌≡◌, ℕ, zero, suc, ℤ, pos, negsuc, ◌+ℤ◌, ◌-ℤ◌, ◌≤ℤ◌, ◌<ℤ◌, ◌+◌, ◌*◌, ◌-◌, ◌^◌, ◌<◌, ◌≤◌, Bool, true, false, List, [], ◌∷◌, ◌++◌}
+use Rattle.std.specs.Prelude.{◌≡◌, ℕ, zero, suc, ℤ, pos, negsuc, ◌+ℤ◌, ◌-ℤ◌, ◌≤ℤ◌, ◌<ℤ◌, ◌+◌, ◌<◌, ◌≤◌, Bool, true, false, List, [], ◌∷◌, ◌++◌}
 use Rattle.std.proofs.Common.{refl, ap, sym, subst, ◌∙◌, arith, lit≤}
 use Rattle.std.proofs.lemmas.Int.{ints}
-use Rattle.std.proofs.lemmas.Nat.{pow_pos}
-use Rattle.arbitrary_base.specs.Range.{lo, hi, InRange}
+use Rattle.arbitrary_base.specs.Range.{InRange}
 use Rattle.arbitrary_base.specs.Residue.{Congruent, wrap}
-use Rattle.arbitrary_base.proofs.Congruence.{Congruent-add, Congruent-refl, Congruent-sym, Congruent-trans, Congruent-from_apart, Apart-from_congruent, span, pow_le}
+use Rattle.arbitrary_base.proofs.Congruence.{Congruent-add, Congruent-refl, Congruent-from_apart, Apart-from_congruent, span, pow_le}
 use Rattle.arbitrary_base.proofs.Wrap.{wrap-congruent, wrap-same, wrap-of_in_range}
 use Rattle.arbitrary_int.specs.Row.{row, natural, numbers, left}
 

@@ -1,5 +1,5 @@
 -- One more item of a sum or a product, and the number 1.
-use Rattle.std.specs.Prelude.{◌≡◌, ◌≤◌, ◌-◌, ◌^◌, ℕ, ℤ, pos, Bool, true, false, List, [], ◌∷◌, ◌++◌, map, Option, Some, None, MatchOption, ⊤}
+use Rattle.std.specs.Prelude.{◌≡◌, ◌≤◌, ◌-◌, ℕ, ℤ, pos, Bool, true, false, List, [], ◌∷◌, ◌++◌, map, Option, Some, None, MatchOption, ⊤}
 use Rattle.std.specs.List.{fold}
 use Rattle.std.specs.Iterator.{Yields, DrainsIf, AlwaysYields}
 use Rattle.std.specs.Iterator.Runs.{SomeRun, WholeRun}

@@ -1,5 +1,5 @@
 -- The fields of a frame, side by side in a word and taken out of it again.
-use Rattle.std.specs.Prelude.{◌≡◌, ◌+◌, ◌*◌, ◌/◌, ◌%◌, ◌^◌, ◌<◌, ◌≤◌, ℕ, ℤ, pos, ◌+ℤ◌, ◌*ℤ◌, Bool, true, false}
+use Rattle.std.specs.Prelude.{◌≡◌, ◌+◌, ◌^◌, ◌≤◌, ℕ, ℤ, pos, ◌+ℤ◌, ◌*ℤ◌, true, false}
 use Rattle.std.proofs.Common.{arith, ap, ◌∙◌, lit≤}
 use Rattle.std.proofs.lemmas.Int.{ints}
 use Rattle.arbitrary_int.specs.Range.{InRange}

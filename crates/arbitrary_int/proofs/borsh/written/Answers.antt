@@ -1,4 +1,4 @@
-use Rattle.std.proofs.Common.{◌∙◌, sym, ap, length, le_trans, ◌≡◌}
+use Rattle.std.proofs.Common.{◌∙◌, sym, ap, le_trans, ◌≡◌}
 use Rattle.arbitrary_base.specs.Residue.{residue}
 use Rattle.arbitrary_base.specs.Bytes.{byte_count}
 use Rattle.arbitrary_base.proofs.ByteNumber.{take-Borsh, length-Borsh}

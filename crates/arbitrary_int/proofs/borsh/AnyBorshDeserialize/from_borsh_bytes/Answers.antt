@@ -1,4 +1,4 @@
-use Rattle.std.proofs.Common.{◌∙◌, sym, ap, arith, length, rules, ℕ, subst, ◌<◌, ◌^◌, ◌%◌, mod-lt}
+use Rattle.std.proofs.Common.{◌∙◌, sym, ap, rules, ℕ, subst, ◌<◌, ◌^◌, ◌%◌, mod-lt}
 use Rattle.std.proofs.lemmas.Nat.{pow_pos}
 use Rattle.arbitrary_base.proofs.ByteNumber.{Borsh-wrap}
 use Rattle.arbitrary_int.proofs.borsh.AnyBorshDeserialize.from_borsh_bytes.Goals as goal
