@@ -1,7 +1,8 @@
 #!/usr/bin/env python3
 """instructions.py [BINARY] [--rounds N]
 
-Prints, as a Markdown table, how many instructions each call takes, counted by callgrind.
+Prints, as Markdown tables, how many instructions each call takes, counted by callgrind, and then those of a field of a
+record beside shifts and masks by hand: there the loop and the reading of the operands count on both sides.
 BINARY is the program of crates/speed, by default crates/speed/out/speed, which `rt run` leaves there.
 
 Each call is made by the same loop, run twice: the longer run has N more rounds, and what it takes more,
@@ -27,6 +28,9 @@ CALLS = [
     'wrapping_mul', 'checked_mul', 'saturating_mul', 'overflowing_mul',
     'wrapping_shl', 'rotate_left', 'reverse_bits', 'count_ones', 'extract_u32',
 ]
+# Each field, and the primitive by which the same is done by hand.
+FIELDS = ['u5', 'u8', 'u9', 'u16', 'i14', 'i16']
+PLACES = ['`u5` at 3', 'by hand', '`u9` at 60', 'by hand', '`i14` at 100', 'by hand']
 # The rounds of the shorter run; each pair of operands has its turn in 256.
 START = 256
 
@@ -57,6 +61,7 @@ def main():
         sys.exit(f'no program {options.binary}: run `rt run` in crates/speed first')
 
     cells = [(call, *column) for call in ['nothing'] + CALLS for column in TYPES]
+    cells += [(call, 'field', name) for call in ['get', 'put'] for name in FIELDS]
     with ThreadPoolExecutor(os.cpu_count()) as pool:
         counts = list(pool.map(lambda cell: a_round(options.binary, cell[1], cell[2], cell[0], options.rounds), cells))
     found = dict(zip(cells, counts))
@@ -69,6 +74,10 @@ def main():
             count = found[(call, *column)]
             row.append('-' if count is None else f"{count - found[('nothing', *column)]:.0f}")
         print(f'| `{call}` | ' + ' | '.join(row) + ' |')
+    print('\n| Round | ' + ' | '.join(PLACES) + ' |')
+    print('|---' + '|---:' * len(FIELDS) + '|')
+    for call in ['get', 'put']:
+        print(f'| `{call}` | ' + ' | '.join(f"{found[(call, 'field', name)]:.0f}" for name in FIELDS) + ' |')
 
 
 if __name__ == '__main__':
