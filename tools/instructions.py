@@ -1,7 +1,8 @@
 #!/usr/bin/env python3
 """instructions.py [BINARY] [--rounds N] [--without-c]
 
-Prints, as Markdown tables, how many instructions each call takes, counted by callgrind.
+Prints, as Markdown tables, how many instructions each call takes, counted by callgrind, and then those of a field of a
+record beside shifts and masks by hand: there the loop and the reading of the operands count on both sides.
 BINARY is the program of crates/speed, by default crates/speed/out/speed, which `rt run` leaves there.
 
 Beside it the script builds tools/calls.c on the spot, which makes the same calls in C: by hand over a primitive, with
@@ -46,6 +47,9 @@ ROWS = [(f'`{call}`', call, 1) for call in [
     ('`count_ones`', 'count_ones', 1),
     ('`extract_u32`', 'extract_u32', ANY),
 ]
+# Each field, and the primitive by which the same is done by hand.
+FIELDS = ['u5', 'u8', 'u9', 'u16', 'i14', 'i16']
+PLACES = ['`u5` at 3', 'by hand', '`u9` at 60', 'by hand', '`i14` at 100', 'by hand']
 # The rounds of the shorter run; each pair of operands has its turn in 256.
 START = 256
 
@@ -154,6 +158,11 @@ def main():
             for row in ROWS:
                 print(f'| {row[0]} | ' + ' | '.join(cells[row, at].result() for at in range(len(columns))) + ' |')
             print()
+    fields = [Library(options.binary, 'field', name) for name in FIELDS]
+    print('| Round | ' + ' | '.join(PLACES) + ' |')
+    print('|---' + '|---:' * len(FIELDS) + '|')
+    for call in ['get', 'put']:
+        print(f'| `{call}` | ' + ' | '.join(f'{a_round(field, call, 1, options.rounds):.0f}' for field in fields) + ' |')
 
 
 if __name__ == '__main__':

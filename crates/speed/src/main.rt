@@ -4,17 +4,22 @@
 //! 16 answers. The kind is `fixed`, with the types `u7`, `i7`, `u14`, `i14`, `u120`, `i120` and `i128`, or
 //! `primitive`, with `u8`, `i8`, `u16`, `i16`, `u128` and `i128`. The call is a method's name, or `nothing`.
 //! The amounts of shifts, the exponents and the sources of bits lie below the limit, which is at least 1.
+//!
+//! Of the kind `field` the types are `u5`, `u9` and `i14`, and for shifts and masks by hand `u8`, `u16` and
+//! `i16`; the calls are `get` and `put`, for which the limit says nothing.
 #![tactic(auto)]
 
 ghost use Rattle.std.specs.Prelude.{◌≤◌};
 
-use crate::rounds::Operands;
+use crate::fields::{gets, puts};
+use crate::rounds::{Operands, values};
 use anyhow::Context;
 use arbitrary_core::aliases::signed::{i7, i14, i120};
-use arbitrary_core::aliases::unsigned::{u7, u14, u120};
+use arbitrary_core::aliases::unsigned::{u5, u7, u9, u14, u120};
 use arbitrary_core::signed::Int;
 use std::fmt::Display;
 
+mod fields;
 mod fixed;
 mod primitive;
 mod rounds;
@@ -133,6 +138,24 @@ fn measure_primitive(
     }
 }
 
+fn measure_field(rt: &impl Print, name: &str, call: &str, rounds: u32) -> anyhow::Result<()> {
+    match (name, call) {
+        ("u5", "get") => show(rt, Some(gets::<u5>(rounds))),
+        ("u8", "get") => show(rt, Some(gets::<u8>(rounds))),
+        ("u9", "get") => show(rt, Some(gets::<u9>(rounds))),
+        ("u16", "get") => show(rt, Some(gets::<u16>(rounds))),
+        ("i14", "get") => show(rt, Some(gets::<i14>(rounds))),
+        ("i16", "get") => show(rt, Some(gets::<i16>(rounds))),
+        ("u5", "put") => show(rt, Some(puts(&values::<u5>(3), rounds))),
+        ("u8", "put") => show(rt, Some(puts(&values::<u8>(3), rounds))),
+        ("u9", "put") => show(rt, Some(puts(&values::<u9>(3), rounds))),
+        ("u16", "put") => show(rt, Some(puts(&values::<u16>(3), rounds))),
+        ("i14", "put") => show(rt, Some(puts(&values::<i14>(3), rounds))),
+        ("i16", "put") => show(rt, Some(puts(&values::<i16>(3), rounds))),
+        _ => anyhow::bail!("no such field"),
+    }
+}
+
 fn main(rt: HostRuntime) -> anyhow::Result<()> {
     let mut line = String::new(rt.alloc());
     rt.read_line(&mut line)?;
@@ -148,6 +171,7 @@ fn main(rt: HostRuntime) -> anyhow::Result<()> {
     match kind {
         "fixed" => measure_fixed(&rt, name, call, limit, rounds),
         "primitive" => measure_primitive(&rt, name, call, limit, rounds),
+        "field" => measure_field(&rt, name, call, rounds),
         _ => anyhow::bail!("no such kind"),
     }
 }

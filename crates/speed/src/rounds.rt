@@ -29,7 +29,7 @@ pub struct Operands<V> {
 }
 
 /// Values of all sizes. The width is valid.
-fn values<V: Integer>(seed: u128) -> [V; 16]
+pub fn values<V: Integer>(seed: u128) -> [V; 16]
     requires { V.valid }
 {
     let mut values = [V::zero(); 16];
