@@ -4,4 +4,4 @@ use Rattle.arbitrary_int.proofs.stepping.distance.Goals as goal
 pub returns : goal.returns
 returns g c =
     let w = g.met.V.Integer.width_law c.extended-first.ensures.width in
-    apart_by _ _ _ _ _ _ _ w.0 w.1 c.extended-first.ensures.range c.extended-last.ensures.range c.requires c.as_u128.ensures c.as_u128-2.ensures c.wrapping_sub.ensures
+    apart_by _ _ _ _ _ _ _ w.0 w.1 c.extended-first.ensures.range c.extended-last.ensures.range c.requires c.as_u128.ensures.value c.as_u128-2.ensures.value c.wrapping_sub.ensures
