@@ -1,5 +1,5 @@
 -- Runs of the same steps at two widths.
-use Rattle.std.specs.Prelude.{ℕ, ℤ, Bool, ◌<◌, ◌≤ℤ◌, List, take, All, Result, Ok, Err, ⊤}
+use Rattle.std.specs.Prelude.{ℕ, Bool, ◌<◌, ◌≤ℤ◌, List, take, All, Result, Ok, Err, ⊤}
 use Rattle.arbitrary_base.specs.Range.{lo, hi}
 use Rattle.arbitrary_int.specs.declared.steps.TwoOp.{TwoOp}
 use Rattle.arbitrary_int.specs.declared.steps.TwoOp.TheVariants.{WrappingAdd, WrappingSub, WrappingMul, CheckedAdd, CheckedSub, CheckedMul, CheckedDiv, And, Or, Xor}

@@ -1,4 +1,4 @@
-use Rattle.std.proofs.Common.{◌≡◌, ap, map}
+use Rattle.std.proofs.Common.{ap, map}
 use Rattle.arbitrary_int.proofs.WiderRuns.{wider-stop, wider-end}
 use Rattle.arbitrary_int.proofs.runs.run.Goals as goal
 

@@ -1,6 +1,5 @@
-use Rattle.std.proofs.Common.{◌≡◌, ◌<◌, ◌≤◌, length, map, ap, sym, ◌∙◌, arith}
+use Rattle.std.proofs.Common.{map, arith}
 use Rattle.std.proofs.lemmas.List.{length-map}
-use Rattle.arbitrary_int.specs.Run.{WellFormed}
 use Rattle.arbitrary_int.proofs.LowBitRuns.{low-registers, low-ending}
 use Rattle.arbitrary_int.proofs.widths.run_wide.Goals as goal
 
