@@ -86,6 +86,7 @@ fn decimals_at_narrower_widths(rt: HostRuntime) -> Result<(), Fail> {
 }
 
 /// A value by the traits of the four bases, which a format string does not call.
+#[derive(Drop)]
 struct Based<V> {
     value: V,
     base: u32,
@@ -191,7 +192,7 @@ fn wide_storages_in_other_bases(rt: HostRuntime) -> Result<(), Fail> {
     let (by_strings, by_traits) = bases(alloc, u65::new(60))?;
     assert_eq!(rt; by_strings.as_str(), "3c 3C 74 111100");
     assert_eq!(rt; by_traits.as_str(), by_strings.as_str());
-    let (by_strings, by_traits) = bases(alloc, u65::new(1 << 64))?;
+    let (by_strings, by_traits) = bases(alloc, u65::new(0x1_0000_0000_0000_0000))?;
     assert_eq!(rt;
         by_strings.as_str(),
         "10000000000000000 10000000000000000 2000000000000000000000 10000000000000000000000000000000000000000000000000000000000000000"
