@@ -25,15 +25,15 @@ pub struct Record {
 
 /// Writes the record, and nothing else. After a fault of the writer a beginning of the record was written.
 #[tactic(auto, using(crate::proofs::Records::writing))]
-pub fn write<W: Write>(record: Record, writer: &mut Watched<W>) -> io::Result<()>
-    ensures all { OnOk result (Appends (W.contents (inner_of writer.old)) (W.contents (inner_of writer.new)) (record_bytes record.time record.level record.source record.reading)) }
-    ensures begun { OnErr result (AppendsBeginning (W.contents (inner_of writer.old)) (W.contents (inner_of writer.new)) (record_bytes record.time record.level record.source record.reading)) }
+pub fn write<W: Write>(line: Record, writer: &mut Watched<W>) -> io::Result<()>
+    ensures all { OnOk result (Appends (W.contents (inner_of writer.old)) (W.contents (inner_of writer.new)) (record_bytes line.time line.level line.source line.reading)) }
+    ensures begun { OnErr result (AppendsBeginning (W.contents (inner_of writer.old)) (W.contents (inner_of writer.new)) (record_bytes line.time line.level line.source line.reading)) }
     ensures failed { OnErr result (IsTrue (has_failed writer.new)) }
 {
-    record.time.serialize(writer)?;
-    record.level.serialize(writer)?;
-    record.source.serialize(writer)?;
-    record.reading.serialize(writer)?;
+    line.time.serialize(writer)?;
+    line.level.serialize(writer)?;
+    line.source.serialize(writer)?;
+    line.reading.serialize(writer)?;
     Ok(())
 }
 
@@ -61,10 +61,10 @@ pub fn show(rt: &impl Print) -> io::Result<()> {
     ];
     let mut reader = Watched::new(log.as_slice());
     for _ in 0..2 {
-        let record = read(&mut reader)?;
+        let line = read(&mut reader)?;
         println!(rt;
             "{} {} {} {}",
-            record.time, record.level, record.source, record.reading
+            line.time, line.level, line.source, line.reading
         )?;
     }
     Ok(())
