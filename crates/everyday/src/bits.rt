@@ -149,22 +149,22 @@ pub fn three_by_plus(high: u6, middle: u5, low: u5) -> u16
     (high.as_u16() << 10) + (middle.as_u16() << 5) + low.as_u16()
 }
 
-// Three fields and more by `|` want the library's ruleset.
-#[tactic(auto, using(arbitrary_int::proofs::Everyday::everyday))]
+// Three fields by `|` want the library's rule, and `from_`.
+#[tactic(auto, using(arbitrary_int::proofs::Everyday::or_three))]
 pub fn three_by_or(high: u6, middle: u5, low: u5) -> u16
     ensures { pos result ≡ pos 1024 *ℤ high +ℤ pos 32 *ℤ middle +ℤ low }
 {
-    (high.as_u16() << 10) | (middle.as_u16() << 5) | low.as_u16()
+    (u16::from_(high) << 10) | (u16::from_(middle) << 5) | u16::from_(low)
 }
 
-#[tactic(auto, using(arbitrary_int::proofs::Everyday::everyday))]
+#[tactic(auto, using(arbitrary_int::proofs::Everyday::or_three))]
 pub fn three_fields_again(x: u16) -> u16
     ensures { result ≡ x }
 {
     let high = u6::extract_u16(x, 10);
     let middle = u5::extract_u16(x, 5);
     let low = u5::extract_u16(x, 0);
-    (high.as_u16() << 10) | (middle.as_u16() << 5) | low.as_u16()
+    (u16::from_(high) << 10) | (u16::from_(middle) << 5) | u16::from_(low)
 }
 
 pub fn field_by_name(x: u32) -> u5
@@ -180,21 +180,6 @@ pub fn nibble(x: u12) -> u4
 }
 
 // ---- of types with a sign
-
-pub fn signed_field(x: i16) -> i12
-    ensures low { (pos 16 *ℤ result) ≤ℤ x }
-    ensures high { x <ℤ (pos 16 *ℤ result +ℤ pos 16) }
-{
-    i12::extract_i16(x, 4)
-}
-
-pub fn field_of_a_signed_word(x: i16) -> u4
-    requires low { pos 0 ≤ℤ x }
-    requires high { x <ℤ pos 256 }
-    ensures { result ≡ int_div x (pos 16) }
-{
-    u4::extract_i16(x, 4)
-}
 
 pub fn signed_mask(x: i12) -> i12
     ensures low { pos 0 ≤ℤ result }
@@ -286,4 +271,10 @@ pub fn ones_and_zeros(x: i12) -> u32
 
 pub fn table_by_count(table: &[u8; 13], x: u12) -> u8 {
     table[x.trailing_ones() as usize]
+}
+
+pub fn four_by_plus(a: u4, b: u4, c: u4, d: u4) -> u16
+    ensures { pos result ≡ pos 4096 *ℤ a +ℤ pos 256 *ℤ b +ℤ pos 16 *ℤ c +ℤ d }
+{
+    (a.as_u16() << 12) + (b.as_u16() << 8) + (c.as_u16() << 4) + d.as_u16()
 }

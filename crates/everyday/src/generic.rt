@@ -46,15 +46,6 @@ pub fn rotated_back<V: FixedWidth>(a: V, amount: u32) -> V
     a.rotate_left(amount).rotate_right(amount)
 }
 
-// `extended` says that the number is in range, at a valid width.
-#[tactic(auto, using(arbitrary_int::proofs::Everyday::everyday))]
-pub fn unsigned_and_back<V: Integer>(a: V) -> V
-    ensures { V.number result ≡ V.number a }
-{
-    let _ = a.extended();
-    V::from_unsigned(a.to_unsigned())
-}
-
 pub fn smaller<V: FixedWidth>(a: V, b: V) -> bool
     ensures { IsTrue result ↔ (V.number a <ℤ V.number b) }
 {

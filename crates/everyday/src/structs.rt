@@ -9,11 +9,12 @@ use arbitrary_int::prelude::*;
 
 // ---- behind references, and in a field
 
-/// Counts up to 127.
+/// Counts up to 127. The test goes by the number: `value` says that it is in range, a comparison of what
+/// stands behind the reference does not.
 pub fn count(x: &mut u7)
     ensures { x.old ≤ℤ x.new }
 {
-    if *x < u7::new(127) {
+    if x.value() < 127 {
         *x += u7::new(1);
     }
 }
@@ -28,7 +29,7 @@ impl Timer {
     pub fn tick(&mut self)
         ensures { self.old.count ≤ℤ self.new.count }
     {
-        if self.count < u7::new(127) {
+        if self.count.value() < 127 {
             self.count += u7::new(1);
         }
     }
