@@ -1,4 +1,2 @@
 pub mod Samples
 pub mod Means
-pub mod Records
-pub mod Frames

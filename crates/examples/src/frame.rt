@@ -31,10 +31,10 @@ pub struct Frame {
 impl Frame {
     /// The fields of a frame's bytes.
     pub fn decode(bytes: [u8; 5]) -> Frame
-        ensures identifier { result.identifier ≡ field (network_number bytes.entry) 29 11 }
-        ensures length { result.length ≡ field (network_number bytes.entry) 24 4 }
-        ensures first { result.first ≡ wrap true 12 (field (network_number bytes.entry) 12 12) }
-        ensures second { result.second ≡ wrap true 12 (field (network_number bytes.entry) 0 12) }
+        ensures identifier { result.identifier ≡ field (network_number bytes) 29 11 }
+        ensures length { result.length ≡ field (network_number bytes) 24 4 }
+        ensures first { result.first ≡ wrap true 12 (field (network_number bytes) 12 12) }
+        ensures second { result.second ≡ wrap true 12 (field (network_number bytes) 0 12) }
     {
         let word = u64::from_(u40::from_be_bytes(bytes));
         Frame {
@@ -56,14 +56,6 @@ impl Frame {
             + u64::from_(self.second.to_unsigned());
         u40::new(word).to_be_bytes()
     }
-}
-
-/// What is received is what was sent.
-#[tactic(auto, using(crate::proofs::Frames::received))]
-pub fn sent_and_received(frame: Frame) -> Frame
-    ensures { result ≡ frame }
-{
-    Frame::decode(frame.encode())
 }
 
 /// Prints a frame's fields, and the bytes of another.
