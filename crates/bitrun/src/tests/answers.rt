@@ -163,8 +163,8 @@ fn memory_is_refused(rt: HostRuntime) -> Result<(), Fail> {
         (BAD, Err(Fault::Line(4))),
     ] {
         let mut refused = 0;
-        for step in 1..200usize {
-            let heap = LocalHeap::new(rt.alloc(), 32 * step)?;
+        for step in 1..800usize {
+            let heap = LocalHeap::new(rt.alloc(), 8 * step)?;
             let mut reader = Watched::new(input);
             let mut writer = Watched::new(Vec::new(rt.alloc()));
             let answer = serve_in(&heap, &mut reader, &mut writer);
@@ -176,7 +176,7 @@ fn memory_is_refused(rt: HostRuntime) -> Result<(), Fail> {
             assert!(rt; written.is_empty());
             refused = step;
         }
-        assert!(rt; refused > 3 && refused < 199, "refused {refused} times");
+        assert!(rt; refused > 3 && refused < 799, "refused {refused} times");
     }
     Ok(())
 }
