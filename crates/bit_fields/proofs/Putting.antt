@@ -1,23 +1,24 @@
 -- What a put leaves, from the pattern of the value's 128 bits.
-use Rattle.std.specs.Prelude.{◌≡◌, ℕ, ℤ, Bool, pos, ◌+◌, ◌≤◌, length}
-use Rattle.std.proofs.Common.{arith, refl, ap, sym, ◌∙◌}
+use Rattle.std.specs.Prelude.{◌≡◌, ℕ, ℤ, Bool, pos, ◌+◌, ◌-◌, ◌≤◌, ◌^◌, length}
+use Rattle.std.proofs.Common.{arith, ap, sym, bit_and, ◌∙◌}
+use Rattle.std.proofs.lemmas.Nat.{and_mask}
 use Rattle.arbitrary_int.specs.Range.{InRange}
 use Rattle.arbitrary_int.specs.Residue.{residue}
 use Rattle.arbitrary_int.specs.BitList.{bits, val}
 use Rattle.arbitrary_int.specs.BitField.{field_bits, with_field}
-use Rattle.arbitrary_int.proofs.Narrow.{wrap-residue}
+use Rattle.arbitrary_int.proofs.Narrow.{cut-residue}
 use Rattle.arbitrary_int.proofs.BitNumber.{length-bits}
-use Rattle.arbitrary_int.proofs.BitValue.{bits-wrap, val-bits_in_range}
+use Rattle.arbitrary_int.proofs.BitValue.{bits-residue, val-bits_in_range}
 use Rattle.arbitrary_int.proofs.BitField.{field-put, field-put_above, field-put_below}
 
--- the low bits of a number's 128 are its own
-bits-extended : (s : Bool) (width p : ℕ) (x : ℤ) → 1 ≤ width → width ≤ 128 → p ≡ residue 128 x → bits width (pos p) ≡ bits width x
-bits-extended s width p x h g e = sym (bits-wrap s width (pos p)) ∙ ap (bits width) (wrap-residue s width p x _ h g e refl) ∙ bits-wrap s width x
+-- the low bits of a number's 128 are its residue
+pub masked-is : (width p mask : ℕ) (x : ℤ) → (1 ≤ width) × (width ≤ 128) → p ≡ residue 128 x → mask + 1 ≡ 2 ^ width → bit_and p mask ≡ residue width x
+masked-is width p mask x w e m =
+    ap (bit_and p) (let d : mask ≡ 2 ^ width - 1 = omega arith in d) ∙ and_mask p width ∙ cut-residue width 128 p x w.0 w.1 e
 
-pub put-is : (s : Bool) (word start width count p new : ℕ) (x : ℤ) → count ≡ width → new ≡ with_field word start (bits count (pos p))
-    → (1 ≤ width) × (width ≤ 128) → p ≡ residue 128 x → new ≡ with_field word start (bits width x)
-put-is s word start width count p new x c f w e =
-    f ∙ ap (λ (n : ℕ). with_field word start (bits n (pos p))) c ∙ ap (with_field word start) (bits-extended s width p x w.0 w.1 e)
+pub put-is : (word start width count p new : ℕ) (x : ℤ) → count ≡ width → new ≡ with_field word start (bits count (pos p)) → p ≡ residue width x
+    → new ≡ with_field word start (bits width x)
+put-is word start width count p new x c f e = f ∙ ap (λ (n : ℕ). with_field word start (bits n (pos p))) c ∙ ap (with_field word start) (bits-residue width p x e)
 
 module _ (word start width new : ℕ) (x : ℤ) (put : new ≡ with_field word start (bits width x)) (fits : start + width ≤ 128) where
   room : start + length (bits width x) ≤ 128

@@ -4,8 +4,7 @@ use Rattle.std.proofs.Math.Nat.{div-add-mod', div-div-eq-div-mul, div-lt_iff_lt-
 use Rattle.std.proofs.lemmas.Nat.{pow_pos, and_block, or_block, or_shifted, and_mask}
 use Rattle.std.specs.Int.Bits.{and_zero_r, or_zero_r}
 use Rattle.arbitrary_int.specs.BitList.{bits, num}
-use Rattle.arbitrary_int.proofs.BitNumber.{length-bits, num-bits, num-bits_small, num-append, num-take, num-drop}
-use Rattle.arbitrary_int.proofs.BitValue.{bits-residue, num-bits_residue}
+use Rattle.arbitrary_int.proofs.BitNumber.{length-bits, num-bits_small, num-append, num-take, num-drop}
 use Rattle.arbitrary_int.specs.BitField.{with_field}
 
 -- the number of a list with another in its middle
@@ -66,9 +65,9 @@ div-below : (x b n : ℕ) → x < 2 ^ n → b ≤ n → x / 2 ^ b < 2 ^ (n - b)
 div-below x b n h g = (div-lt_iff_lt-mul (pow_pos b)).1 (subst (λ (i : ℕ). x < i) (ap (λ (i : ℕ). 2 ^ i) (let e : n ≡ (n - b) + b = omega arith in e) ∙ pow-add 2 (n - b) b) h)
 
 -- W is 2 ^ 128 and M one less, which goals write as numerals
-pub replaced-is : (r s k p o W M : ℕ) → W ≡ 2 ^ 128 → M + 1 ≡ 2 ^ 128 → r < 2 ^ 128 → s + k ≤ 128 → o + 1 ≡ 2 ^ k
-    → bit_or (bit_and r (M - o * 2 ^ s % W)) (bit_and p o * 2 ^ s % W) ≡ with_field r s (bits k (pos p))
-replaced-is r s k p o W M w m h g e =
+pub replaced-is : (r s k v o W M : ℕ) → W ≡ 2 ^ 128 → M + 1 ≡ 2 ^ 128 → r < 2 ^ 128 → s + k ≤ 128 → v < 2 ^ k → o + 1 ≡ 2 ^ k
+    → bit_or (bit_and r (M - o * 2 ^ s % W)) (v * 2 ^ s % W) ≡ with_field r s (bits k (pos v))
+replaced-is r s k v o W M w m h g small e =
     let j = 128 - (k + s) in
     let ps = pow_pos s in
     let pk = pow_pos k in
@@ -76,10 +75,7 @@ replaced-is r s k p o W M w m h g e =
     let low : ℕ = r % 2 ^ s in
     let high : ℕ = r / 2 ^ s in
     let a : ℕ = high / 2 ^ k in
-    let v : ℕ = p % 2 ^ k in
     let split : 2 ^ 128 ≡ 2 ^ j * 2 ^ k * 2 ^ s = (let d : 128 ≡ (128 - s) + s = omega arith in ap (λ (i : ℕ). 2 ^ i) d ∙ pow-add 2 (128 - s) s ∙ ap (λ (i : ℕ). i * 2 ^ s) (below-power r k s 128 h (omega arith))) in
-    let cut : bit_and p o ≡ v = ap (bit_and p) (let d : o ≡ 2 ^ k - 1 = omega arith in d) ∙ and_mask p k in
-    let small : v < 2 ^ k = mod-lt p pk in
     let c : ℕ = (2 ^ j - 1) * 2 ^ k in
     let room : 2 ^ k * 2 ^ s ≤ 2 ^ 128 = rw split (room-of (2 ^ j) (2 ^ k) (2 ^ s) pj) in
     let mask_fits : o * 2 ^ s < 2 ^ 128 = masks o (2 ^ k) (2 ^ s) (2 ^ 128) ps e room in
@@ -92,8 +88,7 @@ replaced-is r s k p o W M w m h g e =
     let kept : bit_and r (M - o * 2 ^ s % W) ≡ (a * 2 ^ k) * 2 ^ s + low =
     (λ i. bit_and (parts i) ((ap (λ (n : ℕ). M - n) mask_is ∙ rest) i))
     ∙ kept-middle s k j a (high % 2 ^ k) low o c (mod-lt r ps) (mod-lt high pk) top e refl in
-    let code : bit_or (bit_and r (M - o * 2 ^ s % W)) (bit_and p o * 2 ^ s % W) ≡ (a * 2 ^ k + v) * 2 ^ s + low =
-    (λ i. bit_or (kept i) ((ap (λ (n : ℕ). n * 2 ^ s % W) cut ∙ field_is) i)) ∙ put-middle s k a v low (mod-lt r ps) small in
+    let code : bit_or (bit_and r (M - o * 2 ^ s % W)) (v * 2 ^ s % W) ≡ (a * 2 ^ k + v) * 2 ^ s + low =
+    (λ i. bit_or (kept i) (field_is i)) ∙ put-middle s k a v low (mod-lt r ps) small in
     let above : r / 2 ^ (s + k) ≡ a = ap (λ (i : ℕ). r / i) (pow-add 2 s k) ∙ sym (div-div-eq-div-mul r (2 ^ s) (2 ^ k)) in
-    let same : bits k (pos v) ≡ bits k (pos p) = bits-residue k v (pos p) (sym (num-bits k p) ∙ num-bits_residue k (pos p)) in
-    code ∙ sym (ap (with_field r s) (sym same) ∙ num-placed r s k v h g small ∙ rw (above, pow-add 2 s k) (omega arith))
+    code ∙ sym (num-placed r s k v h g small ∙ rw (above, pow-add 2 s k) (omega arith))

@@ -1,9 +1,11 @@
 //! Fields in a record of 128 bits: a packet's header, a device's register, an instruction.
 #![tactic(auto)]
 
-ghost use Rattle.std.specs.Prelude.{◌≡◌, ◌+◌, ◌≤◌, ◌^◌, ◌↔◌, ℕ, pos, IsTrue};
+ghost use Rattle.std.specs.Prelude.{◌≡◌, ◌+◌, ◌≤◌, ◌<◌, ◌^◌, ◌↔◌, ℕ, pos, IsTrue};
 ghost use Rattle.arbitrary_int.specs.BitField.{AreDisjoint, field_bits, with_field};
 ghost use Rattle.arbitrary_int.specs.BitList.{bits as bits_of, val};
+ghost use Rattle.arbitrary_int.specs.Range.{InRange};
+ghost use Rattle.arbitrary_int.specs.Residue.{residue};
 
 use arbitrary_int::traits::FixedWidth;
 
@@ -40,7 +42,7 @@ impl Record {
         ensures above { (other width : ℕ) → start + F.BITS ≤ other
             → field_bits self.new.bits other width ≡ field_bits self.old.bits other width }
     {
-        self.bits = replaced(self.bits, start, F::BITS, value.extended());
+        self.bits = replaced(self.bits, start, F::BITS, bits_alone(value));
     }
 }
 
@@ -56,14 +58,30 @@ fn ones(count: usize) -> u128
     }
 }
 
-/// The word with the low `count` bits of the pattern from bit `start` on.
+/// The value's bits, and none above them.
+// A number of a type with no sign has none above, so nothing is masked there.
+fn bits_alone<F: FixedWidth>(value: F) -> u128
+    ensures value { result ≡ residue F.BITS (F.number value) }
+    ensures short { result < 2 ^ F.BITS }
+    ensures range { InRange F.IS_SIGNED F.BITS (F.number value) }
+    ensures width { F.valid }
+{
+    let pattern = value.extended();
+    if F::IS_SIGNED {
+        pattern & ones(F::BITS)
+    } else {
+        pattern
+    }
+}
+
+/// The word with the pattern in its `count` bits from bit `start` on.
 fn replaced(word: u128, start: usize, count: usize, pattern: u128) -> u128
     requires some { 1 ≤ count }
     requires within { start + count ≤ 128 }
+    requires short { pattern < 2 ^ count }
     ensures { result ≡ with_field word start (bits_of count (pos pattern)) }
 {
-    let low = ones(count);
-    (word & !(low << start)) | ((pattern & low) << start)
+    (word & !(ones(count) << start)) | (pattern << start)
 }
 
 /// Whether no bit lies in both of the fields, each given by its start and its width. Each ends at or before

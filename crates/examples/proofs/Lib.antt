@@ -1,2 +1,4 @@
 pub mod Samples
 pub mod Means
+pub mod Records
+pub mod Frames

@@ -58,6 +58,13 @@ impl Frame {
     }
 }
 
+/// What is received is what was sent.
+pub fn sent_and_received(frame: Frame) -> Frame
+    ensures { result ≡ frame }
+{
+    Frame::decode(frame.encode())
+}
+
 /// Prints a frame's fields, and the bytes of another.
 pub fn show(rt: &impl Print) -> io::Result<()> {
     let frame = Frame::decode([0x5A, 0xC3, 0x7F, 0xF8, 0x01]);

@@ -1,4 +1,4 @@
-//! How the library is used: a device's register, a packet header, a frame of bytes, a sensor, lists of
+//! How the library is used: a device's register, a packet header, a frame of bytes, a sensor, a log, lists of
 //! steps at one width and at two, code for every width, fields in a record, and numbers as text and as keys.
 #![tactic(auto)]
 
@@ -7,6 +7,7 @@ mod first;
 mod frame;
 mod generic;
 mod header;
+mod journal;
 mod keys;
 mod register;
 mod sensor;
@@ -24,6 +25,7 @@ fn main(rt: HostRuntime) -> io::Result<()> {
     header::show(&rt)?;
     frame::show(&rt)?;
     sensor::show(&rt)?;
+    journal::show(&rt, rt.alloc())?;
     steps::show(&rt)?;
     widths::show(&rt)?;
     generic::show(&rt)?;

@@ -3,13 +3,13 @@ use Rattle.bit_fields.proofs.Record.put.Goals as goal
 
 pub returns-clause-bits : goal.returns-clause-bits
 returns-clause-bits g c =
-    put-is g.F.Integer.IS_SIGNED c.args.self.now.bits c.args.start g.F.Integer.BITS c.BITS.result c.extended.result c.replaced-self.result (g.F.Integer.number c.args.value)
-    c.BITS.ensures c.replaced-self.ensures (g.met.F.Integer.width_law c.extended.ensures.width) c.extended.ensures.value
+    put-is c.args.self.now.bits c.args.start g.F.Integer.BITS c.BITS.result c.bits_alone.result c.replaced-self.result (g.F.Integer.number c.args.value)
+    c.BITS.ensures c.replaced-self.ensures c.bits_alone.ensures.value
 
 pub returns-clause-read_back : goal.returns-clause-read_back
 returns-clause-read_back g c =
     read-back c.args.self.now.bits c.args.start g.F.Integer.BITS c.replaced-self.result (g.F.Integer.number c.args.value) (returns-clause-bits g c) c.requires
-    g.F.Integer.IS_SIGNED (g.met.F.Integer.width_law c.extended.ensures.width).0 c.extended.ensures.range
+    g.F.Integer.IS_SIGNED (g.met.F.Integer.width_law c.bits_alone.ensures.width).0 c.bits_alone.ensures.range
 
 pub returns-clause-below : goal.returns-clause-below
 returns-clause-below g c =

@@ -1,0 +1,7 @@
+-- A record of a log, as bytes.
+use Rattle.std.specs.Prelude.{ℕ, ℤ, List, ◌++◌}
+use Rattle.arbitrary_int.specs.Bytes.{BorshBytes}
+
+-- the fields one after the other: 5 bytes, 1 byte, 2 bytes and 2 bytes
+abbrev pub record_bytes : ℤ → ℤ → ℤ → ℤ → List ℕ
+record_bytes time level source reading = BorshBytes 40 time ++ (BorshBytes 3 level ++ (BorshBytes 9 source ++ BorshBytes 12 reading))
