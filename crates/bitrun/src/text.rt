@@ -99,7 +99,7 @@ impl<'a> Cursor<'a> {
 }
 
 /// What follows the blanks that the text begins with.
-fn without_blanks(text: &[u8]) -> &[u8]
+pub fn without_blanks(text: &[u8]) -> &[u8]
     ensures { result.now ≡ drop (position_or_len is_solid text.now) text.now }
 {
     match word_start(text) {
@@ -145,7 +145,7 @@ fn split_number(text: &[u8], limit: u64) -> Option<(u64, &[u8])>
 }
 
 /// Whether no word goes on at the beginning of the text.
-fn is_word_end(text: &[u8]) -> bool
+pub fn is_word_end(text: &[u8]) -> bool
     ensures { result ≡ (position_or_len ends_word text.now == 0) }
 {
     match text.first() {
