@@ -99,7 +99,7 @@ impl<'a> Cursor<'a> {
 }
 
 /// What follows the blanks that the text begins with.
-pub fn without_blanks(text: &[u8]) -> &[u8]
+fn without_blanks(text: &[u8]) -> &[u8]
     ensures { result.now ≡ drop (position_or_len is_solid text.now) text.now }
 {
     match word_start(text) {

@@ -1,14 +1,15 @@
-//! Registers that are written the usual way: decimal digits, with a minus sign before those of a number below zero. Such a
-//! word is read at once. An answer of `None` says nothing of a word, so whoever asks goes on with the word itself.
+//! Registers that are written the usual way: after one space at most, decimal digits, with a minus sign before those of a
+//! number below zero. Such a word is read at once. An answer of `None` says nothing of a line, so whoever asks goes on with
+//! its words.
 
 ghost use Rattle.std.specs.Prelude.{◌≡◌, ◌≤◌, ◌<◌, ◌+◌, ◌-◌, ◌*◌, ◌^◌, ◌∷◌, ℕ, length, drop, Some, IfSome};
 ghost use Rattle.std.specs.List.{position_or_len, before_first};
-ghost use Rattle.bitrun.specs.Text.{ends_word};
+ghost use Rattle.bitrun.specs.Text.{ends_word, left_of};
 ghost use Rattle.bitrun.specs.Numeral.{Reads, integer_in, number_below};
 ghost use Rattle.bitrun.specs.UsualValue.{BeginsWithValue};
 
 use crate::numeral::{above_zero, below_zero, value_of};
-use crate::text::{is_word_end, without_blanks};
+use crate::text::is_word_end;
 use arbitrary_int::traits::FixedWidth;
 
 /// So many digits that 64 bits have each number that they write.
@@ -21,8 +22,19 @@ pub fn usual_value<R: FixedWidth>(text: &[u8]) -> Option<(R, &[u8])>
     requires narrow { R.BITS ≤ 120 }
     ensures { IfSome result (λ p. BeginsWithValue R.IS_SIGNED R.BITS text.now (R.number p.0) p.1.now) }
 {
-    let (number, rest) = usual_integer(without_blanks(text))?;
+    let (number, rest) = usual_integer(after_space(text))?;
     Some((value_of(number)?, rest))
+}
+
+/// What follows the space with which the text begins, if it does.
+#[inline(always)]
+fn after_space(text: &[u8]) -> &[u8]
+    ensures { left_of result.now ≡ left_of text.now }
+{
+    match after(text, b' ') {
+        Some(rest) => rest,
+        None => text,
+    }
 }
 
 /// The number that the word writes with which the text begins, and what follows the word.
@@ -31,7 +43,7 @@ fn usual_integer(text: &[u8]) -> Option<(i128, &[u8])>
     ensures value { IfSome result (λ p. integer_in (before_first ends_word text.now) ≡ Some p.0) }
     ensures rest { IfSome result (λ p. p.1.now ≡ drop (position_or_len ends_word text.now) text.now) }
 {
-    match after_minus(text) {
+    match after(text, b'-') {
         Some(digits) => {
             let (size, rest) = usual_number(digits)?;
             Some((below_zero(size), rest))
@@ -43,13 +55,13 @@ fn usual_integer(text: &[u8]) -> Option<(i128, &[u8])>
     }
 }
 
-/// What follows the minus sign, where the text begins with one.
+/// What follows the byte, where the text begins with it.
 #[inline(always)]
-fn after_minus(text: &[u8]) -> Option<&[u8]>
-    ensures { IfSome result (λ digits. text.now ≡ 45 ∷ digits.now) }
+fn after(text: &[u8], byte: u8) -> Option<&[u8]>
+    ensures { IfSome result (λ rest. text.now ≡ byte ∷ rest.now) }
 {
     match text {
-        [b'-', digits @ ..] => Some(digits),
+        [first, rest @ ..] if *first == byte => Some(rest),
         _ => None,
     }
 }
