@@ -6,7 +6,7 @@ use Rattle.std.proofs.lemmas.Int.Digits.{length-digits_of_step, length-digits_of
 use Rattle.std.specs.Ordering.{int_eq}
 use Rattle.std.proofs.lemmas.Bool.{cases_lt}
 use Rattle.std.proofs.lemmas.Bool.Decides.{Decides-int_eq}
-use Rattle.std.proofs.lemmas.Nat.{pow_pos}
+use Rattle.std.proofs.lemmas.Nat.{pow_pos, mul-le}
 use Rattle.arbitrary_base.specs.Range.{lo, hi, InRange, range_end}
 use Rattle.arbitrary_base.specs.Residue.{wrap}
 use Rattle.arbitrary_base.specs.Saturation.{clamp}
@@ -48,6 +48,41 @@ wrap-one s W h = wrap-of_in_range s W (pos 1) (omega arith) (one-in_range s W h)
 
 pub InRange-equal : {s : Bool} {W : ℕ} {x y : ℤ} → y ≡ x → InRange s W x → InRange s W y
 InRange-equal {s} {W} {x} {y} e f = subst (λ (z : ℤ). InRange s W z) (sym e) f
+
+-- ---- a product of two numbers of 64 bits, in 128
+
+half-size-unsigned : (x : ℤ) → InRange false 64 x → unsigned_abs x ≤ 2 ^ 64 - 1
+half-size-unsigned (pos n) i = let u = i.high in omega (arith, ints)
+half-size-unsigned (negsuc n) i = let l = i.low in absurd (omega (arith, ints))
+
+half-size-signed : (x : ℤ) → InRange true 64 x → unsigned_abs x ≤ 2 ^ 63
+half-size-signed (pos n) i = let u = i.high in omega (arith, ints)
+half-size-signed (negsuc n) i = let l = i.low in omega (arith, ints)
+
+half-product-in : (s : Bool) (x y : ℤ) → InRange s 64 x → InRange s 64 y → InRange s 128 (x *ℤ y)
+half-product-in false x y f g =
+    let size = unsigned_abs-mul x y in
+    let most = mul-le (unsigned_abs x) (unsigned_abs y) (2 ^ 64 - 1) (2 ^ 64 - 1) (half-size-unsigned x f) (half-size-unsigned y g) in
+    let some = natural-mul x y f.low g.low in
+    fits (x *ℤ y) some (omega arith)
+  where
+    fits : (z : ℤ) → pos 0 ≤ℤ z → unsigned_abs z < 2 ^ 128 → InRange false 128 z
+    fits (pos n) some most = record { low = omega (arith, ints); high = omega (arith, ints) }
+    fits (negsuc n) some most = absurd (omega (arith, ints))
+half-product-in true x y f g =
+    let size = unsigned_abs-mul x y in
+    let most = mul-le (unsigned_abs x) (unsigned_abs y) (2 ^ 63) (2 ^ 63) (half-size-signed x f) (half-size-signed y g) in
+    fits (x *ℤ y) (omega arith)
+  where
+    fits : (z : ℤ) → unsigned_abs z < 2 ^ 127 → InRange true 128 z
+    fits (pos n) most = record { low = omega (arith, ints); high = omega (arith, ints) }
+    fits (negsuc n) most = record { low = omega (arith, ints); high = omega (arith, ints) }
+
+pub half-product : {T : Type 0} (number : T → ℤ) (s : Bool) (W : ℕ) (x y : ℤ) (z : T) → W ≡ 128 → InRange s 64 x → InRange s 64 y
+    → number z ≡ wrap s W (x *ℤ y) → ExactOrNone number s W (x *ℤ y) (Some z)
+half-product number s W x y z width f g e =
+    let fits : InRange s W (x *ℤ y) = subst (λ (w : ℕ). InRange s w (x *ℤ y)) (sym width) (half-product-in s x y f g) in
+    (fits, e ∙ wrap-of_in_range s W (x *ℤ y) (omega arith) fits)
 
 -- ---- the steps
 

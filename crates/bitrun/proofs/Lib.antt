@@ -10,3 +10,4 @@ pub mod Operands
 pub mod Families
 pub mod Unique
 pub mod UsualLines
+pub mod LongNumbers

@@ -8,7 +8,7 @@ use Rattle.std.proofs.lemmas.Bool.Decides.{nat_tests}
 use Rattle.std.proofs.lemmas.Int.Digits.{digits_value_more}
 use Rattle.std.proofs.lemmas.List.Sums.{prefix_len-le-length, passes_at_first}
 use Rattle.bitrun.specs.Text.{is_solid, ends_word, Left, left_of}
-use Rattle.bitrun.specs.Numeral.{number_below, first_number}
+use Rattle.bitrun.specs.Numeral.{number_below, first_number, Reads}
 use Rattle.bitrun.proofs.Digits.{digit_is, all_digits, other_byte, no_digits, not_digits, too_large, is_number}
 use Rattle.bitrun.proofs.Lines.{word_taken, no_word_taken}
 
@@ -37,12 +37,6 @@ position-drop (x ∷ xs) (suc i) h =
           let more : i ≤ position_or_len ends_word xs = (let k = rw other at h in omega (arith, k)) in
           rw other (omega (arith, position-drop xs i more))
     ]
-
--- so many digits stand at the beginning, and write the number
-pub record Reads (text : List ℕ) (at number : ℕ) : Type 0 where
-  pub digits : (k : ℕ) → k < at → is_ascii_digit (get_or text k 0) ≡ true
-  pub value : number ≡ digits_value 10 (take at text)
-  pub within : at ≤ length text
 
 pub reads-more : (text : List ℕ) (at number : ℕ) → Reads text at number → at < length text → is_ascii_digit (get_or text at 0) ≡ true
     → Reads text (at + 1) (number * 10 + (get_or text at 0 - 48))

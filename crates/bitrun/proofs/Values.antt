@@ -8,7 +8,7 @@ use Rattle.arbitrary_int.specs.Residue.{residue, wrap}
 use Rattle.arbitrary_int.proofs.Wrap.{residue-congruent, wrap-in_range, wrap-of_in_range, wrap-same}
 use Rattle.bitrun.specs.Numeral.{number_in, integer_in, number_below, number_of_type, value_named, IsFar}
 
-plain : (word : List ℕ) → ((rest : List ℕ) → word ≢ 45 ∷ rest) → integer_in word ≡ option_map pos (number_in word)
+pub plain : (word : List ℕ) → ((rest : List ℕ) → word ≢ 45 ∷ rest) → integer_in word ≡ option_map pos (number_in word)
 unfolding integer_in number_in
 plain [] h = refl
 plain (c ∷ cs) h =
@@ -17,7 +17,7 @@ plain (c ∷ cs) h =
       | inr other ↦ rw (ne_eqb c 45 other) refl
     ]
 
-minus : (digits : List ℕ) → integer_in (45 ∷ digits) ≡ option_map (λ n. neg_ℤ (pos n)) (number_in digits)
+pub minus : (digits : List ℕ) → integer_in (45 ∷ digits) ≡ option_map (λ n. neg_ℤ (pos n)) (number_in digits)
 unfolding integer_in
 minus digits = refl
 

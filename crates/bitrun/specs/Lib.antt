@@ -7,4 +7,5 @@ pub mod Operation
 pub mod Form
 pub mod Answer
 pub mod Usual
+pub mod UsualValue
 pub mod Serving

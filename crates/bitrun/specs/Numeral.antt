@@ -1,5 +1,6 @@
 -- The numbers that words write.
-use Rattle.std.specs.Prelude.{ℕ, ◌≤◌, ◌^◌, ◌&&◌, List, [], ◌∷◌, Bool, Option, Some, None, option_map, option_and_then, ℤ, pos, neg_ℤ, unsigned_abs, ◌==◌, nat_lt, if◌then◌else◌, ⊤}
+use Rattle.std.specs.Prelude.{◌≡◌, ℕ, ◌≤◌, ◌<◌, ◌^◌, ◌&&◌, List, [], ◌∷◌, length, take, get_or, Bool, true, Option, Some, None, option_map, option_and_then, ℤ, pos, neg_ℤ, unsigned_abs, ◌==◌, nat_lt, if◌then◌else◌, ⊤}
+use Rattle.std.specs.Char.{is_ascii_digit}
 use Rattle.std.specs.Str.{all_ascii_digits}
 use Rattle.std.specs.Str.Parse.{digits_value}
 use Rattle.arbitrary_int.specs.Range.{in_range}
@@ -37,3 +38,9 @@ value_named s B word = option_and_then (number_of_type s B) (integer_in word)
 abbrev pub IsFar : Option ℤ → Type 0
 IsFar None = ⊤
 IsFar (Some x) = 2 ^ 120 ≤ unsigned_abs x
+
+-- so many digits stand at the beginning, and write the number
+pub record Reads (text : List ℕ) (at number : ℕ) : Type 0 where
+  pub digits : (k : ℕ) → k < at → is_ascii_digit (get_or text k 0) ≡ true
+  pub value : number ≡ digits_value 10 (take at text)
+  pub within : at ≤ length text

@@ -20,6 +20,7 @@ mod stream;
 mod tests;
 mod text;
 mod usual;
+mod usual_value;
 
 use crate::fault::Fault;
 use crate::serving::serve;

@@ -55,14 +55,14 @@ fn without_minus(word: &[u8]) -> Option<&[u8]>
     word.strip_prefix(b"-")
 }
 
-fn above_zero(size: u128) -> i128
+pub fn above_zero(size: u128) -> i128
     requires { size < 2 ^ 120 }
     ensures { result ≡ pos size }
 {
     size as i128
 }
 
-fn below_zero(size: u128) -> i128
+pub fn below_zero(size: u128) -> i128
     requires { size < 2 ^ 120 }
     ensures { result ≡ neg_ℤ (pos size) }
 {
@@ -70,7 +70,7 @@ fn below_zero(size: u128) -> i128
 }
 
 /// The number as a value, if the type has it: that is where masking leaves the number as it is.
-fn value_of<R: FixedWidth>(number: i128) -> Option<R>
+pub fn value_of<R: FixedWidth>(number: i128) -> Option<R>
     requires width { R.valid }
     requires narrow { R.BITS ≤ 120 }
     ensures { option_map R.number result ≡ number_of_type R.IS_SIGNED R.BITS number }

@@ -11,6 +11,7 @@ use crate::numeral::value_named;
 use crate::operation::step_named;
 use crate::text::Cursor;
 use crate::usual::usual_step;
+use crate::usual_value::usual_value;
 use arbitrary_int::Step;
 use arbitrary_int::traits::FixedWidth;
 use std::alloc::{AllocError, Allocator};
@@ -29,13 +30,24 @@ pub fn registers<'a, R: FixedWidth, A: Allocator>(
     ensures later { line.new.later ≡ line.old.later }
 {
     let mut registers = Vec::new(alloc);
-    while let Some(word) = line.next_word() {
-        let Some(value) = value_named(word) else {
-            return Ok(None);
+    loop {
+        let value = match usual_value(line.text()) {
+            Some((value, rest)) => {
+                line.go_to(rest);
+                value
+            }
+            None => {
+                let Some(word) = line.next_word() else {
+                    return Ok(Some(registers));
+                };
+                let Some(value) = value_named(word) else {
+                    return Ok(None);
+                };
+                value
+            }
         };
         registers.push(value)?;
     }
-    Ok(Some(registers))
 }
 
 /// The steps on so many registers that the later lines name.

@@ -145,7 +145,7 @@ fn split_number(text: &[u8], limit: u64) -> Option<(u64, &[u8])>
 }
 
 /// Whether no word goes on at the beginning of the text.
-fn is_word_end(text: &[u8]) -> bool
+pub fn is_word_end(text: &[u8]) -> bool
     ensures { result ≡ (position_or_len ends_word text.now == 0) }
 {
     match text.first() {

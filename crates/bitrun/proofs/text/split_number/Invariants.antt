@@ -1,5 +1,5 @@
 use Rattle.std.proofs.Common.{◌-◌, length}
-use Rattle.bitrun.proofs.Operands.{Reads}
+use Rattle.bitrun.specs.Numeral.{Reads}
 use Rattle.bitrun.proofs.text.split_number.Given as goal
 
 abbrev pub invariant-loop-at : goal.invariant-loop-at

@@ -1,5 +1,5 @@
 use Rattle.std.proofs.Common.{◌-◌, ◌<◌, length}
-use Rattle.bitrun.proofs.Operands.{Reads}
+use Rattle.bitrun.specs.Numeral.{Reads}
 use Rattle.bitrun.proofs.usual.last_amount.Given as goal
 
 abbrev pub invariant-loop-at : goal.invariant-loop-at
