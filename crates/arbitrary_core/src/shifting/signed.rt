@@ -43,6 +43,7 @@ where
         requires { (pos 0 ≤ℤ S.amount amount) × (S.amount amount <ℤ pos BITS) }
         ensures bits { self.new ≡ val T.SIGNED (shifted_left (bits BITS self.old) (unsigned_abs (S.amount amount))) }
         ensures congruent { Congruent BITS self.new (self.old *ℤ pos (2 ^ unsigned_abs (S.amount amount))) }
+        ensures range { InRange T.SIGNED BITS self.new }
     {
         *self = *self << amount;
     }
