@@ -1,5 +1,6 @@
--- Calls that undo each other: a sum and a difference that wrap, the two rotations, the reversal, and the same `xor` twice.
-use Rattle.std.specs.Prelude.{◌≡◌, ℕ, ℤ, Bool, List, [], ◌∷◌, true, false, neg_ℤ, ◌-◌, ◌≤◌, ◌+ℤ◌, ◌-ℤ◌, length, reverse, take, drop}
+-- Calls that undo each other: a sum and a difference that wrap, the two rotations, the reversal, the same `xor` twice, and
+-- the two ways between types of one width and other signs.
+use Rattle.std.specs.Prelude.{◌≡◌, ℕ, ℤ, Bool, List, [], ◌∷◌, true, false, neg_ℤ, ◌+◌, ◌-◌, ◌≤◌, ◌+ℤ◌, ◌-ℤ◌, length, reverse, take, drop}
 use Rattle.std.proofs.Common.{arith, refl, ap, ap₂, sym, ◌∙◌, length-drop, take-append-drop}
 use Rattle.std.proofs.lemmas.Int.{ints}
 use Rattle.std.proofs.lemmas.List.{length-reverse, reverse-reverse, take_at, drop_at}
@@ -7,7 +8,7 @@ use Rattle.arbitrary_base.specs.Range.{InRange}
 use Rattle.arbitrary_base.specs.Residue.{wrap}
 use Rattle.arbitrary_base.specs.BitList.{bits, val, bits_xor, differs, rotl, rotr}
 use Rattle.arbitrary_base.proofs.Congruence.{Congruent-refl, Congruent-add}
-use Rattle.arbitrary_base.proofs.Wrap.{wrap-of_in_range, wrap-same}
+use Rattle.arbitrary_base.proofs.Wrap.{wrap-congruent, wrap-of_in_range, wrap-same}
 use Rattle.arbitrary_base.proofs.BitNumber.{length-bits, length-xor}
 use Rattle.arbitrary_base.proofs.BitShift.{length-rotl, length-rotr, rotr-rotl}
 use Rattle.arbitrary_base.proofs.BitValue.{bits-val, val-bits_in_range}
@@ -66,3 +67,10 @@ xor-undoes s B x b z y h f e d =
     let l : bits B x ≡ bits_xor (bits B y) (bits B b) =
     ap (bits B) e ∙ bits-val s B (bits_xor (bits B y) (bits B b)) (length-xor (bits B y) (bits B b) (alike B y b) ∙ length-bits B y) in
     d ∙ ap (λ (m : List Bool). val s (bits_xor m (bits B b))) l ∙ ap (val s) (xor-xor (bits B y) (bits B b) (alike B y b)) ∙ val-bits_in_range s B y h f
+
+-- to a type of the other sign, and back
+pub wrap-wrap : (s t : Bool) (B : ℕ) (x : ℤ) → 1 ≤ B → InRange s B x → wrap s B (wrap t B x) ≡ x
+wrap-wrap s t B x h f = wrap-same s B (wrap t B x) x h (wrap-congruent t B x) ∙ wrap-of_in_range s B x h f
+
+pub mate-undoes : (s : Bool) (B : ℕ) (u z y : ℤ) → 1 ≤ B → InRange s B y → u ≡ wrap false B y → z ≡ wrap s B u → z ≡ y
+mate-undoes s B u z y h f e d = d ∙ ap (wrap s B) e ∙ wrap-wrap s false B y h f

@@ -5,6 +5,7 @@ ghost use Rattle.arbitrary_base.specs.Range.{InRange, lo, hi};
 ghost use Rattle.arbitrary_base.specs.Residue.{Congruent, wrap};
 ghost use Rattle.arbitrary_base.specs.Saturation.{clamp};
 ghost use Rattle.arbitrary_base.specs.Exact.{ExactOrNone, QuotientOrNone};
+ghost use Rattle.arbitrary_base.specs.Field.{IsField};
 ghost use Rattle.arbitrary_base.specs.Power.{power, binary_digits};
 ghost use Rattle.arbitrary_base.specs.BitList.{bits, val, bits_and, bits_or, bits_xor, bits_not, fill, front, items, ones, rotl, rotr, shl, shr, tail};
 
@@ -479,46 +480,56 @@ pub trait FixedWidth: Integer {
     }
 
     /// The value of the `BITS` bits of `value` from place `start_bit` on, all among its 8. The width is valid.
+    #[tactic(auto, using(arbitrary_base::proofs::Extracted::fields, arbitrary_base::proofs::Primitive::signed_laws))]
     final fn extract_i8(value: i8, start_bit: usize) -> Self
         requires width { Self.valid }
         requires within { start_bit + Self.BITS ≤ 8 }
-        ensures { Self.number result ≡ val Self.IS_SIGNED (items start_bit Self.BITS (bits 8 value)) }
+        ensures value { Self.number result ≡ val Self.IS_SIGNED (items start_bit Self.BITS (bits 8 value)) }
+        ensures field { IsField start_bit Self.BITS value (Self.number result) }
     {
         Self::from_kept(extraction::extract(value, start_bit, Self::BITS))
     }
 
     /// The value of the `BITS` bits of `value` from place `start_bit` on, all among its 16. The width is valid.
+    #[tactic(auto, using(arbitrary_base::proofs::Extracted::fields, arbitrary_base::proofs::Primitive::signed_laws))]
     final fn extract_i16(value: i16, start_bit: usize) -> Self
         requires width { Self.valid }
         requires within { start_bit + Self.BITS ≤ 16 }
-        ensures { Self.number result ≡ val Self.IS_SIGNED (items start_bit Self.BITS (bits 16 value)) }
+        ensures value { Self.number result ≡ val Self.IS_SIGNED (items start_bit Self.BITS (bits 16 value)) }
+        ensures field { IsField start_bit Self.BITS value (Self.number result) }
     {
         Self::from_kept(extraction::extract(value, start_bit, Self::BITS))
     }
 
     /// The value of the `BITS` bits of `value` from place `start_bit` on, all among its 32. The width is valid.
+    #[tactic(auto, using(arbitrary_base::proofs::Extracted::fields, arbitrary_base::proofs::Primitive::signed_laws))]
     final fn extract_i32(value: i32, start_bit: usize) -> Self
         requires width { Self.valid }
         requires within { start_bit + Self.BITS ≤ 32 }
-        ensures { Self.number result ≡ val Self.IS_SIGNED (items start_bit Self.BITS (bits 32 value)) }
+        ensures value { Self.number result ≡ val Self.IS_SIGNED (items start_bit Self.BITS (bits 32 value)) }
+        ensures field { IsField start_bit Self.BITS value (Self.number result) }
     {
         Self::from_kept(extraction::extract(value, start_bit, Self::BITS))
     }
 
     /// The value of the `BITS` bits of `value` from place `start_bit` on, all among its 64. The width is valid.
+    #[tactic(auto, using(arbitrary_base::proofs::Extracted::fields, arbitrary_base::proofs::Primitive::signed_laws))]
     final fn extract_i64(value: i64, start_bit: usize) -> Self
         requires width { Self.valid }
         requires within { start_bit + Self.BITS ≤ 64 }
-        ensures { Self.number result ≡ val Self.IS_SIGNED (items start_bit Self.BITS (bits 64 value)) }
+        ensures value { Self.number result ≡ val Self.IS_SIGNED (items start_bit Self.BITS (bits 64 value)) }
+        ensures field { IsField start_bit Self.BITS value (Self.number result) }
     {
         Self::from_kept(extraction::extract(value, start_bit, Self::BITS))
     }
 
     /// The value of the `BITS` bits of `value` from place `start_bit` on, all among its 128. The width is valid.
+    #[tactic(auto, using(arbitrary_base::proofs::Extracted::fields, arbitrary_base::proofs::Primitive::signed_laws))]
     final fn extract_i128(value: i128, start_bit: usize) -> Self
         requires width { Self.valid }
         requires within { start_bit + Self.BITS ≤ 128 }
-        ensures { Self.number result ≡ val Self.IS_SIGNED (items start_bit Self.BITS (bits 128 value)) }
+        ensures value { Self.number result ≡ val Self.IS_SIGNED (items start_bit Self.BITS (bits 128 value)) }
+        ensures field { IsField start_bit Self.BITS value (Self.number result) }
     {
         Self::from_kept(extraction::extract(value, start_bit, Self::BITS))
     }

@@ -5,15 +5,12 @@ use Rattle.std.proofs.Common.{arith, ap, sym, ◌∙◌, mod-eq_of_lt}
 use Rattle.std.proofs.lemmas.Grind.{low_zeros, or_after_shift}
 use Rattle.arbitrary_base.specs.Range.{InRange}
 use Rattle.arbitrary_base.specs.Residue.{wrap}
-use Rattle.arbitrary_base.proofs.Wrap.{wrap-congruent, wrap-of_in_range, wrap-same}
+use Rattle.arbitrary_base.proofs.Wrap.{wrap-congruent, wrap-of_in_range}
+use Rattle.arbitrary_base.proofs.Undone.{wrap-wrap}
 use Rattle.arbitrary_base.proofs.Clamp.{clamp-fits}
 use Rattle.arbitrary_base.proofs.BitNumber.{length-bits}
 use Rattle.arbitrary_base.proofs.BitValue.{num-bits_residue, val-bits_in_range}
 use Rattle.arbitrary_base.proofs.LawProof.{in_range-tells, sums-associate}
-
--- to a type of the other sign, and back
-pub wrap-wrap : (s t : Bool) (B : ℕ) (x : ℤ) → 1 ≤ B → InRange s B x → wrap s B (wrap t B x) ≡ x
-wrap-wrap s t B x h f = wrap-same s B (wrap t B x) x h (wrap-congruent t B x) ∙ wrap-of_in_range s B x h f
 
 regroup : (x m d y : ℕ) → x * (m * d) + y * d ≡ (x * m + y) * d
 regroup x m d y = grind arith

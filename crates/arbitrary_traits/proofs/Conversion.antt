@@ -4,9 +4,11 @@ use Rattle.std.specs.Int.{Width, cast_signed, cast_unsigned}
 use Rattle.std.proofs.Common.{◌∙◌, ap, arith, Fits, of_z, sym, to_z-of_z}
 use Rattle.std.proofs.lemmas.Int.{ints}
 use mir.Val.{bits}
+use Rattle.arbitrary_base.specs.Range.{InRange}
 use Rattle.arbitrary_base.specs.Residue.{Congruent, residue, wrap}
 use Rattle.arbitrary_base.proofs.Congruence.{Congruent-refl}
-use Rattle.arbitrary_base.proofs.Wrapped.{wrapped-congruent}
+use Rattle.arbitrary_base.proofs.Undone.{mate-undoes}
+use Rattle.arbitrary_base.proofs.Wrapped.{wrapped-congruent, wrapped-kept}
 use Rattle.arbitrary_base.proofs.Narrow.{wrap-residue}
 use Rattle.arbitrary_base.proofs.Wrap.{residue-congruent, residue-lt, wrap-of_in_range, wrap-unique}
 use Rattle.arbitrary_base.proofs.Primitive.{bits_some, cast_unsigned-residue, signed-from_small, unsigned-in_range}
@@ -42,4 +44,12 @@ cast_unsigned-mate_congruent w x f = wrapped-congruent false (bits w) x _ (cast_
 pub cast_signed-mate_congruent : (w : Width) (n : ℕ) (z : ℤ) → Fits w n → z ≡ cast_signed w n → Congruent (bits w) (cast_signed w (of_z w z)) (pos n)
 cast_signed-mate_congruent w n z f e = wrapped-congruent true (bits w) (pos n) _ (cast_signed-mate w n z f e)
 
-pub ruleset mates = (unsigned-mate, cast_unsigned-mate, cast_signed-mate, unsigned-mate_congruent, cast_unsigned-mate_congruent, cast_signed-mate_congruent)
+-- the way back
+pub unsigned-mate_undoes : (B n : ℕ) (y : ℤ) → 1 ≤ B → InRange false B y → pos n ≡ wrap false B y → pos n ≡ y
+unsigned-mate_undoes B n y h f e = wrapped-kept false B y (pos n) h f e
+
+pub cast_signed-mate_undoes : (w : Width) (n : ℕ) (z y : ℤ) → Fits w n → z ≡ cast_signed w n → InRange true (bits w) y → pos n ≡ wrap false (bits w) y
+    → cast_signed w (of_z w z) ≡ y
+cast_signed-mate_undoes w n z y f e g d = mate-undoes true (bits w) (pos n) _ y (bits_some w) g d (cast_signed-mate w n z f e)
+
+pub ruleset mates = (unsigned-mate, cast_unsigned-mate, cast_signed-mate, unsigned-mate_congruent, cast_unsigned-mate_congruent, cast_signed-mate_congruent, unsigned-mate_undoes)

@@ -127,12 +127,14 @@ pub trait Integer: Copy
     /// The unsigned number with the same bits.
     fn to_unsigned(self) -> Self::UnsignedInteger
         ensures value { unsigned_number result ≡ wrap false BITS (number self) }
-        ensures congruent { Congruent BITS (unsigned_number result) (number self) };
+        ensures congruent { Congruent BITS (unsigned_number result) (number self) }
+        ensures range { InRange IS_SIGNED BITS (number self) };
 
     /// The number with the same bits as the unsigned `value`.
     fn from_unsigned(value: Self::UnsignedInteger) -> Self
         ensures value { number result ≡ wrap IS_SIGNED BITS (unsigned_number value) }
-        ensures congruent { Congruent BITS (number result) (unsigned_number value) };
+        ensures congruent { Congruent BITS (number result) (unsigned_number value) }
+        ensures undo { (y : ℤ) → InRange IS_SIGNED BITS y → unsigned_number value ≡ wrap false BITS y → number result ≡ y };
 
     /// The same number, which is in range of this type, from any other. The width is valid.
     final fn from_<T: Integer>(value: T) -> Self

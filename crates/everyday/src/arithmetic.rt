@@ -257,6 +257,34 @@ pub fn starts_again(x: u14) -> u14
     x.wrapping_add(u14::new(1))
 }
 
+pub fn added_in_place(a: u12, b: u12) -> u12
+    requires { (a +ℤ b) ≤ℤ pos 4095 }
+    ensures { result ≡ a +ℤ b }
+{
+    let mut sum = a;
+    sum += b;
+    sum
+}
+
+pub fn scaled_in_place(a: i12) -> i12
+    requires low { neg_ℤ (pos 200) ≤ℤ a }
+    requires high { a ≤ℤ pos 200 }
+    ensures { result ≡ pos 10 *ℤ a -ℤ pos 1 }
+{
+    let mut scaled = a;
+    scaled *= i12::new(10);
+    scaled -= i12::new(1);
+    scaled
+}
+
+pub fn quotient_in_place(a: u12) -> u12
+    ensures { result ≡ int_div a (pos 10) }
+{
+    let mut quotient = a;
+    quotient /= u12::new(10);
+    quotient
+}
+
 pub fn smaller(a: i12, b: i12) -> i12
     ensures left { result ≤ℤ a }
     ensures right { result ≤ℤ b }

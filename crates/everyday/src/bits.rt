@@ -179,7 +179,96 @@ pub fn nibble(x: u12) -> u4
     ((x >> 4) & u12::new(15)).as_::<u4>()
 }
 
+// ---- assigned
+
+pub fn masked_in_place(x: u12) -> u12
+    ensures { result <ℤ pos 16 }
+{
+    let mut low = x;
+    low &= u12::new(15);
+    low
+}
+
+pub fn moved_up_in_place(x: u12) -> u12
+    requires { x <ℤ pos 256 }
+    ensures { result ≡ pos 16 *ℤ x }
+{
+    let mut moved = x;
+    moved <<= 4;
+    moved
+}
+
+pub fn moved_down_in_place(x: u12) -> u12
+    ensures { result ≡ int_div x (pos 16) }
+{
+    let mut moved = x;
+    moved >>= 4;
+    moved
+}
+
+pub fn packed_in_place(high: u4, low: u8) -> u12
+    ensures { result ≡ pos 256 *ℤ high +ℤ pos low }
+{
+    let mut word = u12::from_(high);
+    word <<= 8;
+    word |= u12::from_(low);
+    word
+}
+
+pub fn turned_over_and_back(x: u12, mask: u12) -> u12
+    ensures { result ≡ x }
+{
+    let mut turned = x;
+    turned ^= mask;
+    turned ^= mask;
+    turned
+}
+
 // ---- of types with a sign
+
+pub fn signed_moved_down_in_place(x: i12) -> i12
+    ensures low { (pos 16 *ℤ result) ≤ℤ x }
+    ensures high { x <ℤ (pos 16 *ℤ result +ℤ pos 16) }
+{
+    let mut moved = x;
+    moved >>= 4;
+    moved
+}
+
+pub fn signed_moved_up_in_place(x: i12) -> i12
+    requires low { neg_ℤ (pos 128) ≤ℤ x }
+    requires high { x <ℤ pos 128 }
+    ensures { result ≡ pos 16 *ℤ x }
+{
+    let mut moved = x;
+    moved <<= 4;
+    moved
+}
+
+pub fn signed_turned_over_and_back(x: i12, mask: i12) -> i12
+    ensures { result ≡ x }
+{
+    let mut turned = x;
+    turned ^= mask;
+    turned ^= mask;
+    turned
+}
+
+pub fn signed_masked_in_place(x: i12) -> i12
+    ensures low { pos 0 ≤ℤ result }
+    ensures high { result <ℤ pos 16 }
+{
+    let mut low = x;
+    low &= i12::new(15);
+    low
+}
+
+/// Fields of a word with a sign: the low one is not below 0.
+pub fn signed_halves(x: i16) -> (i8, u8)
+    ensures { x ≡ pos 256 *ℤ result.0 +ℤ pos result.1 }
+{
+    (i8::from_(Int::<i8, 8>::extract_i16(x, 8)), u8::from_(UInt::<u8, 8>::extract_i16(x, 0)))
+}
 
 pub fn signed_mask(x: i12) -> i12
     ensures low { pos 0 ≤ℤ result }

@@ -120,6 +120,12 @@ pub fn left_justified(x: i16) -> i12 {
     i12::new(x >> 4)
 }
 
+pub fn left_justified_extract(x: i16) -> i12
+    ensures { (pos 16 *ℤ result) ≤ℤ x }
+{
+    i12::extract_i16(x, 4)
+}
+
 pub fn from_bits_of_mask(x: u16) -> i12 {
     i12::from_bits(x & 0xFFF)
 }

@@ -61,6 +61,12 @@ pub fn cloned<V: Integer>(a: &V) -> Option<V>
     }
 }
 
+pub fn unsigned_and_back<V: Integer>(a: V) -> V
+    ensures { V.number result ≡ V.number a }
+{
+    V::from_unsigned(a.to_unsigned())
+}
+
 pub fn low_byte<V: UnsignedInteger>(a: V) -> u8
     requires { V.number a <ℤ pos 256 }
     ensures { pos result ≡ V.number a }

@@ -1,6 +1,7 @@
 //! What clauses say of such integers: a value is its whole number there.
 
-ghost use Rattle.std.specs.Prelude.{◌≡◌, ◌+ℤ◌, ◌<ℤ◌, ◌%◌, pos};
+ghost use Rattle.std.specs.Prelude.{◌≡◌, ◌+ℤ◌, ◌<ℤ◌, ◌%◌, pos, false};
+ghost use Rattle.arbitrary_int.specs.Residue.{Congruent, wrap};
 
 use arbitrary_int::prelude::*;
 
@@ -17,4 +18,11 @@ pub fn sum(a: u4, b: u4) -> u8
     ensures { pos result ≡ a +ℤ b }
 {
     a.value() + b.value()
+}
+
+/// Two steps of a counter that wraps.
+pub fn two_steps(count: u12) -> u12
+    ensures { Congruent 12 result (count +ℤ pos 2) }
+{
+    count.wrapping_add(u12::new(1)).wrapping_add(u12::new(1))
 }

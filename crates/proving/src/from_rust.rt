@@ -11,17 +11,18 @@ fn lines_from_1(rt: HostRuntime) {
     assert_eq!(rt; u4::max_value(), u4::new(15));
     assert_eq!(rt; u4::zero(), u4::new(0));
     assert_eq!(rt; u4::mask(), 0b1111);
+    assert_eq!(rt; u64::MAX, 18_446_744_073_709_551_615);
+    assert_eq!(rt; <i8 as Integer>::min_value(), -128);
     assert_eq!(rt; u4::new(LIMIT), u4::new(3));
     assert_eq!(rt; limit(), u4::new(3));
-    assert_eq!(rt; WIDTH, u4::BITS);
-    assert_eq!(rt; [0u8; 4].len(), u4::BITS);
 }
 
 #[test]
 fn lines_from_9(rt: HostRuntime) {
     let n = u4::new(9);
-    let a = u12::new(1000);
     let byte = 200u8;
+    assert_eq!(rt; WIDTH, u4::BITS);
+    assert_eq!(rt; [0u8; 4].len(), u4::BITS);
     assert_eq!(rt; u4::zero(), u4::new(0));
     assert_eq!(rt;
         Frame::none(),
@@ -40,8 +41,6 @@ fn lines_from_9(rt: HostRuntime) {
     );
     assert_eq!(rt; u12::from_(n), u12::new(9));
     assert_eq!(rt; u12::from_(byte), u12::new(200));
-    assert_eq!(rt; usize::from(a.value()), 1000);
-    assert_eq!(rt; u4::try_new(byte), Err(TryNewError));
 }
 
 #[test]
@@ -49,14 +48,22 @@ fn lines_from_17(rt: HostRuntime) {
     let n = u4::new(9);
     let a = u12::new(1000);
     let b = u12::new(7);
-    let s = i12::new(-300);
     let byte = 200u8;
+    assert_eq!(rt; usize::from(a.value()), 1000);
+    assert_eq!(rt; u4::try_new(byte), Err(TryNewError));
     assert_eq!(rt; u4::masked_new(byte), u4::new(8));
     assert_eq!(rt; n == u4::new(9), true);
     assert_eq!(rt; n.wrapping_add(u4::new(1)), u4::new(10));
     assert_eq!(rt; a & b, u12::new(0));
     assert_eq!(rt; u12::new(a.value() % b.value()), u12::new(6));
     assert_eq!(rt; n << u4::new(3).value(), u4::new(8));
+}
+
+#[test]
+fn lines_from_25(rt: HostRuntime) {
+    let b = u12::new(7);
+    let s = i12::new(-300);
+    let list = [u12::new(1000), u12::new(7)];
     assert_eq!(rt;
         {
             let wide = i13::from_(s);
@@ -65,10 +72,5 @@ fn lines_from_17(rt: HostRuntime) {
         i13::new(300)
     );
     assert_eq!(rt; b.saturating_pow(2), u12::new(49));
-}
-
-#[test]
-fn lines_from_25(rt: HostRuntime) {
-    let list = [u12::new(1000), u12::new(7)];
     assert_eq!(rt; try_sum(list.iter().copied()), Some(u12::new(1007)));
 }

@@ -35,7 +35,11 @@ where
 {
     ghost bitand_assign_gives = { λ a b r. r ≡ val T.SIGNED (bits_and (bits BITS a) (bits BITS b)) };
 
-    fn bitand_assign(&mut self, rhs: Int<T, BITS>) {
+    fn bitand_assign(&mut self, rhs: Int<T, BITS>)
+        ensures bits { self.new ≡ val T.SIGNED (bits_and (bits BITS self.old) (bits BITS rhs)) }
+        ensures left { pos 0 ≤ℤ self.old → (pos 0 ≤ℤ self.new) × (self.new ≤ℤ self.old) }
+        ensures right { pos 0 ≤ℤ rhs → (pos 0 ≤ℤ self.new) × (self.new ≤ℤ rhs) }
+    {
         *self = *self & rhs;
     }
 }
@@ -93,7 +97,10 @@ where
 {
     ghost bitxor_assign_gives = { λ a b r. r ≡ val T.SIGNED (bits_xor (bits BITS a) (bits BITS b)) };
 
-    fn bitxor_assign(&mut self, rhs: Int<T, BITS>) {
+    fn bitxor_assign(&mut self, rhs: Int<T, BITS>)
+        ensures bits { self.new ≡ val T.SIGNED (bits_xor (bits BITS self.old) (bits BITS rhs)) }
+        ensures undo { (y : ℤ) → InRange T.SIGNED BITS y → self.old ≡ val T.SIGNED (bits_xor (bits BITS y) (bits BITS rhs)) → self.new ≡ y }
+    {
         *self = *self ^ rhs;
     }
 }

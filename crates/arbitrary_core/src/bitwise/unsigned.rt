@@ -28,7 +28,12 @@ impl<T: UnsignedStorage, const BITS: usize> BitAnd<UInt<T, BITS>> for UInt<T, BI
 impl<T: UnsignedStorage, const BITS: usize> BitAndAssign<UInt<T, BITS>> for UInt<T, BITS> {
     ghost bitand_assign_gives = { λ a b r. r ≡ val T.SIGNED (bits_and (bits BITS a) (bits BITS b)) };
 
-    fn bitand_assign(&mut self, rhs: UInt<T, BITS>) {
+    fn bitand_assign(&mut self, rhs: UInt<T, BITS>)
+        ensures bits { self.new ≡ val T.SIGNED (bits_and (bits BITS self.old) (bits BITS rhs)) }
+        ensures plain { self.new ≡ pos (bit_and (unsigned_abs self.old) (unsigned_abs rhs)) }
+        ensures left { self.new ≤ℤ self.old }
+        ensures right { self.new ≤ℤ rhs }
+    {
         *self = *self & rhs;
     }
 }
@@ -49,7 +54,10 @@ impl<T: UnsignedStorage, const BITS: usize> BitOr<UInt<T, BITS>> for UInt<T, BIT
 impl<T: UnsignedStorage, const BITS: usize> BitOrAssign<UInt<T, BITS>> for UInt<T, BITS> {
     ghost bitor_assign_gives = { λ a b r. r ≡ val T.SIGNED (bits_or (bits BITS a) (bits BITS b)) };
 
-    fn bitor_assign(&mut self, rhs: UInt<T, BITS>) {
+    fn bitor_assign(&mut self, rhs: UInt<T, BITS>)
+        ensures bits { self.new ≡ val T.SIGNED (bits_or (bits BITS self.old) (bits BITS rhs)) }
+        ensures plain { self.new ≡ pos (bit_or (unsigned_abs self.old) (unsigned_abs rhs)) }
+    {
         *self = *self | rhs;
     }
 }
@@ -72,7 +80,10 @@ impl<T: UnsignedStorage, const BITS: usize> BitXor<UInt<T, BITS>> for UInt<T, BI
 impl<T: UnsignedStorage, const BITS: usize> BitXorAssign<UInt<T, BITS>> for UInt<T, BITS> {
     ghost bitxor_assign_gives = { λ a b r. r ≡ val T.SIGNED (bits_xor (bits BITS a) (bits BITS b)) };
 
-    fn bitxor_assign(&mut self, rhs: UInt<T, BITS>) {
+    fn bitxor_assign(&mut self, rhs: UInt<T, BITS>)
+        ensures bits { self.new ≡ val T.SIGNED (bits_xor (bits BITS self.old) (bits BITS rhs)) }
+        ensures undo { (y : ℤ) → InRange T.SIGNED BITS y → self.old ≡ val T.SIGNED (bits_xor (bits BITS y) (bits BITS rhs)) → self.new ≡ y }
+    {
         *self = *self ^ rhs;
     }
 }

@@ -39,7 +39,12 @@ where
 
     ghost shl_assign_gives = { λ a k r. r ≡ val T.SIGNED (shifted_left (bits BITS a) (unsigned_abs (S.amount k))) };
 
-    fn shl_assign(&mut self, amount: S) {
+    fn shl_assign(&mut self, amount: S)
+        requires { (pos 0 ≤ℤ S.amount amount) × (S.amount amount <ℤ pos BITS) }
+        ensures bits { self.new ≡ val T.SIGNED (shifted_left (bits BITS self.old) (unsigned_abs (S.amount amount))) }
+        ensures congruent { Congruent BITS self.new (self.old *ℤ pos (2 ^ unsigned_abs (S.amount amount))) }
+        ensures range { InRange T.SIGNED BITS self.new }
+    {
         *self = *self << amount;
     }
 }
@@ -74,7 +79,13 @@ where
 
     ghost shr_assign_gives = { λ a k r. r ≡ val T.SIGNED (shifted_right (bits BITS a) (unsigned_abs (S.amount k)) (fill T.SIGNED (bits BITS a))) };
 
-    fn shr_assign(&mut self, amount: S) {
+    fn shr_assign(&mut self, amount: S)
+        requires { (pos 0 ≤ℤ S.amount amount) × (S.amount amount <ℤ pos BITS) }
+        ensures bits { self.new ≡ val T.SIGNED (shifted_right (bits BITS self.old) (unsigned_abs (S.amount amount)) (fill T.SIGNED (bits BITS self.old))) }
+        ensures low { (self.new *ℤ pos (2 ^ unsigned_abs (S.amount amount))) ≤ℤ self.old }
+        ensures high { self.old <ℤ (self.new *ℤ pos (2 ^ unsigned_abs (S.amount amount)) +ℤ pos (2 ^ unsigned_abs (S.amount amount))) }
+        ensures range { InRange T.SIGNED (BITS - unsigned_abs (S.amount amount)) self.new }
+    {
         *self = *self >> amount;
     }
 }

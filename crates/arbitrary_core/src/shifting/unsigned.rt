@@ -32,7 +32,12 @@ impl<T: UnsignedStorage, const BITS: usize, S: ShiftAmount> ShlAssign<S> for UIn
 
     ghost shl_assign_gives = { λ a k r. r ≡ val T.SIGNED (shifted_left (bits BITS a) (unsigned_abs (S.amount k))) };
 
-    fn shl_assign(&mut self, amount: S) {
+    fn shl_assign(&mut self, amount: S)
+        requires { (pos 0 ≤ℤ S.amount amount) × (S.amount amount <ℤ pos BITS) }
+        ensures bits { self.new ≡ val T.SIGNED (shifted_left (bits BITS self.old) (unsigned_abs (S.amount amount))) }
+        ensures plain { self.new ≡ pos (unsigned_abs self.old * 2 ^ unsigned_abs (S.amount amount) % 2 ^ BITS) }
+        ensures congruent { Congruent BITS self.new (self.old *ℤ pos (2 ^ unsigned_abs (S.amount amount))) }
+    {
         *self = *self << amount;
     }
 }
@@ -58,7 +63,11 @@ impl<T: UnsignedStorage, const BITS: usize, S: ShiftAmount> ShrAssign<S> for UIn
 
     ghost shr_assign_gives = { λ a k r. r ≡ val T.SIGNED (shifted_right (bits BITS a) (unsigned_abs (S.amount k)) (fill T.SIGNED (bits BITS a))) };
 
-    fn shr_assign(&mut self, amount: S) {
+    fn shr_assign(&mut self, amount: S)
+        requires { (pos 0 ≤ℤ S.amount amount) × (S.amount amount <ℤ pos BITS) }
+        ensures bits { self.new ≡ val T.SIGNED (shifted_right (bits BITS self.old) (unsigned_abs (S.amount amount)) (fill T.SIGNED (bits BITS self.old))) }
+        ensures quotient { self.new ≡ int_div self.old (pos (2 ^ unsigned_abs (S.amount amount))) }
+    {
         *self = *self >> amount;
     }
 }

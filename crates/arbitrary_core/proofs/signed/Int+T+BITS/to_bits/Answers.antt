@@ -1,4 +1,4 @@
-use Rattle.std.proofs.Common.{sym, subst, ◌∙◌}
+use Rattle.std.proofs.Common.{sym, subst}
 use Rattle.std.specs.Prelude.{ℤ, pos, ◌≡◌}
 use Rattle.arbitrary_base.specs.Residue.{Congruent, residue}
 use Rattle.arbitrary_base.proofs.Wrap.{residue-congruent}

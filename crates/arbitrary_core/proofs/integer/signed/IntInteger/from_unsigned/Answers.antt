@@ -1,9 +1,14 @@
 use Rattle.std.proofs.Common.{◌∙◌, ap}
 use Rattle.arbitrary_base.specs.Residue.{wrap}
+use Rattle.arbitrary_base.proofs.Undone.{mate-undoes}
 use Rattle.arbitrary_base.proofs.Wrapped.{wrapped-congruent}
 use Rattle.arbitrary_core.proofs.integer.signed.IntInteger.from_unsigned.Goals as goal
 
 pub returns : goal.returns
 returns g c =
     let e = c.from_bits.ensures.number ∙ ap (wrap g.T.Storage.SIGNED g.row.BITS) c.value.ensures.number in
-    record { value = e; congruent = wrapped-congruent g.T.Storage.SIGNED g.row.BITS _ _ e }
+    record {
+      value = e;
+      congruent = wrapped-congruent g.T.Storage.SIGNED g.row.BITS _ _ e;
+      undo = λ y f d. mate-undoes g.T.Storage.SIGNED g.row.BITS _ _ y (c.value.ensures.width.0) f d e;
+    }

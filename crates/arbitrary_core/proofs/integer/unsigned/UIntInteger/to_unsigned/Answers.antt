@@ -6,4 +6,4 @@ use Rattle.arbitrary_core.proofs.integer.unsigned.UIntInteger.to_unsigned.Goals 
 pub returns : goal.returns
 returns g c =
     let e = wrap-kept_at g.T.Storage.SIGNED false g.row.BITS _ _ _ g.met.T.UnsignedStorage.unsigned_law (c.value.ensures.width.0) c.value.ensures.range c.value.ensures.number c.new.ensures in
-    record { value = e; congruent = wrapped-congruent false g.row.BITS _ _ e }
+    record { value = e; congruent = wrapped-congruent false g.row.BITS _ _ e; range = c.value.ensures.range }

@@ -1,0 +1,215 @@
+//! Shifts, rotations, reversal, counts, the bitwise operators and extraction, bit by bit.
+
+use crate::operands::{number, patterns, width};
+use arbitrary_int::prelude::*;
+
+/// The bit at a place.
+fn bit(pattern: u128, place: u32) -> bool {
+    pattern.wrapping_shr(place) & 1 == 1
+}
+
+/// The number of `bits` bits that the call `name` gives, one bit after the other.
+fn moved(name: &str, pattern: u128, amount: u32, bits: u32, signed: bool) -> u128 {
+    let places = amount.checked_rem(bits).unwrap_or(0);
+    let rest = bits.wrapping_sub(places);
+    let mut result = 0;
+    for at in 0..bits {
+        let is_one = match name {
+            "shl" => places <= at && bit(pattern, at.wrapping_sub(places)),
+            "shr" if at < rest => bit(pattern, at.wrapping_add(places)),
+            "shr" => signed && bit(pattern, bits.wrapping_sub(1)),
+            "rotate_left" if at < places => bit(pattern, at.wrapping_add(rest)),
+            "rotate_left" => bit(pattern, at.wrapping_sub(places)),
+            "rotate_right" if at < rest => bit(pattern, at.wrapping_add(places)),
+            "rotate_right" => bit(pattern, at.wrapping_sub(rest)),
+            "reverse" => bit(pattern, bits.wrapping_sub(1).wrapping_sub(at)),
+            _ => !bit(pattern, at),
+        };
+        if is_one {
+            result |= 1u128.wrapping_shl(at);
+        }
+    }
+    number(result, bits, signed)
+}
+
+/// How many bits from an end on are `wanted`.
+fn run_of(pattern: u128, bits: u32, wanted: bool, from_the_top: bool) -> u32 {
+    let mut count = 0u32;
+    for at in 0..bits {
+        let place = if from_the_top {
+            bits.wrapping_sub(1).wrapping_sub(at)
+        } else {
+            at
+        };
+        if bit(pattern, place) != wanted {
+            return count;
+        }
+        count = count.wrapping_add(1);
+    }
+    count
+}
+
+/// How many bits are one.
+fn ones(pattern: u128, bits: u32) -> u32 {
+    let mut count = 0u32;
+    for at in 0..bits {
+        if bit(pattern, at) {
+            count = count.wrapping_add(1);
+        }
+    }
+    count
+}
+
+/// The first call by an amount that is wrong.
+fn first_wrong_by<V: FixedWidth>(a: V, amount: u32) -> Option<&'static str> {
+    let (bits, signed) = (width(a), V::IS_SIGNED);
+    let pattern = a.extended();
+    let left = moved("shl", pattern, amount, bits, signed);
+    let right = moved("shr", pattern, amount, bits, signed);
+    let past = bits <= amount;
+    let (shl, shl_past) = a.overflowing_shl(amount);
+    let (shr, shr_past) = a.overflowing_shr(amount);
+    if a.wrapping_shl(amount).extended() != left || (shl.extended(), shl_past) != (left, past) {
+        return Some("shl");
+    }
+    if a.wrapping_shr(amount).extended() != right || (shr.extended(), shr_past) != (right, past) {
+        return Some("shr");
+    }
+    let checked_left = a.checked_shl(amount).map(|v| v.extended());
+    let checked_right = a.checked_shr(amount).map(|v| v.extended());
+    if checked_left != (if past { None } else { Some(left) }) {
+        return Some("checked_shl");
+    }
+    if checked_right != (if past { None } else { Some(right) }) {
+        return Some("checked_shr");
+    }
+    if a.rotate_left(amount).extended() != moved("rotate_left", pattern, amount, bits, signed) {
+        return Some("rotate_left");
+    }
+    if a.rotate_right(amount).extended() != moved("rotate_right", pattern, amount, bits, signed) {
+        return Some("rotate_right");
+    }
+    None
+}
+
+/// The first call on one value that is wrong.
+fn first_wrong_of_one<V: FixedWidth>(a: V) -> Option<&'static str> {
+    let (bits, signed) = (width(a), V::IS_SIGNED);
+    let pattern = a.extended();
+    if a.reverse_bits().extended() != moved("reverse", pattern, 0, bits, signed) {
+        return Some("reverse_bits");
+    }
+    if (!a).extended() != moved("not", pattern, 0, bits, signed) {
+        return Some("not");
+    }
+    let ones = ones(pattern, bits);
+    if (a.count_ones(), a.count_zeros()) != (ones, bits.wrapping_sub(ones)) {
+        return Some("count_ones, count_zeros");
+    }
+    let leading = (
+        run_of(pattern, bits, true, true),
+        run_of(pattern, bits, false, true),
+    );
+    if (a.leading_ones(), a.leading_zeros()) != leading {
+        return Some("leading_ones, leading_zeros");
+    }
+    let trailing = (
+        run_of(pattern, bits, true, false),
+        run_of(pattern, bits, false, false),
+    );
+    if (a.trailing_ones(), a.trailing_zeros()) != trailing {
+        return Some("trailing_ones, trailing_zeros");
+    }
+    None
+}
+
+/// The first bitwise operator that is wrong.
+fn first_wrong_of_two<V: FixedWidth>(a: V, b: V) -> Option<&'static str> {
+    let (x, y) = (a.extended(), b.extended());
+    if (a & b).extended() != x & y {
+        return Some("and");
+    }
+    if (a | b).extended() != x | y {
+        return Some("or");
+    }
+    if (a ^ b).extended() != x ^ y {
+        return Some("xor");
+    }
+    None
+}
+
+/// Extraction from 128 bits at the first and the last place, and from each narrower source that has
+/// room, is what shifts and masks give.
+fn first_wrong_extraction<V: FixedWidth>(sample: V, source: u128) -> Option<&'static str> {
+    let _ = sample.extended();
+    let (bits, signed) = (width(sample), V::IS_SIGNED);
+    if V::BITS <= 128 {
+        let last = 128 - V::BITS;
+        let places = u32::try_from(last).unwrap_or(0);
+        let at_last = number(source.wrapping_shr(places), bits, signed);
+        if V::extract_u128(source, 0).extended() != number(source, bits, signed)
+            || V::extract_u128(source, last).extended() != at_last
+            || V::extract_i128(source.cast_signed(), last).extended() != at_last
+        {
+            return Some("extract_u128");
+        }
+    }
+    if V::BITS <= 64 {
+        let last = 64 - V::BITS;
+        let places = u32::try_from(last).unwrap_or(0);
+        let low = u64::masked_new(source);
+        let at_last = number(u128::from(low).wrapping_shr(places), bits, signed);
+        if V::extract_u64(low, last).extended() != at_last
+            || V::extract_i64(low.cast_signed(), last).extended() != at_last
+        {
+            return Some("extract_u64");
+        }
+    }
+    if V::BITS <= 8 {
+        let last = 8 - V::BITS;
+        let places = u32::try_from(last).unwrap_or(0);
+        let low = u8::masked_new(source);
+        let at_last = number(u128::from(low).wrapping_shr(places), bits, signed);
+        if V::extract_u8(low, last).extended() != at_last
+            || V::extract_i8(low.cast_signed(), last).extended() != at_last
+        {
+            return Some("extract_u8");
+        }
+    }
+    None
+}
+
+/// The first call that is wrong on any operand of this type.
+pub fn wrong<V: FixedWidth>(sample: V) -> Option<&'static str> {
+    let _ = sample.extended();
+    let bits = width(sample);
+    let operands = patterns(bits);
+    let amounts = [
+        0,
+        1,
+        bits.wrapping_sub(1),
+        bits,
+        bits.wrapping_add(1),
+        u32::MAX,
+    ];
+    for x in operands {
+        let a = V::from_extended(x);
+        if let Some(name) = first_wrong_of_one(a) {
+            return Some(name);
+        }
+        if let Some(name) = first_wrong_extraction(sample, x) {
+            return Some(name);
+        }
+        for amount in amounts {
+            if let Some(name) = first_wrong_by(a, amount) {
+                return Some(name);
+            }
+        }
+        for y in operands {
+            if let Some(name) = first_wrong_of_two(a, V::from_extended(y)) {
+                return Some(name);
+            }
+        }
+    }
+    None
+}
