@@ -10,6 +10,8 @@ use Rattle.arbitrary_int.proofs.ByteNumber.{length-Borsh, Borsh-unique}
 use Rattle.arbitrary_int.proofs.StreamSteps.{begun_append, begun_after}
 use Rattle.examples.specs.Journal.{record_bytes}
 
+-- ---- a beginning of a record was written: of its first field, or all of the fields before and a beginning of the next
+
 pub first_begun : (time level source reading : ℤ) (a b : Option (List ℕ)) → AppendsBeginning a b (BorshBytes 40 time) → AppendsBeginning a b (record_bytes time level source reading)
 first_begun time level source reading a b h = begun_append a b (BorshBytes 40 time) (BorshBytes 3 level ++ (BorshBytes 9 source ++ BorshBytes 12 reading)) h
 
@@ -29,6 +31,8 @@ pub fourth_begun : (time level source reading : ℤ) (a b c d e : Option (List �
 fourth_begun time level source reading a b c d e p q r h =
     begun_after a b e (BorshBytes 40 time) (BorshBytes 3 level ++ (BorshBytes 9 source ++ BorshBytes 12 reading)) p
     (begun_after b c e (BorshBytes 3 level) (BorshBytes 9 source ++ BorshBytes 12 reading) q (begun_after c d e (BorshBytes 9 source) (BorshBytes 12 reading) r h))
+
+-- ---- a record is told by its bytes
 
 -- the first of two fields tells its number, and the rest
 field-same : (s : Bool) (B : ℕ) (x y : ℤ) (xs ys : List ℕ) → 1 ≤ B → InRange s B x → InRange s B y → BorshBytes B x ++ xs ≡ BorshBytes B y ++ ys → (x ≡ y) × (xs ≡ ys)
