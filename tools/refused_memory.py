@@ -3,7 +3,7 @@
 
 Runs `bitrun` with its first growth of memory refused, then with its second, and so on until a run meets none. Each run
 before that has to print the fault alone and end with status 3, and the last has to answer as if nothing had been refused.
-The growths are refused by `rt try --fail-alloc`, which builds the program for each run, so this takes about a minute.
+The growths are refused by `rt try --fail-alloc`, which builds the program for each run: that takes 10 to 20 seconds each time.
 """
 import os
 import re
