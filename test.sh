@@ -1,7 +1,7 @@
 #!/usr/bin/env bash
 # Checks the short names, the examples of the documents, the count of the definitions and bitrun.sh, then proves, tests and runs
 # everything from nothing, and tries each edit that must be refused. Last it runs the program on damaged and on random inputs, as
-# both compilers have just built it.
+# both compilers have just built it, and with each growth of memory refused in turn.
 set -euo pipefail
 unset CDPATH
 cd -- "$(dirname -- "$0")"
@@ -15,5 +15,6 @@ rt ci | tee "$log"
 programs=(crates/bitrun/out/bitrun crates/bitrun/out/bitrun.by-rattle)
 python3 tools/endings.py "${programs[@]}"
 python3 tools/fuzz.py "${programs[@]}"
+python3 tools/refused_memory.py
 # how `rt ci` ended: 'N passed, 0 failed'
 tail -n 1 "$log"

@@ -10,5 +10,6 @@ mod keys;
 mod powers;
 mod ranges;
 mod steps;
+mod streams;
 mod texts;
 mod widths;

@@ -93,7 +93,7 @@ fn usual_number(text: &[u8]) -> Option<(u128, &[u8])>
     Some((number, rest))
 }
 
-/// The power of ten that one more than so many digits need.
+/// `10 ^ count`, for no more digits than are read at a time.
 #[inline(always)]
 fn power_of_ten(count: usize) -> u64
     requires { count ≤ 18 }

@@ -3,6 +3,7 @@ use crate::fault::Fault;
 use crate::serving::{serve, serve_in};
 use arbitrary_int::Watched;
 use linked_list_allocator::LocalHeap;
+use std::alloc::Global;
 use std::test::Fail;
 
 const STOPPED: &[u8] = b"run u7\n100 50 0\nwadd 2 0 1\ncadd 0 0 1\n";
@@ -95,7 +96,7 @@ fn answers(rt: HostRuntime) -> Result<(), Fail> {
 
 #[test]
 fn bad_lines(rt: HostRuntime) -> Result<(), Fail> {
-    let rows: [(&[u8], usize); 28] = [
+    let rows: [(&[u8], usize); 29] = [
         (b"", 1),
         (b"\nrun u7\n", 1),
         (b"RUN u7\n1", 1),
@@ -123,6 +124,7 @@ fn bad_lines(rt: HostRuntime) -> Result<(), Fail> {
         (b"run u7\n1\nwadd 0 0 18446744073709551616", 3),
         (b"run u7\n1\nwaddx 0 0 0", 3),
         (BAD, 4),
+        (b"run u7\n1 0\nwdiv 0 0 1\nwadd 9 0 0", 4),
         (b"run u7\n1 0\nwdiv 0 0 1\nwadd 9 0 0\nx", 4),
     ];
     for (input, line) in rows {
@@ -152,6 +154,54 @@ fn longest_input(rt: HostRuntime) -> Result<(), Fail> {
         assert_eq!(rt; written.as_slice(), answer);
         input.push(b'\n')?;
     }
+    for byte in input.as_mut_slice() {
+        *byte = b'x';
+    }
+    input.truncate(65_537);
+    let mut reader = Watched::new(input.as_slice());
+    let mut writer = Watched::new(Vec::new(rt.alloc()));
+    assert_eq!(rt; serve(rt.alloc(), &mut reader, &mut writer), Err(Fault::TooLong));
+    Ok(())
+}
+
+/// What is written for an input, or the fault.
+fn answer_to(alloc: Global, input: &[u8]) -> Result<Vec<u8>, Fault> {
+    let mut reader = Watched::new(input);
+    let mut writer = Watched::new(Vec::new(alloc));
+    serve(alloc, &mut reader, &mut writer)?;
+    Ok(writer.into_inner())
+}
+
+#[test]
+fn thousands_of_steps(rt: HostRuntime) -> Result<(), Fail> {
+    let mut input = Vec::new(rt.alloc());
+    input.extend_from_slice(b"run u14\n0 1\n")?;
+    for _ in 0..5_956 {
+        input.extend_from_slice(b"wadd 0 0 1\n")?;
+    }
+    let answer = answer_to(rt.alloc(), input.as_slice());
+    assert!(rt; answer.is_ok_and(|text| text.as_slice() == b"5956 1\ndone\n".as_slice()));
+    Ok(())
+}
+
+#[test]
+fn thousands_of_registers(rt: HostRuntime) -> Result<(), Fail> {
+    let mut others = Vec::new(rt.alloc());
+    for _ in 0..32_755 {
+        others.extend_from_slice(b" 1")?;
+    }
+    let mut input = Vec::new(rt.alloc());
+    input.extend_from_slice(b"wide u14 u7\n1")?;
+    input.extend_from_slice(others.as_slice())?;
+    input.extend_from_slice(b"\nnot 0 0\n")?;
+    let mut wanted = Vec::new(rt.alloc());
+    wanted.extend_from_slice(b"16382")?;
+    wanted.extend_from_slice(others.as_slice())?;
+    wanted.extend_from_slice(b"\n126")?;
+    wanted.extend_from_slice(others.as_slice())?;
+    wanted.extend_from_slice(b"\ndone\n")?;
+    let answer = answer_to(rt.alloc(), input.as_slice());
+    assert!(rt; answer.is_ok_and(|text| text.as_slice() == wanted.as_slice()));
     Ok(())
 }
 

@@ -1,0 +1,139 @@
+//! Values in streams that give or take a byte a call, and that give out in mid-value.
+
+ghost use Rattle.std.specs.Prelude.{◌<◌, IfOk, IfSome};
+
+use crate::Watched;
+use crate::prelude::*;
+use std::io;
+use std::io::{ErrorKind, Read, Write};
+use std::process::Abort;
+
+/// Gives or takes one byte at each call, and counts the calls. It lasts for so many of them; each later one is a fault of
+/// the kind, or gives or takes nothing.
+#[derive(Drop)]
+struct Drip {
+    bytes: [u8; 16],
+    calls: usize,
+    lasts: usize,
+    fault: Option<ErrorKind>,
+}
+
+impl Drip {
+    fn new(bytes: [u8; 16], lasts: usize, fault: Option<ErrorKind>) -> Self {
+        Drip {
+            bytes,
+            calls: 0,
+            lasts,
+            fault,
+        }
+    }
+
+    /// The place of the next byte, if it gives or takes one.
+    fn place(&mut self) -> io::Result<Option<usize>>
+        ensures { IfOk result (λ place. IfSome place (λ n. n < 16)) }
+    {
+        let place = self.calls;
+        self.calls = place.saturating_add(1);
+        if place < self.lasts && place < 16 {
+            return Ok(Some(place));
+        }
+        match self.fault {
+            Some(kind) => Err(io::Error::from(kind)),
+            None => Ok(None),
+        }
+    }
+}
+
+impl Read for Drip {
+    fn read(&mut self, buf: &mut [u8]) -> io::Result<usize> {
+        match self.place()? {
+            Some(place) if !buf.is_empty() => {
+                buf[0] = self.bytes[place];
+                Ok(1)
+            }
+            _ => Ok(0),
+        }
+    }
+}
+
+impl Write for Drip {
+    fn write(&mut self, buf: &[u8]) -> io::Result<usize> {
+        match self.place()? {
+            Some(place) if !buf.is_empty() => {
+                self.bytes[place] = buf[0];
+                Ok(1)
+            }
+            _ => Ok(0),
+        }
+    }
+
+    fn flush(&mut self) -> io::Result<()> {
+        Ok(())
+    }
+}
+
+/// Reads the value from its bytes, and writes it, where the stream ends or fails after each number of bytes up to all.
+fn goes_through_streams<V: FixedWidth>(rt: &impl Abort, value: V, bytes: &[u8])
+    requires { V.valid }
+{
+    let mut all = [0; 16];
+    let count = value.to_borsh_bytes(&mut all);
+    assert_eq!(rt; all.get(..count), Some(bytes));
+    for fault in [None, Some(ErrorKind::Other), Some(ErrorKind::Interrupted)] {
+        for lasts in 0..=bytes.len() {
+            let is_whole = lasts == bytes.len();
+            // the call that finds no further byte is the last
+            let calls = if is_whole {
+                lasts
+            } else {
+                lasts.saturating_add(1)
+            };
+
+            let mut reader = Watched::new(Drip::new(all, lasts, fault));
+            let read = V::deserialize_reader(&mut reader).map_err(|error| error.kind());
+            let wanted = if is_whole {
+                Ok(value)
+            } else {
+                Err(fault.unwrap_or(ErrorKind::UnexpectedEof))
+            };
+            assert_eq!(rt; read, wanted, "read after {lasts} bytes");
+            assert_eq!(rt; reader.failed(), !is_whole && fault.is_some());
+            assert_eq!(rt; reader.into_inner().calls, calls);
+
+            let mut writer = Watched::new(Drip::new([0x7E; 16], lasts, fault));
+            let written = value.serialize(&mut writer).map_err(|error| error.kind());
+            let wanted = if is_whole {
+                Ok(())
+            } else {
+                Err(fault.unwrap_or(ErrorKind::WriteZero))
+            };
+            assert_eq!(rt; written, wanted, "written after {lasts} bytes");
+            assert_eq!(rt; writer.failed(), !is_whole);
+            let taken = writer.into_inner();
+            assert_eq!(rt; taken.calls, calls);
+            for place in 0..16 {
+                let byte = if place < lasts { all[place] } else { 0x7E };
+                assert_eq!(rt; taken.bytes[place], byte);
+            }
+        }
+    }
+}
+
+#[test]
+fn values_a_byte_at_a_time(rt: HostRuntime) {
+    goes_through_streams(&rt, u9::new(300), &[0x2C, 0x01]);
+    goes_through_streams(&rt, i9::new(-1), &[0xFF, 0x01]);
+    goes_through_streams(
+        &rt,
+        u120::new(0x0F0E_0D0C_0B0A_0908_0706_0504_0302_01),
+        &[1, 2, 3, 4, 5, 6, 7, 8, 9, 10, 11, 12, 13, 14, 15],
+    );
+    goes_through_streams(
+        &rt,
+        UInt::<u128, 128>::new(0xFFEE_DDCC_BBAA_9988_7766_5544_3322_1100),
+        &[
+            0x00, 0x11, 0x22, 0x33, 0x44, 0x55, 0x66, 0x77, 0x88, 0x99, 0xAA, 0xBB, 0xCC, 0xDD,
+            0xEE, 0xFF,
+        ],
+    );
+}
