@@ -5,7 +5,7 @@ use arbitrary_int::prelude::*;
 
 /// The exact result of `name` on two numbers of 128 bits, as a pattern, and whether a type of `bits`
 /// bits has it. Only the primitives' own calls are asked.
-fn exact(name: &str, x: u128, y: u128, bits: u32, signed: bool) -> (u128, bool) {
+pub fn exact(name: &str, x: u128, y: u128, bits: u32, signed: bool) -> (u128, bool) {
     let (pattern, lost) = if signed {
         let (a, b) = (x.cast_signed(), y.cast_signed());
         let (result, lost) = match name {

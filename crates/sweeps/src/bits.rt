@@ -138,43 +138,41 @@ fn first_wrong_of_two<V: FixedWidth>(a: V, b: V) -> Option<&'static str> {
     None
 }
 
-/// Extraction from 128 bits at the first and the last place, and from each narrower source that has
-/// room, is what shifts and masks give.
+/// Whether a source of `$width` bits, of both signs, gives other bits at its first or last place than shifts and masks do.
+macro_rules! differs {
+    ($width:literal, $unsigned:ty, $from_unsigned:ident, $from_signed:ident, $bits:expr, $signed:expr, $source:expr) => {
+        if V::BITS <= $width {
+            let last = $width - V::BITS;
+            let low = <$unsigned>::masked_new($source);
+            let places = u32::try_from(last).unwrap_or(0);
+            let at_last = number(u128::from_(low).wrapping_shr(places), $bits, $signed);
+            V::$from_unsigned(low, 0).extended() != number($source, $bits, $signed)
+                || V::$from_unsigned(low, last).extended() != at_last
+                || V::$from_signed(low.cast_signed(), last).extended() != at_last
+        } else {
+            false
+        }
+    };
+}
+
+/// The first extraction that is wrong, of sources that have room.
 fn first_wrong_extraction<V: FixedWidth>(sample: V, source: u128) -> Option<&'static str> {
     let _ = sample.extended();
     let (bits, signed) = (width(sample), V::IS_SIGNED);
-    if V::BITS <= 128 {
-        let last = 128 - V::BITS;
-        let places = u32::try_from(last).unwrap_or(0);
-        let at_last = number(source.wrapping_shr(places), bits, signed);
-        if V::extract_u128(source, 0).extended() != number(source, bits, signed)
-            || V::extract_u128(source, last).extended() != at_last
-            || V::extract_i128(source.cast_signed(), last).extended() != at_last
-        {
-            return Some("extract_u128");
-        }
+    if differs!(128, u128, extract_u128, extract_i128, bits, signed, source) {
+        return Some("extract_u128");
     }
-    if V::BITS <= 64 {
-        let last = 64 - V::BITS;
-        let places = u32::try_from(last).unwrap_or(0);
-        let low = u64::masked_new(source);
-        let at_last = number(u128::from(low).wrapping_shr(places), bits, signed);
-        if V::extract_u64(low, last).extended() != at_last
-            || V::extract_i64(low.cast_signed(), last).extended() != at_last
-        {
-            return Some("extract_u64");
-        }
+    if differs!(64, u64, extract_u64, extract_i64, bits, signed, source) {
+        return Some("extract_u64");
     }
-    if V::BITS <= 8 {
-        let last = 8 - V::BITS;
-        let places = u32::try_from(last).unwrap_or(0);
-        let low = u8::masked_new(source);
-        let at_last = number(u128::from(low).wrapping_shr(places), bits, signed);
-        if V::extract_u8(low, last).extended() != at_last
-            || V::extract_i8(low.cast_signed(), last).extended() != at_last
-        {
-            return Some("extract_u8");
-        }
+    if differs!(32, u32, extract_u32, extract_i32, bits, signed, source) {
+        return Some("extract_u32");
+    }
+    if differs!(16, u16, extract_u16, extract_i16, bits, signed, source) {
+        return Some("extract_u16");
+    }
+    if differs!(8, u8, extract_u8, extract_i8, bits, signed, source) {
+        return Some("extract_u8");
     }
     None
 }

@@ -2,11 +2,10 @@
 
 use arbitrary_int::prelude::*;
 
-#[test]
-fn powers_take_the_multiplications_of_squaring(rt: HostRuntime) {
-    // A base that is not 0 or 1: one squaring for each binary digit but the last, and one product for
-    // each digit that is one.
-    for (exponent, count) in [
+/// Exponents, and the count of each for a base that is not 0 or 1: one squaring for each binary digit but
+/// the last, and one product for each digit that is one.
+fn counts() -> [(u32, u32); 15] {
+    [
         (0, 0),
         (1, 1),
         (2, 2),
@@ -22,22 +21,49 @@ fn powers_take_the_multiplications_of_squaring(rt: HostRuntime) {
         (32, 6),
         (63, 11),
         (64, 7),
-    ] {
-        let (power, counted) = u120::new(2).saturating_pow_counted(exponent);
-        assert_eq!(rt;
-            power.value(),
-            1u128.wrapping_shl(exponent),
-            "2 to {exponent}"
-        );
-        assert_eq!(rt; counted, count, "2 to {exponent}");
-        let (_, counted) = i120::new(-2).saturating_pow_counted(exponent);
-        assert_eq!(rt; counted, count, "-2 to {exponent}");
-    }
-    // 0 and 1 are their own squares, which the first squaring shows; one product ends it.
-    for exponent in [2, 3, 4, 1000, u32::MAX] {
-        for base in [u7::new(0), u7::new(1)] {
-            let (_, counted) = base.saturating_pow_counted(exponent);
-            assert_eq!(rt; counted, 2, "{base} to {exponent}");
+    ]
+}
+
+/// The first exponent that takes another count.
+fn first_wrong<V: FixedWidth>(base: V, counts: &[(u32, u32)]) -> Option<u32> {
+    for (exponent, count) in counts {
+        let (_, counted) = base.saturating_pow_counted(*exponent);
+        if counted != *count {
+            return Some(*exponent);
         }
     }
+    None
+}
+
+/// The first exponent whose power of two is not a one moved up so far.
+fn first_wrong_power(counts: &[(u32, u32)]) -> Option<u32> {
+    for (exponent, _) in counts {
+        let (power, _) = u120::new(2).saturating_pow_counted(*exponent);
+        if power.value() != 1u128.wrapping_shl(*exponent) {
+            return Some(*exponent);
+        }
+    }
+    None
+}
+
+#[test]
+fn powers_take_the_multiplications_of_squaring(rt: HostRuntime) {
+    let counts = counts();
+    assert_eq!(rt;
+        [
+            first_wrong_power(&counts),
+            first_wrong(u120::new(2), &counts),
+            first_wrong(i120::new(-2), &counts),
+        ],
+        [None; 3]
+    );
+    // 0 and 1 are their own squares, which the first squaring shows; one product ends it.
+    let twos = [(2, 2), (3, 2), (4, 2), (1000, 2), (u32::MAX, 2)];
+    assert_eq!(rt;
+        [
+            first_wrong(u7::new(0), &twos),
+            first_wrong(u7::new(1), &twos),
+        ],
+        [None; 2]
+    );
 }

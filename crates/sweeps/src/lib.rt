@@ -14,4 +14,6 @@ mod mates;
 #[cfg(test)]
 mod operands;
 #[cfg(test)]
+mod steps;
+#[cfg(test)]
 mod widths;

@@ -5,29 +5,31 @@ use crate::operands::{number, patterns, width};
 use arbitrary_int::prelude::*;
 use arbitrary_int::{Step, TwoOp, Why, run, well_formed};
 
-/// What a step leaves of two registers in the first of them, or why it stops. Every such step is well formed.
-fn after<V: FixedWidth>(op: TwoOp, a: V, b: V) -> Option<Result<u128, Why>> {
+/// What a step leaves of two numbers in the first of the registers, or why it stops. There are two registers
+/// at least, so that every such step is well formed.
+fn after<V: FixedWidth>(op: TwoOp, a: V, b: V, registers: &mut [V]) -> Option<Result<u128, Why>> {
     let steps = [Step::Two {
         op,
         to: 0,
         left: 0,
         right: 1,
     }];
-    let mut registers = [a, b];
-    if !well_formed(&steps, 2) {
+    if registers.len() < 2 || !well_formed(&steps, registers.len()) {
         return None;
     }
-    match run(&steps, &mut registers) {
-        Ok(()) => Some(Ok(registers[0].extended())),
+    registers[0] = a;
+    registers[1] = b;
+    match run(&steps, registers) {
+        Ok(()) => registers.first().map(|left| Ok(left.extended())),
         Err(stop) => Some(Err(stop.why)),
     }
 }
 
 /// The first step that is wrong.
-fn first_wrong<V: FixedWidth>(a: V, b: V) -> Option<&'static str> {
+fn first_wrong<V: FixedWidth>(a: V, b: V, registers: &mut [V]) -> Option<&'static str> {
     let (bits, signed) = (width(a), V::IS_SIGNED);
-    let greatest = V::max_value().extended();
     let (pattern, fits) = exact("div", a.extended(), b.extended(), bits, signed);
+    let greatest = V::max_value().extended();
     let by_zero = b == V::zero();
     let wrapping = if by_zero {
         Err(Why::ZeroDivisor)
@@ -44,25 +46,25 @@ fn first_wrong<V: FixedWidth>(a: V, b: V) -> Option<&'static str> {
     } else {
         Ok(pattern)
     };
-    if after(TwoOp::WrappingDiv, a, b) != Some(wrapping) {
+    if after(TwoOp::WrappingDiv, a, b, registers) != Some(wrapping) {
         return Some("wrapping_div step");
     }
-    if after(TwoOp::SaturatingDiv, a, b) != Some(saturating) {
+    if after(TwoOp::SaturatingDiv, a, b, registers) != Some(saturating) {
         return Some("saturating_div step");
     }
-    if after(TwoOp::CheckedDiv, a, b) != Some(checked) {
+    if after(TwoOp::CheckedDiv, a, b, registers) != Some(checked) {
         return Some("checked_div step");
     }
     None
 }
 
 /// The first step that is wrong on any pair of operands of this type.
-pub fn wrong<V: FixedWidth>(sample: V) -> Option<&'static str> {
+pub fn wrong<V: FixedWidth>(sample: V, registers: &mut [V]) -> Option<&'static str> {
     let _ = sample.extended();
     let operands = patterns(width(sample));
     for x in operands {
         for y in operands {
-            let name = first_wrong(V::from_extended(x), V::from_extended(y));
+            let name = first_wrong(V::from_extended(x), V::from_extended(y), registers);
             if name.is_some() {
                 return name;
             }

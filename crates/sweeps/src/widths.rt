@@ -1,22 +1,25 @@
 //! Widths at both ends of each storage, of both signs, and narrow ones over wide storages.
 
-use crate::{arithmetic, bits};
+use crate::{arithmetic, bits, steps};
 use arbitrary_int::prelude::*;
 
-/// The first call that is wrong on any operand of this type.
-fn wrong<V: FixedWidth>(sample: V) -> Option<&'static str> {
-    let name = arithmetic::wrong(sample);
-    if name.is_some() {
-        name
-    } else {
-        bits::wrong(sample)
+/// The first call that is wrong on any operand of this type. Steps run on two registers.
+fn wrong<V: FixedWidth>(sample: V, registers: &mut [V]) -> Option<&'static str> {
+    let of_arithmetic = arithmetic::wrong(sample);
+    if of_arithmetic.is_some() {
+        return of_arithmetic;
     }
+    let of_steps = steps::wrong(sample, registers);
+    if of_steps.is_some() {
+        return of_steps;
+    }
+    bits::wrong(sample)
 }
 
 /// What is wrong at each of the widths.
 macro_rules! wrong_at {
     ($kind:ident<$storage:ty>: $($bits:literal)*) => {
-        [$(wrong($kind::<$storage, $bits>::zero())),*]
+        [$(wrong($kind::<$storage, $bits>::zero(), &mut [$kind::<$storage, $bits>::zero(); 2])),*]
     };
 }
 
