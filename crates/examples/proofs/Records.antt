@@ -1,14 +1,19 @@
 -- A log's record, written and read one field after the other.
-use Rattle.std.specs.Prelude.{◌≡◌, ℕ, ℤ, Bool, true, false, List, ◌++◌, ◌≤◌, length, take, drop, Option}
-use Rattle.std.specs.Io.KnownBytes.{Appends}
-use Rattle.std.proofs.Common.{sym, ◌∙◌, lit≤, append_assoc}
+use Rattle.std.specs.Prelude.{◌≡◌, ℕ, ℤ, Bool, true, false, List, ◌++◌, ◌≤◌, length, take, drop, Option, None, Some, IsTrue, Result, Ok, Err, OnErr}
+use Rattle.std.specs.Io.KnownBytes.{Appends, Consumes}
+use Rattle.std.proofs.Common.{arith, sym, ap, subst, ◌∙◌, lit≤, append_assoc, length-append, inl, inr}
 use Rattle.std.proofs.Math.Seq.{take-append_seam, drop-append_seam}
 use Rattle.arbitrary_int.specs.Range.{InRange}
-use Rattle.arbitrary_int.specs.Bytes.{BorshBytes}
+use Rattle.arbitrary_int.specs.Bytes.{BorshBytes, Canonical, byte_count}
+use Rattle.arbitrary_int.specs.Reading.{Unreadable}
 use Rattle.arbitrary_int.specs.Stream.{AppendsBeginning}
-use Rattle.arbitrary_int.proofs.ByteNumber.{length-Borsh, Borsh-unique}
+use Rattle.arbitrary_int.proofs.ByteNumber.{length-Borsh, Borsh-canonical, Borsh-unique}
 use Rattle.arbitrary_int.proofs.StreamSteps.{begun_append, begun_after}
-use Rattle.examples.specs.Journal.{record_bytes}
+use Rattle.examples.specs.Journal.{FailedOrNoRecord, record_bytes}
+
+pub on_err : {T E P : Type 0} → (r : Result T E) → P → OnErr r P
+on_err (Ok x) p = tt
+on_err (Err e) p = p
 
 -- ---- a beginning of a record was written: of its first field, or all of the fields before and a beginning of the next
 
@@ -34,13 +39,25 @@ fourth_begun time level source reading a b c d e p q r h =
 
 -- ---- a record is told by its bytes
 
--- the first of two fields tells its number, and the rest
-field-same : (s : Bool) (B : ℕ) (x y : ℤ) (xs ys : List ℕ) → 1 ≤ B → InRange s B x → InRange s B y → BorshBytes B x ++ xs ≡ BorshBytes B y ++ ys → (x ≡ y) × (xs ≡ ys)
-field-same s B x y xs ys h f g e =
-    let n : length (BorshBytes B x) ≡ length (BorshBytes B y) = length-Borsh B x ∙ sym (length-Borsh B y) in (
-      Borsh-unique s B x y h f g (sym (take-append_seam (BorshBytes B x) xs) ∙ (λ i. take (n i) (e i)) ∙ take-append_seam (BorshBytes B y) ys),
-      sym (drop-append_seam (BorshBytes B x) xs) ∙ (λ i. drop (n i) (e i)) ∙ drop-append_seam (BorshBytes B y) ys,
-    )
+-- its fields in turn, and what follows
+in_turn : (time level source reading : ℤ) (rest : List ℕ)
+    → record_bytes time level source reading ++ rest ≡ BorshBytes 40 time ++ (BorshBytes 3 level ++ (BorshBytes 9 source ++ (BorshBytes 12 reading ++ rest)))
+in_turn time level source reading rest =
+    append_assoc (BorshBytes 40 time) (BorshBytes 3 level ++ (BorshBytes 9 source ++ BorshBytes 12 reading)) rest
+    ∙ ap (λ (l : List ℕ). BorshBytes 40 time ++ l)
+    (append_assoc (BorshBytes 3 level) (BorshBytes 9 source ++ BorshBytes 12 reading) rest ∙ ap (λ (l : List ℕ). BorshBytes 3 level ++ l) (append_assoc (BorshBytes 9 source) (BorshBytes 12 reading) rest))
+
+-- what follows a field
+rest-same : (B : ℕ) (x y : ℤ) (xs ys : List ℕ) → BorshBytes B x ++ xs ≡ BorshBytes B y ++ ys → xs ≡ ys
+rest-same B x y xs ys e =
+    let n : length (BorshBytes B x) ≡ length (BorshBytes B y) = length-Borsh B x ∙ sym (length-Borsh B y) in
+    sym (drop-append_seam (BorshBytes B x) xs) ∙ (λ i. drop (n i) (e i)) ∙ drop-append_seam (BorshBytes B y) ys
+
+-- a field tells its number
+number-same : (s : Bool) (B : ℕ) (x y : ℤ) (xs ys : List ℕ) → 1 ≤ B → InRange s B x → InRange s B y → BorshBytes B x ++ xs ≡ BorshBytes B y ++ ys → x ≡ y
+number-same s B x y xs ys h f g e =
+    let n : length (BorshBytes B x) ≡ length (BorshBytes B y) = length-Borsh B x ∙ sym (length-Borsh B y) in
+    Borsh-unique s B x y h f g (sym (take-append_seam (BorshBytes B x) xs) ∙ (λ i. take (n i) (e i)) ∙ take-append_seam (BorshBytes B y) ys)
 
 pub records-same : (time level source reading time2 level2 source2 reading2 : ℤ) (rest rest2 : List ℕ)
     → InRange false 40 time → InRange false 3 level → InRange false 9 source → InRange true 12 reading
@@ -48,8 +65,47 @@ pub records-same : (time level source reading time2 level2 source2 reading2 : �
     → record_bytes time level source reading ++ rest ≡ record_bytes time2 level2 source2 reading2 ++ rest2
     → (time ≡ time2) × (level ≡ level2) × (source ≡ source2) × (reading ≡ reading2)
 records-same time level source reading time2 level2 source2 reading2 rest rest2 f g h i f2 g2 h2 i2 e =
-    let at_time = field-same false 40 time time2 _ _ (lit≤ tt) f f2 (sym (append_assoc (BorshBytes 40 time) _ rest) ∙ e ∙ append_assoc (BorshBytes 40 time2) _ rest2) in
-    let at_level = field-same false 3 level level2 _ _ (lit≤ tt) g g2 (sym (append_assoc (BorshBytes 3 level) _ rest) ∙ at_time.1 ∙ append_assoc (BorshBytes 3 level2) _ rest2) in
-    let at_source = field-same false 9 source source2 _ _ (lit≤ tt) h h2 (sym (append_assoc (BorshBytes 9 source) _ rest) ∙ at_level.1 ∙ append_assoc (BorshBytes 9 source2) _ rest2) in
-    let at_reading = field-same true 12 reading reading2 rest rest2 (lit≤ tt) i i2 at_source.1 in
-    (at_time.0, at_level.0, at_source.0, at_reading.0)
+    let a = sym (in_turn time level source reading rest) ∙ e ∙ in_turn time2 level2 source2 reading2 rest2 in
+    let b = rest-same 40 time time2 _ _ a in
+    let d = rest-same 3 level level2 _ _ b in
+    let k = rest-same 9 source source2 _ _ d in
+    (number-same false 40 time time2 _ _ (lit≤ tt) f f2 a, number-same false 3 level level2 _ _ (lit≤ tt) g g2 b, number-same false 9 source source2 _ _ (lit≤ tt) h h2 d, number-same true 12 reading reading2 _ _ (lit≤ tt) i i2 k)
+
+-- ---- a record that is there is read
+
+-- what a reader holds after a field
+rest-after : (B : ℕ) (x y : ℤ) (b : Option (List ℕ)) (more : List ℕ) → Consumes (Some (BorshBytes B y ++ more)) b (BorshBytes B x) → b ≡ Some more
+rest-after B x y None more k = absurd k
+rest-after B x y (Some ys) more k = ap Some (sym (rest-same B y x more ys k))
+
+held-after : (B : ℕ) (x y : ℤ) (a b : Option (List ℕ)) (more : List ℕ) → a ≡ Some (BorshBytes B y ++ more) → Consumes a b (BorshBytes B x) → b ≡ Some more
+held-after B x y a b more e k = rest-after B x y b more (subst (λ (o : Option (List ℕ)). Consumes o b (BorshBytes B x)) e k)
+
+not-short : (B : ℕ) (y : ℤ) (more : List ℕ) (failed : Bool) → Unreadable (Canonical B) (Some (BorshBytes B y ++ more)) failed (byte_count B) → IsTrue failed
+not-short B y more failed (inl t) = t
+not-short B y more failed (inr (inl h)) = absurd (omega (arith, h, length-append (BorshBytes B y) more, length-Borsh B y))
+not-short B y more failed (inr (inr h)) =
+    absurd (h (subst (Canonical B) (sym ((λ i. take (sym (length-Borsh B y) i) (BorshBytes B y ++ more)) ∙ take-append_seam (BorshBytes B y) more)) (Borsh-canonical B y)))
+
+-- a value that is there is not refused, unless the reader failed
+only_by_fault : (B : ℕ) (y : ℤ) (a : Option (List ℕ)) (failed : Bool) (more : List ℕ) → a ≡ Some (BorshBytes B y ++ more) → Unreadable (Canonical B) a failed (byte_count B) → IsTrue failed
+only_by_fault B y a failed more e k = not-short B y more failed (subst (λ (o : Option (List ℕ)). Unreadable (Canonical B) o failed (byte_count B)) e k)
+
+module _ (failed : Bool) where
+  pub first_refused : (a : Option (List ℕ)) → Unreadable (Canonical 40) a failed (byte_count 40) → FailedOrNoRecord a failed
+  first_refused a k = λ time level source reading rest e. only_by_fault 40 time a failed _ (e ∙ ap Some (in_turn time level source reading rest)) k
+
+  pub second_refused : (x : ℤ) (a b : Option (List ℕ)) → Consumes a b (BorshBytes 40 x) → Unreadable (Canonical 3) b failed (byte_count 3) → FailedOrNoRecord a failed
+  second_refused x a b h k =
+      λ time level source reading rest e. only_by_fault 3 level b failed _ (held-after 40 x time a b _ (e ∙ ap Some (in_turn time level source reading rest)) h) k
+
+  pub third_refused : (x y : ℤ) (a b c : Option (List ℕ)) → Consumes a b (BorshBytes 40 x) → Consumes b c (BorshBytes 3 y) → Unreadable (Canonical 9) c failed (byte_count 9) → FailedOrNoRecord a failed
+  third_refused x y a b c h g k =
+      λ time level source reading rest e.
+      only_by_fault 9 source c failed _ (held-after 3 y level b c _ (held-after 40 x time a b _ (e ∙ ap Some (in_turn time level source reading rest)) h) g) k
+
+  pub fourth_refused : (x y z : ℤ) (a b c d : Option (List ℕ)) → Consumes a b (BorshBytes 40 x) → Consumes b c (BorshBytes 3 y) → Consumes c d (BorshBytes 9 z)
+      → Unreadable (Canonical 12) d failed (byte_count 12) → FailedOrNoRecord a failed
+  fourth_refused x y z a b c d h g f k =
+      λ time level source reading rest e.
+      only_by_fault 12 reading d failed rest (held-after 9 z source c d _ (held-after 3 y level b c _ (held-after 40 x time a b _ (e ∙ ap Some (in_turn time level source reading rest)) h) g) f) k

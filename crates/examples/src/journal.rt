@@ -4,7 +4,7 @@ ghost use Rattle.std.specs.Prelude.{◌≡◌, IsTrue, IfOk, OnOk, OnErr};
 ghost use Rattle.std.specs.Io.KnownBytes.{Appends, Consumes};
 ghost use Rattle.arbitrary_int.specs.Stream.{AppendsBeginning};
 ghost use Rattle.arbitrary_int.specs.Watching.{inner_of, has_failed};
-ghost use Rattle.examples.specs.Journal.{record_bytes};
+ghost use Rattle.examples.specs.Journal.{FailedOrNoRecord, record_bytes};
 
 use arbitrary_int::Watched;
 use arbitrary_int::prelude::*;
@@ -36,9 +36,11 @@ pub fn write<W: Write>(line: Record, writer: &mut Watched<W>) -> io::Result<()>
     line.reading.serialize(writer)
 }
 
-/// Reads the bytes of one record, and leaves what follows.
+/// Reads the bytes of one record, and leaves what follows. A record that is there is refused only where the
+/// reader failed.
 pub fn read<R: Read>(reader: &mut Watched<R>) -> io::Result<Record>
-    ensures { IfOk result (λ x. Consumes (R.remaining (inner_of reader.old)) (R.remaining (inner_of reader.new)) (record_bytes x.time x.level x.source x.reading)) }
+    ensures taken { IfOk result (λ x. Consumes (R.remaining (inner_of reader.old)) (R.remaining (inner_of reader.new)) (record_bytes x.time x.level x.source x.reading)) }
+    ensures why { OnErr result (FailedOrNoRecord (R.remaining (inner_of reader.old)) (has_failed reader.new)) }
 {
     let time = u40::deserialize_reader(reader)?;
     let level = u3::deserialize_reader(reader)?;

@@ -1,11 +1,6 @@
-use Rattle.std.specs.Prelude.{Result, Ok, Err, OnErr}
 use Rattle.std.proofs.lemmas.Result.{on_err_weaker}
-use Rattle.examples.proofs.Records.{first_begun, second_begun, third_begun, fourth_begun}
+use Rattle.examples.proofs.Records.{on_err, first_begun, second_begun, third_begun, fourth_begun}
 use Rattle.examples.proofs.journal.write.Goals as goal
-
-on_err : {T E P : Type 0} → (r : Result T E) → P → OnErr r P
-on_err (Ok x) p = tt
-on_err (Err e) p = p
 
 pub returns-in_err-serialize-clause-begun : goal.returns-in_err-serialize-clause-begun
 returns-in_err-serialize-clause-begun g c =

@@ -14,5 +14,5 @@ returns c =
     let held : (inner_of c.new-2.result).now ≡ record_bytes line.time line.level line.source line.reading ++ [] =
     rw (c.new-2.ensures.inner, c.as_slice.ensures.value, c.into_inner-bytes.ensures) (written ∙ sym (append-nil _)) in
     let e = records-same found.time found.level found.source found.reading line.time line.level line.source line.reading _ [] (search rules) (search rules) (search rules) (search rules)
-    (search rules) (search rules) (search rules) (search rules) (sym c.in_ok-found.ensures ∙ held) in
+    (search rules) (search rules) (search rules) (search rules) (sym c.in_ok-found.ensures.taken ∙ held) in
     λ i. record { time = e.0 i; level = e.1 i; source = e.2 i; reading = e.3 i }
