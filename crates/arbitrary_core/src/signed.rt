@@ -130,6 +130,7 @@ where
         ensures congruent { Congruent BITS (T.Unsigned.number result) self }
         ensures width { IsValidWidth BITS T.WIDTH }
         ensures range { InRange T.Unsigned.SIGNED BITS (T.Unsigned.number result) }
+        ensures self_range { InRange T.SIGNED BITS self }
     {
         convert(self.value(), BITS)
     }
