@@ -11,6 +11,7 @@ pub mod BitShift
 pub mod BitCount
 pub mod BitField
 pub mod BitValue
+pub mod Pattern
 pub mod BitPattern
 pub mod BitSign
 pub mod BitResult
