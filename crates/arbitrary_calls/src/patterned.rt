@@ -39,6 +39,6 @@ where
     T::Unsigned: PatternOf<T>,
 {
     fn pattern(self) -> u128 {
-        kept_bits(Int::<T, BITS>::value(self), BITS)
+        kept_bits(self.to_bits(), BITS)
     }
 }
