@@ -12,6 +12,7 @@ pub mod BitCount
 pub mod BitField
 pub mod BitValue
 pub mod Pattern
+pub mod PatternArithmetic
 pub mod BitPattern
 pub mod BitSign
 pub mod BitResult

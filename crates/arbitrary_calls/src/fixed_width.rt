@@ -58,7 +58,6 @@ pub trait FixedWidth: Integer + Patterned {
         → Self.number r ≡ val Self.IS_SIGNED (bits_not (bits Self.BITS (Self.number a))) };
 
     /// The sum, wrapped.
-    #[tactic(auto, using(arbitrary_base::proofs::Wrapped::wrapped))]
     final fn wrapping_add(self, rhs: Self) -> Self
         ensures value { Self.number result ≡ wrap Self.IS_SIGNED Self.BITS (Self.number self +ℤ Self.number rhs) }
         ensures kept { InRange Self.IS_SIGNED Self.BITS (Self.number self +ℤ Self.number rhs) → Self.number result ≡ Self.number self +ℤ Self.number rhs }
@@ -66,7 +65,7 @@ pub trait FixedWidth: Integer + Patterned {
         ensures undo { (y : ℤ) → InRange Self.IS_SIGNED Self.BITS y → Self.number self ≡ wrap Self.IS_SIGNED Self.BITS (y -ℤ Self.number rhs) → Self.number result ≡ y }
         ensures range { InRange Self.IS_SIGNED Self.BITS (Self.number self) }
     {
-        Self::from_kept(wrapping::add(self.kept(), rhs.kept(), Self::BITS))
+        Self::from_extended(self.pattern().wrapping_add(rhs.pattern()))
     }
 
     /// The sum, or the end of the range that is nearest to it.
@@ -103,7 +102,6 @@ pub trait FixedWidth: Integer + Patterned {
     }
 
     /// The difference, wrapped.
-    #[tactic(auto, using(arbitrary_base::proofs::Wrapped::wrapped))]
     final fn wrapping_sub(self, rhs: Self) -> Self
         ensures value { Self.number result ≡ wrap Self.IS_SIGNED Self.BITS (Self.number self -ℤ Self.number rhs) }
         ensures kept { InRange Self.IS_SIGNED Self.BITS (Self.number self -ℤ Self.number rhs) → Self.number result ≡ Self.number self -ℤ Self.number rhs }
@@ -111,7 +109,7 @@ pub trait FixedWidth: Integer + Patterned {
         ensures undo { (y : ℤ) → InRange Self.IS_SIGNED Self.BITS y → Self.number self ≡ wrap Self.IS_SIGNED Self.BITS (y +ℤ Self.number rhs) → Self.number result ≡ y }
         ensures range { InRange Self.IS_SIGNED Self.BITS (Self.number self) }
     {
-        Self::from_kept(wrapping::sub(self.kept(), rhs.kept(), Self::BITS))
+        Self::from_extended(self.pattern().wrapping_sub(rhs.pattern()))
     }
 
     /// The difference, or the end of the range that is nearest to it.
@@ -148,13 +146,12 @@ pub trait FixedWidth: Integer + Patterned {
     }
 
     /// The product, wrapped.
-    #[tactic(auto, using(arbitrary_base::proofs::Wrapped::wrapped))]
     final fn wrapping_mul(self, rhs: Self) -> Self
         ensures value { Self.number result ≡ wrap Self.IS_SIGNED Self.BITS (Self.number self *ℤ Self.number rhs) }
         ensures kept { InRange Self.IS_SIGNED Self.BITS (Self.number self *ℤ Self.number rhs) → Self.number result ≡ Self.number self *ℤ Self.number rhs }
         ensures congruent { Congruent Self.BITS (Self.number result) (Self.number self *ℤ Self.number rhs) }
     {
-        Self::from_kept(wrapping::mul(self.kept(), rhs.kept(), Self::BITS))
+        Self::from_extended(self.pattern().wrapping_mul(rhs.pattern()))
     }
 
     /// The product, or the end of the range that is nearest to it.
