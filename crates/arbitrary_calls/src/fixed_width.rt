@@ -9,6 +9,7 @@ ghost use Rattle.arbitrary_base.specs.Power.{power, binary_digits};
 ghost use Rattle.arbitrary_base.specs.BitList.{bits, val, bits_and, bits_or, bits_xor, bits_not, fill, front, items, ones, rotl, rotr, shl, shr, tail};
 
 use crate::patterned::Patterned;
+use arbitrary_base::narrowing::cut;
 use arbitrary_base::storage::Storage;
 use arbitrary_base::{
     checked, extraction, overflowing, patterns, power, saturating, shifts, wrapping,
@@ -380,21 +381,21 @@ pub trait FixedWidth: Integer + Patterned {
     }
 
     /// How many bits at the high end are one before the first that is zero, or all of them.
-    #[tactic(auto, using(arbitrary_base::proofs::BitCount::counted, arbitrary_base::proofs::BitResult::count_laws))]
+    // The cut changes nothing. It tells the compiler the width, which then counts in fewer bits than 128.
     final fn leading_ones(self) -> u32
         ensures value { result ≡ tail true (bits Self.BITS (Self.number self)) }
         ensures bound { result ≤ Self.BITS }
     {
-        patterns::leading_ones(self.pattern(), Self::BITS)
+        patterns::leading_ones(cut(self.pattern(), Self::BITS), Self::BITS)
     }
 
     /// How many bits at the high end are zero before the first that is one, or all of them.
-    #[tactic(auto, using(arbitrary_base::proofs::BitCount::counted, arbitrary_base::proofs::BitResult::count_laws))]
+    // The cut changes nothing. It tells the compiler the width, which then counts in fewer bits than 128.
     final fn leading_zeros(self) -> u32
         ensures value { result ≡ tail false (bits Self.BITS (Self.number self)) }
         ensures bound { result ≤ Self.BITS }
     {
-        patterns::leading_zeros(self.pattern(), Self::BITS)
+        patterns::leading_zeros(cut(self.pattern(), Self::BITS), Self::BITS)
     }
 
     /// How many bits at the low end are one before the first that is zero, or all of them.
