@@ -65,6 +65,14 @@ Congruent-add B x x' y y' c d =
     let f = b.2 in
     Congruent-from_apart B (x +ℤ y) (x' +ℤ y') (a.0 + b.0, a.1 + b.1, omega (arith, ints))
 
+pub Congruent-sub : (B : ℕ) (x x' y y' : ℤ) → Congruent B x x' → Congruent B y y' → Congruent B (x -ℤ y) (x' -ℤ y')
+Congruent-sub B x x' y y' c d =
+    let a = Apart-from_congruent B x x' c in
+    let b = Apart-from_congruent B y y' d in
+    let e = a.2 in
+    let f = b.2 in
+    Congruent-from_apart B (x -ℤ y) (x' -ℤ y') (a.0 + b.1, a.1 + b.0, omega (arith, ints))
+
 pub Congruent-mul_left : (B : ℕ) (x x' y : ℤ) → Congruent B x x' → Congruent B (x *ℤ y) (x' *ℤ y)
 Congruent-mul_left B x x' y c = record {
   times = c.times *ℤ y;

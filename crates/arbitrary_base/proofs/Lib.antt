@@ -11,6 +11,8 @@ pub mod BitShift
 pub mod BitCount
 pub mod BitField
 pub mod BitValue
+pub mod Pattern
+pub mod PatternArithmetic
 pub mod BitPattern
 pub mod BitSign
 pub mod BitResult

@@ -1,11 +1,10 @@
 -- Why the low bits of an answer depend on the low bits of its sources alone.
 use Rattle.std.proofs.Common.{◌≡◌, ℕ, zero, suc, ◌+◌, ◌-◌, ◌%◌, ◌^◌, ◌≤◌, ◌<◌, Bool, false, not, ◌&&◌, ◌||◌, List, [], ◌∷◌, ◌++◌, length, take, replicate, ℤ, pos, ◌+ℤ◌, ◌-ℤ◌, ◌*ℤ◌, refl, sym, ap, ◌∙◌, arith, length-take, take-take}
-use Rattle.std.proofs.lemmas.Int.{ints}
 use Rattle.std.proofs.lemmas.List.{length-replicate, take-map}
 use Rattle.std.proofs.Math.Seq.{take-append-add}
 use Rattle.arbitrary_base.specs.Residue.{Congruent, wrap}
 use Rattle.arbitrary_base.specs.BitList.{bits, num, val, bits_and, bits_or, differs, bits_xor, bits_not, shl}
-use Rattle.arbitrary_base.proofs.Congruence.{Congruent-from_apart, Apart-from_congruent, Congruent-sym, Congruent-add, Congruent-mul, Congruent-narrower}
+use Rattle.arbitrary_base.proofs.Congruence.{Congruent-sym, Congruent-add, Congruent-sub, Congruent-mul, Congruent-narrower}
 use Rattle.arbitrary_base.proofs.Wrap.{wrap-congruent, wrap-same}
 use Rattle.arbitrary_base.proofs.Primitive.{mod-congruent}
 use Rattle.arbitrary_base.proofs.Narrow.{residue-mod}
@@ -25,14 +24,6 @@ left_of s A x = Congruent-sym A (wrap s A x) x (wrap-congruent s A x)
 
 pub low-sum : (s t : Bool) (A B : ℕ) (x y : ℤ) → 1 ≤ A → A ≤ B → wrap s A (wrap t B (x +ℤ y)) ≡ wrap s A (wrap s A x +ℤ wrap s A y)
 low-sum s t A B x y h g = wrap-wide s t A B (x +ℤ y) h g ∙ wrap-same s A _ _ h (Congruent-add A x _ y _ (left_of s A x) (left_of s A y))
-
-Congruent-sub : (B : ℕ) (x x' y y' : ℤ) → Congruent B x x' → Congruent B y y' → Congruent B (x -ℤ y) (x' -ℤ y')
-Congruent-sub B x x' y y' c d =
-    let a = Apart-from_congruent B x x' c in
-    let b = Apart-from_congruent B y y' d in
-    let e = a.2 in
-    let f = b.2 in
-    Congruent-from_apart B (x -ℤ y) (x' -ℤ y') (a.0 + b.1, a.1 + b.0, omega (arith, ints))
 
 pub low-difference : (s t : Bool) (A B : ℕ) (x y : ℤ) → 1 ≤ A → A ≤ B → wrap s A (wrap t B (x -ℤ y)) ≡ wrap s A (wrap s A x -ℤ wrap s A y)
 low-difference s t A B x y h g = wrap-wide s t A B (x -ℤ y) h g ∙ wrap-same s A _ _ h (Congruent-sub A x _ y _ (left_of s A x) (left_of s A y))

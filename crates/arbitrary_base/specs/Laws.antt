@@ -172,3 +172,17 @@ BorshIsUnique = (s : Bool) (B : ℕ) (x y : ℤ) → 1 ≤ B → InRange s B x �
 -- what all items leave is the last of the partial results
 abbrev pub TotalIsTheLastPartial : Type 0
 TotalIsTheLastPartial = (op : ℤ → ℤ → ℤ) (first : ℤ) (l : List ℤ) → last_or None (partials op first l) ≡ Some (fold op first l)
+
+-- ---- a number and its pattern
+
+-- what is left of the pattern of a number is the number
+abbrev pub NumberOfPattern : Type 0
+NumberOfPattern = (s : Bool) (B : ℕ) (x : ℤ) → 1 ≤ B → InRange s B x → wrap s B (pos (residue B x)) ≡ x
+
+-- the pattern of what is left of a pattern is the pattern
+abbrev pub PatternOfNumber : Type 0
+PatternOfNumber = (s : Bool) (B p : ℕ) → 1 ≤ B → p < 2 ^ B → residue B (wrap s B (pos p)) ≡ p
+
+-- a number and its pattern have the same bits
+abbrev pub BitsOfPattern : Type 0
+BitsOfPattern = (B : ℕ) (x : ℤ) → bits B (pos (residue B x)) ≡ bits B x

@@ -1,7 +1,7 @@
 //! The laws of the definitions that the contracts cite. Each function proves its clauses, and does nothing.
 
 ghost use Rattle.arbitrary_base.specs.BitField.{PutSetsItsBits, PutKeepsOtherBits, FieldAfterPut, PutsSetTheirBits, PutsKeepOtherBits, FieldAfterPuts, PutsInAnyOrder, DisjointPutsCommute};
-ghost use Rattle.arbitrary_base.specs.Laws.{WrapIsInRange, WrapIsCongruent, WrapIsUnique, WrappedSumsCommute, WrappedSumsAssociate, WrappedProductsCommute, WrappedProductsAssociate, WrappedProductsDistribute, CheckedTellsOverflow, CheckedQuotientTellsOverflow, ValueOfBits, BitsOfValue, RotationsUndo, ReversalUndoesItself, OnesAddUp, FrontRunsFit, EndRunsFit, ExtractionComposes, SumsKeepLowBits, DifferencesKeepLowBits, ProductsKeepLowBits, AndKeepsLowBits, OrKeepsLowBits, XorKeepsLowBits, ComplementsKeepLowBits, LeftShiftsKeepLowBits, WrapKeeps, TestTellsRange, ClampKeeps, ClampEndsAbove, ClampEndsBelow, LengthOfBits, NumberOfBits, FieldIsExtracted, ByteReversalUndoesItself, ValueOfBytes, BytesAreUnique, BorshIsCanonical, ValueOfBorsh, BorshIsUnique, TotalIsTheLastPartial};
+ghost use Rattle.arbitrary_base.specs.Laws.{WrapIsInRange, WrapIsCongruent, WrapIsUnique, WrappedSumsCommute, WrappedSumsAssociate, WrappedProductsCommute, WrappedProductsAssociate, WrappedProductsDistribute, CheckedTellsOverflow, CheckedQuotientTellsOverflow, ValueOfBits, BitsOfValue, RotationsUndo, ReversalUndoesItself, OnesAddUp, FrontRunsFit, EndRunsFit, ExtractionComposes, SumsKeepLowBits, DifferencesKeepLowBits, ProductsKeepLowBits, AndKeepsLowBits, OrKeepsLowBits, XorKeepsLowBits, ComplementsKeepLowBits, LeftShiftsKeepLowBits, WrapKeeps, TestTellsRange, ClampKeeps, ClampEndsAbove, ClampEndsBelow, LengthOfBits, NumberOfBits, FieldIsExtracted, ByteReversalUndoesItself, ValueOfBytes, BytesAreUnique, BorshIsCanonical, ValueOfBorsh, BorshIsUnique, TotalIsTheLastPartial, NumberOfPattern, PatternOfNumber, BitsOfPattern};
 
 /// What `wrap` is: the one number of the type that is congruent modulo `2 ^ bits`.
 #[tactic(auto, using(crate::proofs::LawProof::wrap_rules))]
@@ -100,4 +100,12 @@ pub fn byte_laws()
 /// The total of many numbers, from the left, is the last of the partial results.
 pub fn total_laws()
     ensures { TotalIsTheLastPartial }
+{}
+
+/// A number in range and its pattern, which is its residue, tell each other, and have the same bits.
+#[tactic(auto, using(crate::proofs::Pattern::pattern_rules))]
+pub fn pattern_laws()
+    ensures number { NumberOfPattern }
+    ensures pattern { PatternOfNumber }
+    ensures bits { BitsOfPattern }
 {}

@@ -14,7 +14,6 @@ pub mod narrowing;
 pub mod overflowing;
 pub mod patterns;
 pub mod power;
-pub mod rotations;
 pub mod saturating;
 pub mod shifts;
 mod small;

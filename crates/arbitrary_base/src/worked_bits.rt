@@ -1,7 +1,7 @@
 //! Worked values of the calls on bits.
 
 use crate::narrowing::kept_bits;
-use crate::{bitwise, extraction, narrowing, patterns, rotations, shifts};
+use crate::{bitwise, extraction, narrowing, patterns, shifts};
 
 #[test]
 fn bitwise_operators(rt: HostRuntime) {
@@ -22,11 +22,11 @@ fn shifts_lose_what_passes_the_end(rt: HostRuntime) {
 
 #[test]
 fn rotations_and_reversal(rt: HostRuntime) {
-    assert_eq!(rt; rotations::rotate_left(0xA3u8, 0, 8), 0xA3);
-    assert_eq!(rt; rotations::rotate_left(0xA3u8, 8, 8), 0xA3);
-    assert_eq!(rt; rotations::rotate_left(0xA3u8, 4, 8), 0x3A);
-    assert_eq!(rt; rotations::rotate_right(0xA3u8, 9, 8), 0xD1);
-    assert_eq!(rt; rotations::reverse_bits(0b00011u8, 5), 0b11000);
+    assert_eq!(rt; patterns::rotate_left(0xA3, 8, 0), 0xA3);
+    assert_eq!(rt; patterns::rotate_left(0xA3, 8, 8), 0xA3);
+    assert_eq!(rt; patterns::rotate_left(0xA3, 8, 4), 0x3A);
+    assert_eq!(rt; patterns::rotate_right(0xA3, 8, 9), 0xD1);
+    assert_eq!(rt; patterns::reverse_bits(0b00011, 5), 0b11000);
 }
 
 #[test]

@@ -9,10 +9,11 @@ ghost use Rattle.arbitrary_base.specs.Field.{IsField};
 ghost use Rattle.arbitrary_base.specs.Power.{power, binary_digits};
 ghost use Rattle.arbitrary_base.specs.BitList.{bits, val, bits_and, bits_or, bits_xor, bits_not, fill, front, items, ones, rotl, rotr, shl, shr, tail};
 
-use arbitrary_base::narrowing::kept_bits;
+use crate::patterned::Patterned;
+use arbitrary_base::narrowing::cut;
 use arbitrary_base::storage::Storage;
 use arbitrary_base::{
-    checked, extraction, overflowing, patterns, power, rotations, saturating, shifts, wrapping,
+    checked, extraction, overflowing, patterns, power, saturating, shifts, wrapping,
 };
 use arbitrary_traits::integer::Integer;
 
@@ -22,7 +23,7 @@ use arbitrary_traits::integer::Integer;
 /// without bounds. `wrap` of it is the type's number that is congruent to it modulo `2 ^ BITS`, and
 /// `clamp` of it the type's number that is nearest. A quotient is cut toward zero; the only one that
 /// is out of range is the least signed number divided by -1.
-pub trait FixedWidth: Integer {
+pub trait FixedWidth: Integer + Patterned {
     /// The primitive that keeps the number. It is `UnderlyingType`, known to be a storage.
     type Kept: Storage;
 
@@ -59,7 +60,6 @@ pub trait FixedWidth: Integer {
         → Self.number r ≡ val Self.IS_SIGNED (bits_not (bits Self.BITS (Self.number a))) };
 
     /// The sum, wrapped.
-    #[tactic(auto, using(arbitrary_base::proofs::Wrapped::wrapped))]
     final fn wrapping_add(self, rhs: Self) -> Self
         ensures value { Self.number result ≡ wrap Self.IS_SIGNED Self.BITS (Self.number self +ℤ Self.number rhs) }
         ensures kept { InRange Self.IS_SIGNED Self.BITS (Self.number self +ℤ Self.number rhs) → Self.number result ≡ Self.number self +ℤ Self.number rhs }
@@ -67,7 +67,7 @@ pub trait FixedWidth: Integer {
         ensures undo { (y : ℤ) → InRange Self.IS_SIGNED Self.BITS y → Self.number self ≡ wrap Self.IS_SIGNED Self.BITS (y -ℤ Self.number rhs) → Self.number result ≡ y }
         ensures range { InRange Self.IS_SIGNED Self.BITS (Self.number self) }
     {
-        Self::from_kept(wrapping::add(self.kept(), rhs.kept(), Self::BITS))
+        Self::from_extended(self.pattern().wrapping_add(rhs.pattern()))
     }
 
     /// The sum, or the end of the range that is nearest to it.
@@ -104,7 +104,6 @@ pub trait FixedWidth: Integer {
     }
 
     /// The difference, wrapped.
-    #[tactic(auto, using(arbitrary_base::proofs::Wrapped::wrapped))]
     final fn wrapping_sub(self, rhs: Self) -> Self
         ensures value { Self.number result ≡ wrap Self.IS_SIGNED Self.BITS (Self.number self -ℤ Self.number rhs) }
         ensures kept { InRange Self.IS_SIGNED Self.BITS (Self.number self -ℤ Self.number rhs) → Self.number result ≡ Self.number self -ℤ Self.number rhs }
@@ -112,7 +111,7 @@ pub trait FixedWidth: Integer {
         ensures undo { (y : ℤ) → InRange Self.IS_SIGNED Self.BITS y → Self.number self ≡ wrap Self.IS_SIGNED Self.BITS (y +ℤ Self.number rhs) → Self.number result ≡ y }
         ensures range { InRange Self.IS_SIGNED Self.BITS (Self.number self) }
     {
-        Self::from_kept(wrapping::sub(self.kept(), rhs.kept(), Self::BITS))
+        Self::from_extended(self.pattern().wrapping_sub(rhs.pattern()))
     }
 
     /// The difference, or the end of the range that is nearest to it.
@@ -149,13 +148,12 @@ pub trait FixedWidth: Integer {
     }
 
     /// The product, wrapped.
-    #[tactic(auto, using(arbitrary_base::proofs::Wrapped::wrapped))]
     final fn wrapping_mul(self, rhs: Self) -> Self
         ensures value { Self.number result ≡ wrap Self.IS_SIGNED Self.BITS (Self.number self *ℤ Self.number rhs) }
         ensures kept { InRange Self.IS_SIGNED Self.BITS (Self.number self *ℤ Self.number rhs) → Self.number result ≡ Self.number self *ℤ Self.number rhs }
         ensures congruent { Congruent Self.BITS (Self.number result) (Self.number self *ℤ Self.number rhs) }
     {
-        Self::from_kept(wrapping::mul(self.kept(), rhs.kept(), Self::BITS))
+        Self::from_extended(self.pattern().wrapping_mul(rhs.pattern()))
     }
 
     /// The product, or the end of the range that is nearest to it.
@@ -342,7 +340,7 @@ pub trait FixedWidth: Integer {
         ensures undo { (y : ℤ) → InRange Self.IS_SIGNED Self.BITS y → Self.number self ≡ val Self.IS_SIGNED (rotr (bits Self.BITS y) (amount % Self.BITS)) → Self.number result ≡ y }
         ensures range { InRange Self.IS_SIGNED Self.BITS (Self.number self) }
     {
-        Self::from_kept(rotations::rotate_left(self.kept(), amount, Self::BITS))
+        Self::from_extended(patterns::rotate_left(self.pattern(), Self::BITS, amount))
     }
 
     /// The bits moved `amount` modulo `BITS` places toward the low end. What passes the end comes back
@@ -352,7 +350,7 @@ pub trait FixedWidth: Integer {
         ensures undo { (y : ℤ) → InRange Self.IS_SIGNED Self.BITS y → Self.number self ≡ val Self.IS_SIGNED (rotl (bits Self.BITS y) (amount % Self.BITS)) → Self.number result ≡ y }
         ensures range { InRange Self.IS_SIGNED Self.BITS (Self.number self) }
     {
-        Self::from_kept(rotations::rotate_right(self.kept(), amount, Self::BITS))
+        Self::from_extended(patterns::rotate_right(self.pattern(), Self::BITS, amount))
     }
 
     /// The bits from the high end to the low one.
@@ -361,7 +359,7 @@ pub trait FixedWidth: Integer {
         ensures undo { (y : ℤ) → InRange Self.IS_SIGNED Self.BITS y → Self.number self ≡ val Self.IS_SIGNED (reverse (bits Self.BITS y)) → Self.number result ≡ y }
         ensures range { InRange Self.IS_SIGNED Self.BITS (Self.number self) }
     {
-        Self::from_kept(rotations::reverse_bits(self.kept(), Self::BITS))
+        Self::from_extended(patterns::reverse_bits(self.pattern(), Self::BITS))
     }
 
     /// How many of the bits are one.
@@ -370,7 +368,7 @@ pub trait FixedWidth: Integer {
         ensures value { result ≡ ones (bits Self.BITS (Self.number self)) }
         ensures bound { result ≤ Self.BITS }
     {
-        patterns::count_ones(kept_bits(self.kept(), Self::BITS), Self::BITS)
+        patterns::count_ones(self.pattern(), Self::BITS)
     }
 
     /// How many of the bits are zero.
@@ -379,26 +377,26 @@ pub trait FixedWidth: Integer {
         ensures value { result ≡ Self.BITS - ones (bits Self.BITS (Self.number self)) }
         ensures bound { result ≤ Self.BITS }
     {
-        let kept = kept_bits(self.kept(), Self::BITS);
-        Self::BITS as u32 - patterns::count_ones(kept, Self::BITS)
+        let pattern = self.pattern();
+        Self::BITS as u32 - patterns::count_ones(pattern, Self::BITS)
     }
 
     /// How many bits at the high end are one before the first that is zero, or all of them.
-    #[tactic(auto, using(arbitrary_base::proofs::BitCount::counted, arbitrary_base::proofs::BitResult::count_laws))]
+    // The cut changes nothing. It tells the compiler the width, which then counts in fewer bits than 128.
     final fn leading_ones(self) -> u32
         ensures value { result ≡ tail true (bits Self.BITS (Self.number self)) }
         ensures bound { result ≤ Self.BITS }
     {
-        patterns::leading_ones(kept_bits(self.kept(), Self::BITS), Self::BITS)
+        patterns::leading_ones(cut(self.pattern(), Self::BITS), Self::BITS)
     }
 
     /// How many bits at the high end are zero before the first that is one, or all of them.
-    #[tactic(auto, using(arbitrary_base::proofs::BitCount::counted, arbitrary_base::proofs::BitResult::count_laws))]
+    // The cut changes nothing. It tells the compiler the width, which then counts in fewer bits than 128.
     final fn leading_zeros(self) -> u32
         ensures value { result ≡ tail false (bits Self.BITS (Self.number self)) }
         ensures bound { result ≤ Self.BITS }
     {
-        patterns::leading_zeros(kept_bits(self.kept(), Self::BITS), Self::BITS)
+        patterns::leading_zeros(cut(self.pattern(), Self::BITS), Self::BITS)
     }
 
     /// How many bits at the low end are one before the first that is zero, or all of them.
@@ -407,7 +405,7 @@ pub trait FixedWidth: Integer {
         ensures value { result ≡ front true (bits Self.BITS (Self.number self)) }
         ensures bound { result ≤ Self.BITS }
     {
-        patterns::trailing_ones(kept_bits(self.kept(), Self::BITS), Self::BITS)
+        patterns::trailing_ones(self.pattern(), Self::BITS)
     }
 
     /// How many bits at the low end are zero before the first that is one, or all of them.
@@ -416,7 +414,7 @@ pub trait FixedWidth: Integer {
         ensures value { result ≡ front false (bits Self.BITS (Self.number self)) }
         ensures bound { result ≤ Self.BITS }
     {
-        patterns::trailing_zeros(kept_bits(self.kept(), Self::BITS), Self::BITS)
+        patterns::trailing_zeros(self.pattern(), Self::BITS)
     }
 
     /// The value of the `BITS` bits of `value` from place `start_bit` on, all among its 8. The width is valid.

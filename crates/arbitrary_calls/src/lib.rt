@@ -3,3 +3,4 @@
 
 pub mod fixed_width;
 mod kept;
+mod patterned;

@@ -14,9 +14,9 @@ use arbitrary_base::{checked, overflowing, saturating, wrapping};
 use std::alloc::AllocError;
 use std::marker::{Model, PhantomData};
 
-/// A signed integer of `BITS` bits, kept in the primitive `T`: a number from `-2 ^ (BITS - 1)` to
-/// `2 ^ (BITS - 1) - 1`. Write `Int<T, BITS>`: the last parameter is always the unsigned primitive
-/// that is as wide as `T`.
+/// A signed integer of `BITS` bits: a number from `-2 ^ (BITS - 1)` to `2 ^ (BITS - 1) - 1`, which
+/// `value` gives in the primitive `T`. What is kept is its bits, in the unsigned primitive that is as
+/// wide as `T`; that is always the last parameter. Write `Int<T, BITS>`.
 ///
 /// In contracts a value is its number. Every value has a valid width (`1 <= BITS`, and at most the
 /// bits of `T`) and a number in range.
@@ -25,24 +25,28 @@ pub struct Int<
     const BITS: usize,
     U: PatternOf<T> = <T as BuiltinInteger>::Unsigned,
 > {
-    value: T,
-    of: PhantomData<U>,
+    bits: U,
+    of: PhantomData<T>,
 }
 
 impl<T: SignedStorage, const BITS: usize, U: PatternOf<T>> Model for Int<T, BITS, U> {
-    ghost use Rattle.std.specs.Prelude.{ℤ};
-    ghost use Rattle.std.proofs.Common.{ap};
+    ghost use Rattle.std.specs.Prelude.{ℤ, ◌≡◌, pos};
+    ghost use Rattle.std.proofs.Common.{ap, ◌∙◌};
     ghost use Rattle.arbitrary_base.specs.Range.{InRange, IsValidWidth};
+    ghost use Rattle.arbitrary_base.specs.Residue.{residue, wrap};
 
     ghost Value = { ℤ };
 
-    ghost view = { λ a. T.number a.value };
+    // What is left of the pattern at the width, in two's complement.
+    ghost view = { λ a. wrap T.SIGNED BITS (U.number a.bits) };
 
-    ghost invariant = { λ a. IsValidWidth BITS T.WIDTH × InRange T.SIGNED BITS (T.number a.value) };
+    // The number is in range, and the bits are its pattern: zeros stand above the width.
+    ghost invariant = { λ a. IsValidWidth BITS T.WIDTH × InRange T.SIGNED BITS (wrap T.SIGNED BITS (U.number a.bits))
+        × (pos (residue BITS (wrap T.SIGNED BITS (U.number a.bits))) ≡ U.number a.bits) };
 
-    ghost inverse = { λ x. record { value = T.of_number x; of = record {} } };
+    ghost inverse = { λ x. record { bits = U.of_number (pos (residue BITS x)); of = record {} } };
 
-    ghost inverse_ok = { λ a h. ap (λ v. record { value = v; of = a.of }) (T.round_trip_law a.value) };
+    ghost inverse_ok = { λ a h. ap (λ v. record { bits = v; of = a.of }) (ap U.of_number h.2 ∙ U.round_trip_law a.bits) };
 }
 
 impl<T: SignedStorage, const BITS: usize, U: PatternOf<T>> Copy for Int<T, BITS, U> {}
@@ -70,13 +74,14 @@ where
 
     /// The value of a number. The caller shows that the width is valid (test it by
     /// `is_valid_width`) and that the number is in range (or calls `try_new`).
+    #[tactic(auto, using(crate::proofs::Patterns::kept))]
     pub fn new(value: T) -> Self
         requires width { IsValidWidth BITS T.WIDTH }
         requires range { InRange T.SIGNED BITS (T.number value) }
         ensures { result ≡ T.number value }
     {
         Int {
-            value,
+            bits: convert(value, BITS),
             of: PhantomData,
         }
     }
@@ -115,28 +120,30 @@ where
     }
 
     /// The number, in the storage.
+    #[tactic(auto, using(crate::proofs::Patterns::kept))]
     pub fn value(self) -> T
         ensures number { T.number result ≡ self }
         ensures width { IsValidWidth BITS T.WIDTH }
         ensures range { InRange T.SIGNED BITS self }
     {
-        self.value
+        convert(self.bits, BITS)
     }
 
     /// The bits of the number: its residue modulo `2 ^ BITS`.
-    #[tactic(auto, using(arbitrary_base::proofs::Narrow::patterns))]
+    #[tactic(auto, using(crate::proofs::Patterns::kept))]
     pub fn to_bits(self) -> T::Unsigned
         ensures value { T.Unsigned.number result ≡ pos (residue BITS self) }
         ensures congruent { Congruent BITS (T.Unsigned.number result) self }
         ensures width { IsValidWidth BITS T.WIDTH }
         ensures range { InRange T.Unsigned.SIGNED BITS (T.Unsigned.number result) }
+        ensures self_range { InRange T.SIGNED BITS self }
     {
-        convert(self.value(), BITS)
+        self.bits
     }
 
     /// The value that has these bits. The caller shows that the width is valid and that the pattern
     /// is below `2 ^ BITS` (or calls `try_from_bits`).
-    #[tactic(auto, using(arbitrary_base::proofs::Narrow::patterns, arbitrary_base::proofs::Wrapped::wrapped))]
+    #[tactic(auto, using(crate::proofs::Patterns::kept))]
     pub fn from_bits(bits: T::Unsigned) -> Self
         requires width { IsValidWidth BITS T.WIDTH }
         requires range { InRange T.Unsigned.SIGNED BITS (T.Unsigned.number bits) }
@@ -144,7 +151,10 @@ where
         ensures number { result ≡ wrap T.SIGNED BITS (T.Unsigned.number bits) }
         ensures congruent { Congruent BITS result (T.Unsigned.number bits) }
     {
-        Int::<T, BITS>::new(convert(bits, BITS))
+        Int {
+            bits,
+            of: PhantomData,
+        }
     }
 
     /// `from_bits` under the name of the original's unsafe call. Here it is safe: its conditions are
@@ -243,7 +253,6 @@ where
     }
 
     /// The value of an `i8` that is in range.
-    #[tactic(auto, using(arbitrary_base::proofs::Sum::fitting))]
     pub fn from_i8(value: i8) -> Self
         requires width { IsValidWidth BITS T.WIDTH }
         requires range { InRange T.SIGNED BITS value }
@@ -253,7 +262,6 @@ where
     }
 
     /// The value of an `i16` that is in range.
-    #[tactic(auto, using(arbitrary_base::proofs::Sum::fitting))]
     pub fn from_i16(value: i16) -> Self
         requires width { IsValidWidth BITS T.WIDTH }
         requires range { InRange T.SIGNED BITS value }
@@ -263,7 +271,6 @@ where
     }
 
     /// The value of an `i32` that is in range.
-    #[tactic(auto, using(arbitrary_base::proofs::Sum::fitting))]
     pub fn from_i32(value: i32) -> Self
         requires width { IsValidWidth BITS T.WIDTH }
         requires range { InRange T.SIGNED BITS value }
@@ -273,7 +280,6 @@ where
     }
 
     /// The value of an `i64` that is in range.
-    #[tactic(auto, using(arbitrary_base::proofs::Sum::fitting))]
     pub fn from_i64(value: i64) -> Self
         requires width { IsValidWidth BITS T.WIDTH }
         requires range { InRange T.SIGNED BITS value }
@@ -283,7 +289,6 @@ where
     }
 
     /// The value of an `i128` that is in range.
-    #[tactic(auto, using(arbitrary_base::proofs::Sum::fitting))]
     pub fn from_i128(value: i128) -> Self
         requires width { IsValidWidth BITS T.WIDTH }
         requires range { InRange T.SIGNED BITS value }

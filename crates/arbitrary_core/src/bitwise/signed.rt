@@ -24,7 +24,7 @@ where
         ensures left { pos 0 ≤ℤ self → (pos 0 ≤ℤ result) × (result ≤ℤ self) }
         ensures right { pos 0 ≤ℤ rhs → (pos 0 ≤ℤ result) × (result ≤ℤ rhs) }
     {
-        Int::<T, BITS>::new(bitwise::and(self.value(), rhs.value(), BITS))
+        Int::<T, BITS>::from_bits(bitwise::and(self.to_bits(), rhs.to_bits(), BITS))
     }
 }
 
@@ -56,7 +56,7 @@ where
         ensures bits { result ≡ val T.SIGNED (bits_or (bits BITS self) (bits BITS rhs)) }
         ensures plain { pos 0 ≤ℤ self → pos 0 ≤ℤ rhs → result ≡ pos (bit_or (unsigned_abs self) (unsigned_abs rhs)) }
     {
-        Int::<T, BITS>::new(bitwise::or(self.value(), rhs.value(), BITS))
+        Int::<T, BITS>::from_bits(bitwise::or(self.to_bits(), rhs.to_bits(), BITS))
     }
 }
 
@@ -86,7 +86,7 @@ where
         ensures same { self ≡ rhs → result ≡ pos 0 }
         ensures undo { (y : ℤ) → InRange T.SIGNED BITS y → self ≡ val T.SIGNED (bits_xor (bits BITS y) (bits BITS rhs)) → result ≡ y }
     {
-        Int::<T, BITS>::new(bitwise::xor(self.value(), rhs.value(), BITS))
+        Int::<T, BITS>::from_bits(bitwise::xor(self.to_bits(), rhs.to_bits(), BITS))
     }
 }
 
@@ -117,6 +117,6 @@ where
         ensures bits { result ≡ val T.SIGNED (bits_not (bits BITS self)) }
         ensures number { result ≡ neg_ℤ self -ℤ pos 1 }
     {
-        Int::<T, BITS>::new(bitwise::not(self.value(), BITS))
+        Int::<T, BITS>::from_bits(bitwise::not(self.to_bits(), BITS))
     }
 }

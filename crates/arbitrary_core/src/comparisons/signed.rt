@@ -1,14 +1,31 @@
 //! Equality and order of `Int`: those of the number, and not of its bits.
 
+ghost use Rattle.std.specs.Prelude.{◌≡◌, ◌≤ℤ◌, ◌<ℤ◌, ◌+ℤ◌, ◌-ℤ◌, ◌-◌, ◌^◌, pos};
 ghost use Rattle.std.specs.Ordering.{int_cmp, int_eq, as_partial_cmp};
 ghost use Rattle.std.specs.Cmp.{partial_order_from_own_ties};
 ghost use Rattle.std.specs.Cmp.Rules.{comparing};
 ghost use Rattle.std.proofs.Common.{rules};
+ghost use Rattle.arbitrary_base.specs.Range.{IsValidWidth};
 
 use crate::signed::Int;
+use arbitrary_base::ends::lowest;
 use arbitrary_base::narrowing::{compare, equal};
-use arbitrary_base::storage::{BuiltinInteger, PatternOf, SignedStorage};
+use arbitrary_base::storage::{BuiltinInteger, PatternOf, SignedStorage, Storage};
 use std::cmp::Ordering;
+
+/// The number's place in the order: the bits less those of the least number, in the unsigned storage.
+// Numbers below 0 stay in the lower half of their type's bits, and the others come to the top of the storage, so no sign is extended.
+fn place<T: BuiltinInteger + SignedStorage, const BITS: usize>(x: Int<T, BITS>) -> T::Unsigned
+where
+    T::Unsigned: PatternOf<T>,
+    ensures above { pos 0 ≤ℤ x → T.Unsigned.number result ≡ x +ℤ pos (2 ^ T.WIDTH) -ℤ pos (2 ^ (BITS - 1)) }
+    ensures below { x <ℤ pos 0 → T.Unsigned.number result ≡ x +ℤ pos (2 ^ (BITS - 1)) }
+    ensures width { IsValidWidth BITS T.WIDTH }
+{
+    let bits = x.to_bits();
+    let least = Int::<T, BITS>::new(lowest(BITS));
+    bits.wrapping_sub(least.to_bits())
+}
 
 impl<T: BuiltinInteger + SignedStorage, const BITS: usize> PartialEq for Int<T, BITS>
 where
@@ -19,7 +36,7 @@ where
     ghost laws = { Prim.search (comparing, rules) };
 
     fn eq(&self, other: &Self) -> bool {
-        equal(&self.value(), &other.value())
+        equal(&self.to_bits(), &other.to_bits())
     }
 }
 
@@ -56,6 +73,6 @@ where
     ghost matches_eq = { Prim.search (comparing, rules) };
 
     fn cmp(&self, other: &Self) -> Ordering {
-        compare(&self.value(), &other.value())
+        compare(&place(*self), &place(*other))
     }
 }

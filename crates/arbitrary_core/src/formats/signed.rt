@@ -25,6 +25,6 @@ where
     ghost debug_output = { λ x. Some (signed_decimal x) };
 
     fn fmt<W: fmt::Write>(&self, f: &mut fmt::Formatter<W>) -> fmt::Result {
-        fmt::Display::fmt(&self.value(), f)
+        fmt::Display::fmt(self, f)
     }
 }

@@ -73,7 +73,7 @@ where
     }
 
     fn from_extended(pattern: u128) -> Int<T, BITS> {
-        Int::<T, BITS>::new(from_low_bits(pattern, BITS))
+        Int::<T, BITS>::from_bits(from_low_bits(pattern, BITS))
     }
 
     fn to_unsigned(self) -> UInt<T::Unsigned, BITS> {

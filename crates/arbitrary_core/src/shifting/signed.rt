@@ -26,7 +26,7 @@ where
         ensures bits { result ≡ val T.SIGNED (shifted_left (bits BITS self) (unsigned_abs (S.amount amount))) }
         ensures congruent { Congruent BITS result (self *ℤ pos (2 ^ unsigned_abs (S.amount amount))) }
     {
-        Int::<T, BITS>::new(shifts::shl(self.value(), amount.to_amount(), BITS))
+        Int::<T, BITS>::from_bits(shifts::shl(self.to_bits(), amount.to_amount(), BITS))
     }
 }
 

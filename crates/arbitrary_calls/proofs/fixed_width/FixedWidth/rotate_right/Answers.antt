@@ -1,18 +1,18 @@
-use Rattle.std.specs.Prelude.{Bool}
-use Rattle.std.proofs.Common.{subst}
-use Rattle.arbitrary_base.specs.Range.{InRange}
-use Rattle.std.specs.Prelude.{◌%◌, ◌≤◌}
+use Rattle.std.specs.Prelude.{◌≡◌, pos, ◌%◌, ◌≤◌}
 use Rattle.std.proofs.Common.{arith}
+use Rattle.arbitrary_base.specs.BitList.{bits, num, rotr}
+use Rattle.arbitrary_base.proofs.BitResult.{rotr-value}
 use Rattle.arbitrary_base.proofs.Undone.{rotr-undoes}
 use Rattle.arbitrary_calls.proofs.fixed_width.FixedWidth.rotate_right.Goals as goal
 
-pub returns-clause-undo : goal.returns-clause-undo
-returns-clause-undo g c y f d =
-    let t = g.met.Self.FixedWidth.sign_law in
-    let o = c.kept.ensures.some in
+pub returns : goal.returns
+returns g c =
+    let o = c.pattern.ensures.some in
     let l : c.args.amount % g.Self.Integer.BITS ≤ g.Self.Integer.BITS = omega arith in
-    rotr-undoes _ _ (c.args.amount % g.Self.Integer.BITS) _ _ y o l f d (cc)
-
-pub returns-clause-range : goal.returns-clause-range
-returns-clause-range g c =
-    subst (λ (s : Bool). InRange s g.Self.Integer.BITS (g.Self.Integer.number c.args.self)) g.met.Self.FixedWidth.sign_law c.kept.ensures.range
+    let q : c.rotate_right.result ≡ num (rotr (bits g.Self.Integer.BITS (pos c.pattern.result)) (c.args.amount % g.Self.Integer.BITS)) = cc in
+    let e = rotr-value g.Self.Integer.IS_SIGNED g.Self.Integer.BITS _ _ (c.args.amount % g.Self.Integer.BITS) _ _ c.pattern.ensures.value q c.from_extended.ensures in
+    record {
+      value = e;
+      undo = λ y f d. rotr-undoes _ _ (c.args.amount % g.Self.Integer.BITS) _ _ y o l f d e;
+      range = c.pattern.ensures.range;
+    }

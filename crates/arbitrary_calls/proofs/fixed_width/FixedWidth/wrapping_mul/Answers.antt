@@ -1,5 +1,14 @@
-use Rattle.arbitrary_base.proofs.Wrapped.{wrapped-kept}
+use Rattle.std.proofs.Common.{refl}
+use Rattle.arbitrary_base.proofs.PatternArithmetic.{product-of_patterns}
+use Rattle.arbitrary_base.proofs.Wrapped.{wrapped-congruent, wrapped-kept}
 use Rattle.arbitrary_calls.proofs.fixed_width.FixedWidth.wrapping_mul.Goals as goal
 
-pub returns-clause-kept : goal.returns-clause-kept
-returns-clause-kept g c f = let t = g.met.Self.FixedWidth.sign_law in wrapped-kept _ _ _ _ c.kept.ensures.some f (cc)
+pub returns : goal.returns
+returns g c =
+    let o = c.pattern.ensures.some in
+    let e = product-of_patterns g.Self.Integer.IS_SIGNED g.Self.Integer.BITS _ _ _ _ _ _ o c.pattern.ensures.high c.pattern.ensures.value c.pattern-2.ensures.value refl c.from_extended.ensures in
+    record {
+      value = e;
+      kept = λ f. wrapped-kept _ _ _ _ o f e;
+      congruent = wrapped-congruent _ _ _ _ e;
+    }

@@ -1,9 +1,17 @@
-use Rattle.std.specs.Prelude.{◌≡◌}
-use Rattle.arbitrary_base.specs.BitList.{bits, val, bits_not}
+use Rattle.std.proofs.Common.{ap, ◌∙◌}
+use Rattle.arbitrary_base.specs.BitList.{bits, bits_not}
 use Rattle.arbitrary_base.proofs.BitArithmetic.{not-signed}
+use Rattle.arbitrary_base.proofs.BitNumber.{length-bits, length-not}
+use Rattle.arbitrary_core.proofs.Patterns.{bits-kept, number-of_list}
 use Rattle.arbitrary_core.proofs.bitwise.signed.IntNot.not.Goals as goal
 
-pub returns-clause-number : goal.returns-clause-number
-returns-clause-number g c =
-    let e : c.new.result ≡ val g.T.Storage.SIGNED (bits_not (bits g.row.BITS c.args.self)) = cc in
-    not-signed _ _ _ _ g.met.T.SignedStorage.signed_law c.value.ensures.width.0 c.value.ensures.range e
+pub returns : goal.returns
+returns g c =
+    let w = c.to_bits.ensures.width.0 in
+    let p = bits-kept g.row.BITS c.args.self _ c.to_bits.ensures.value in
+    let n = length-not (bits g.row.BITS c.args.self) ∙ length-bits g.row.BITS c.args.self in
+    let e = number-of_list g.T.Storage.SIGNED g.T.Unsigned.Storage.SIGNED g.row.BITS _ _ _ _ w n (ap bits_not p) c.not.ensures.value c.from_bits.ensures.number in
+    record {
+      bits = e;
+      number = not-signed _ _ _ _ g.met.T.SignedStorage.signed_law w c.to_bits.ensures.self_range e;
+    }

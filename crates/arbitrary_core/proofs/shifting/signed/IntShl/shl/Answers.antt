@@ -1,18 +1,23 @@
-use Rattle.std.specs.Prelude.{◌≡◌, ◌<◌, unsigned_abs}
-use Rattle.std.proofs.Common.{arith, ap}
+use Rattle.std.specs.Prelude.{◌≡◌, ◌≤◌, ◌<◌, length, unsigned_abs}
+use Rattle.std.proofs.Common.{arith, ap, ◌∙◌}
 use Rattle.std.proofs.lemmas.Int.{ints}
-use Rattle.arbitrary_base.specs.BitList.{bits, val, shl}
+use Rattle.arbitrary_base.specs.BitList.{bits, shl}
+use Rattle.arbitrary_base.proofs.BitNumber.{length-bits}
+use Rattle.arbitrary_base.proofs.BitShift.{length-shl}
 use Rattle.arbitrary_base.proofs.Shifted.{shl-congruent}
+use Rattle.arbitrary_core.proofs.Patterns.{bits-kept, number-of_list}
 use Rattle.arbitrary_core.proofs.shifting.signed.IntShl.shl.Goals as goal
 
 pub returns : goal.returns
 returns g c =
-    let w = c.value.ensures.width.0 in
-    let x = c.value.ensures.range in
-    let k : c.to_amount.result ≡ unsigned_abs (g.S.ShiftAmount.amount c.args.amount) = ap unsigned_abs c.to_amount.ensures in
-    let l : unsigned_abs (g.S.ShiftAmount.amount c.args.amount) < g.row.BITS =
-    let low = c.requires.0 in let high = c.requires.1 in let a = c.to_amount.ensures in omega (arith, ints) in
-    let e : c.new.result ≡ val g.T.Storage.SIGNED (shl (bits g.row.BITS c.args.self) (unsigned_abs (g.S.ShiftAmount.amount c.args.amount))) = cc in
+    let w = c.to_bits.ensures.width.0 in
+    let a = unsigned_abs (g.S.ShiftAmount.amount c.args.amount) in
+    let k : c.to_amount.result ≡ a = ap unsigned_abs c.to_amount.ensures in
+    let l : a < g.row.BITS = let low = c.requires.0 in let high = c.requires.1 in let m = c.to_amount.ensures in omega (arith, ints) in
+    let t : a ≤ length (bits g.row.BITS c.args.self) = omega (arith, length-bits g.row.BITS c.args.self) in
+    let n = length-shl (bits g.row.BITS c.args.self) a t ∙ length-bits g.row.BITS c.args.self in
+    let p = bits-kept g.row.BITS c.args.self _ c.to_bits.ensures.value in
+    let e = number-of_list g.T.Storage.SIGNED g.T.Unsigned.Storage.SIGNED g.row.BITS _ _ _ _ w n (λ i. shl (p i) (k i)) c.shl.ensures.value c.from_bits.ensures.number in
     record {
       bits = e;
       congruent = shl-congruent _ _ _ _ _ w l e;
