@@ -5,4 +5,5 @@ pub use arbitrary_base::storage::{
 };
 pub use arbitrary_calls::fixed_width::FixedWidth;
 pub use arbitrary_traits::integer::{Integer, SignedInteger, UnsignedInteger};
+pub use arbitrary_traits::mates::{SignedMate, UnsignedMate};
 pub use arbitrary_traits::shift_amount::ShiftAmount;

@@ -3,6 +3,7 @@
 #![tactic(auto)]
 
 pub mod integer;
+pub mod mates;
 pub mod primitives;
 pub mod shift_amount;
 #[cfg(test)]

@@ -267,7 +267,10 @@ pub fn signed_masked_in_place(x: i12) -> i12
 pub fn signed_halves(x: i16) -> (i8, u8)
     ensures { x ≡ pos 256 *ℤ result.0 +ℤ pos result.1 }
 {
-    (i8::from_(Int::<i8, 8>::extract_i16(x, 8)), u8::from_(UInt::<u8, 8>::extract_i16(x, 0)))
+    (
+        i8::from_(Int::<i8, 8>::extract_i16(x, 8)),
+        u8::from_(UInt::<u8, 8>::extract_i16(x, 0)),
+    )
 }
 
 pub fn signed_mask(x: i12) -> i12

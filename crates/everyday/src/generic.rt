@@ -1,9 +1,11 @@
 //! Code that is generic in the type.
 
-ghost use Rattle.std.specs.Prelude.{◌≡◌, ◌↔◌, ◌≤◌, ◌+ℤ◌, ◌≤ℤ◌, ◌<ℤ◌, pos, IfSome, IsTrue};
+ghost use Rattle.std.specs.Prelude.{◌≡◌, ◌↔◌, ◌≤◌, ◌+ℤ◌, ◌≤ℤ◌, ◌<ℤ◌, pos, true, IfSome, IsTrue};
 ghost use Rattle.arbitrary_int.specs.Range.{InRange, lo, hi};
+ghost use Rattle.arbitrary_int.specs.Residue.{Congruent};
 
 use arbitrary_int::prelude::*;
+use arbitrary_int::traits::{SignedMate, UnsignedMate};
 
 pub fn narrowed<A: Integer, B: Integer>(x: A) -> B
     requires width { B.valid }
@@ -65,6 +67,33 @@ pub fn unsigned_and_back<V: Integer>(a: V) -> V
     ensures { V.number result ≡ V.number a }
 {
     V::from_unsigned(a.to_unsigned())
+}
+
+/// The unsigned type of the same width, by its own number.
+pub fn to_mate<V: Integer>(a: V) -> V::UnsignedInteger
+where
+    V::UnsignedInteger: UnsignedMate<V>,
+    ensures { Congruent V.BITS (V.UnsignedInteger.number result) (V.number a) }
+{
+    a.to_unsigned()
+}
+
+pub fn mate_of_a_number(x: i12) -> u12
+    requires { pos 0 ≤ℤ x }
+    ensures { result ≡ x }
+{
+    to_mate(x)
+}
+
+/// The signed type of the same width has every number that both have.
+pub fn with_a_sign<V: UnsignedInteger>(a: V) -> V::SignedInteger
+where
+    V::SignedInteger: SignedMate<V>,
+    requires width { V.SignedInteger.valid }
+    requires small { InRange true V.BITS (V.number a) }
+    ensures { V.SignedInteger.number result ≡ V.number a }
+{
+    a.as_::<V::SignedInteger>()
 }
 
 pub fn low_byte<V: UnsignedInteger>(a: V) -> u8

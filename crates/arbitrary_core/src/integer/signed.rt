@@ -9,8 +9,11 @@ use crate::unsigned::UInt;
 use arbitrary_base::ends::{highest, lowest};
 use arbitrary_base::error::TryNewError;
 use arbitrary_base::narrowing::{extended, from_low_bits};
-use arbitrary_base::storage::{BuiltinInteger, PatternOf, Sealed, SignedStorage, Storage};
+use arbitrary_base::storage::{
+    BuiltinInteger, PatternOf, Sealed, SignedOf, SignedStorage, Storage,
+};
 use arbitrary_traits::integer::{Integer, SignedInteger};
+use arbitrary_traits::mates::{SignedMate, UnsignedMate};
 
 impl<T: BuiltinInteger + SignedStorage, const BITS: usize> Sealed for Int<T, BITS>
 where
@@ -168,4 +171,25 @@ where
     ghost can_neg_law = { λ a h. h };
 
     ghost neg_law = { λ a r h. h };
+}
+
+impl<T: BuiltinInteger + SignedStorage, const BITS: usize> SignedMate<Int<T, BITS>> for Int<T, BITS>
+where
+    T::Unsigned: PatternOf<T>,
+{
+    ghost width_law = { refl };
+}
+
+impl<T: BuiltinInteger + SignedStorage, const BITS: usize> UnsignedMate<Int<T, BITS>>
+    for UInt<T::Unsigned, BITS>
+where
+    T::Unsigned: BuiltinInteger + PatternOf<T>,
+    <T::Unsigned as BuiltinInteger>::Signed: BuiltinInteger + SignedOf<T::Unsigned>,
+    <<T::Unsigned as BuiltinInteger>::Signed as BuiltinInteger>::Unsigned: PatternOf<
+        <T::Unsigned as BuiltinInteger>::Signed,
+    >,
+{
+    ghost width_law = { refl };
+
+    ghost number_law = { λ x. refl };
 }

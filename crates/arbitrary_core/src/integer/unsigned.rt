@@ -13,6 +13,7 @@ use arbitrary_base::storage::{
     BuiltinInteger, PatternOf, Sealed, SignedOf, Storage, UnsignedStorage,
 };
 use arbitrary_traits::integer::{Integer, UnsignedInteger};
+use arbitrary_traits::mates::{SignedMate, UnsignedMate};
 
 impl<T: UnsignedStorage, const BITS: usize> Sealed for UInt<T, BITS> {}
 
@@ -165,4 +166,24 @@ where
     <T::Signed as BuiltinInteger>::Unsigned: PatternOf<T::Signed>,
 {
     ghost unsigned_law = { T.unsigned_law };
+}
+
+impl<T: BuiltinInteger + UnsignedStorage, const BITS: usize> UnsignedMate<UInt<T, BITS>>
+    for UInt<T, BITS>
+where
+    T::Signed: BuiltinInteger + SignedOf<T>,
+    <T::Signed as BuiltinInteger>::Unsigned: PatternOf<T::Signed>,
+{
+    ghost width_law = { refl };
+
+    ghost number_law = { λ x. refl };
+}
+
+impl<T: BuiltinInteger + UnsignedStorage, const BITS: usize> SignedMate<UInt<T, BITS>>
+    for Int<T::Signed, BITS>
+where
+    T::Signed: BuiltinInteger + SignedOf<T>,
+    <T::Signed as BuiltinInteger>::Unsigned: PatternOf<T::Signed>,
+{
+    ghost width_law = { refl };
 }
