@@ -160,7 +160,10 @@ fn longest_input(rt: HostRuntime) -> Result<(), Fail> {
     input.truncate(65_537);
     let mut reader = Watched::new(input.as_slice());
     let mut writer = Watched::new(Vec::new(rt.alloc()));
-    assert_eq!(rt; serve(rt.alloc(), &mut reader, &mut writer), Err(Fault::TooLong));
+    assert_eq!(rt;
+        serve(rt.alloc(), &mut reader, &mut writer),
+        Err(Fault::TooLong)
+    );
     Ok(())
 }
 
