@@ -1,6 +1,6 @@
 -- Calls that undo each other: a sum and a difference that wrap, the two rotations, the reversal, the same `xor` twice, and
 -- the two ways between types of one width and other signs.
-use Rattle.std.specs.Prelude.{◌≡◌, ℕ, ℤ, Bool, List, [], ◌∷◌, true, false, neg_ℤ, ◌+◌, ◌-◌, ◌≤◌, ◌+ℤ◌, ◌-ℤ◌, length, reverse, take, drop}
+use Rattle.std.specs.Prelude.{◌≡◌, ℕ, ℤ, Bool, List, [], ◌∷◌, true, false, neg_ℤ, ◌-◌, ◌≤◌, ◌+ℤ◌, ◌-ℤ◌, length, reverse, take, drop}
 use Rattle.std.proofs.Common.{arith, refl, ap, ap₂, sym, ◌∙◌, length-drop, take-append-drop}
 use Rattle.std.proofs.lemmas.Int.{ints}
 use Rattle.std.proofs.lemmas.List.{length-reverse, reverse-reverse, take_at, drop_at}
