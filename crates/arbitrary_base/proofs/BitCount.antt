@@ -4,8 +4,9 @@ use Rattle.std.proofs.lemmas.List.{length-reverse, reverse-reverse, map-append}
 use Rattle.std.proofs.lemmas.List.Sums.{sum_by-cons, prefix_len-le-length}
 use Rattle.std.proofs.Math.Pow.{pow_mono}
 use Rattle.std.proofs.Math.Nat.{pow-suc}
+use Rattle.std.specs.Bool.{beq}
 use Rattle.std.specs.Int.Count.{ones as set_digits, ones_step, count_leading_zeros, count_trailing_zeros, leading_of_zero, leading_length, leading_unique}
-use Rattle.arbitrary_base.specs.BitList.{bits, digit, num, differs, bits_not, ones, front, tail}
+use Rattle.arbitrary_base.specs.BitList.{bits, digit, num, bits_not, ones, front, tail}
 use Rattle.arbitrary_base.proofs.BitNumber.{length-bits, num-lt_of, num-append, cons-mod, cons-div}
 use Rattle.arbitrary_base.proofs.BitShift.{reverse-cons}
 
@@ -29,7 +30,7 @@ ones-not (b ∷ l) =
     one-of false = refl
 
 pub tail-le : (b : Bool) (l : List Bool) → tail b l ≤ length l
-tail-le b l = omega (arith, prefix_len-le-length (λ a. not (differs a b)) (reverse l), length-reverse l)
+tail-le b l = omega (arith, prefix_len-le-length (beq b) (reverse l), length-reverse l)
 
 -- ---- ones, by the zeros of what is turned over
 
@@ -104,7 +105,7 @@ pub ones-fit : (B : ℕ) (x : ℤ) → ones (bits B x) ≤ B
 ones-fit B x = let e = ones-not (bits B x) in let n = length-bits B x in omega arith
 
 pub front-fits : (b : Bool) (B : ℕ) (x : ℤ) → front b (bits B x) ≤ B
-front-fits b B x = let e = prefix_len-le-length (λ (a : Bool). not (differs a b)) (bits B x) in let n = length-bits B x in omega arith
+front-fits b B x = let e = prefix_len-le-length (beq b) (bits B x) in let n = length-bits B x in omega arith
 
 pub tail-fits : (b : Bool) (B : ℕ) (x : ℤ) → tail b (bits B x) ≤ B
 tail-fits b B x = let e = tail-le b (bits B x) in let n = length-bits B x in omega arith

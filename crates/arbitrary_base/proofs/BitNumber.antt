@@ -3,13 +3,15 @@ use Rattle.std.proofs.Common.{◌≡◌, ℕ, zero, suc, ◌+◌, ◌*◌, ◌/�
 use Rattle.std.proofs.Math.Nat.{mod-one, pow-suc, zero-mod, div-one, zero-div, div-div-eq-div-mul}
 use Rattle.std.proofs.Math.Pow.{mod-pow-add}
 use Rattle.std.proofs.lemmas.List.{length-map}
+use Rattle.std.specs.Bool.{beq}
+use Rattle.std.specs.Int.{int_div_euclid}
 use Rattle.std.specs.Int.Bits.{bit_and, bit_or, bit_xor, and_step, or_step, xor_step, and_zero_r, differ}
-use Rattle.arbitrary_base.specs.BitList.{half, bits, digit, num, bits_and, bits_or, differs, bits_xor, bits_not}
+use Rattle.arbitrary_base.specs.BitList.{bits, digit, num, bits_and, bits_or, bits_xor, bits_not}
 
 pub length-bits : (B : ℕ) (x : ℤ) → length (bits B x) ≡ B
 unfolding bits
 length-bits zero x = refl
-length-bits (suc k) x = ap suc (length-bits k (half x))
+length-bits (suc k) x = ap suc (length-bits k (int_div_euclid x (pos 2)))
 
 digit-odd : (n : ℕ) → digit (eqb (n % 2) 1) ≡ n % 2
 digit-odd n = grind arith
@@ -100,7 +102,7 @@ digit-or true false = refl
 digit-or false true = refl
 digit-or false false = refl
 
-digit-xor : (a b : Bool) → digit (differs a b) ≡ differ (digit a) (digit b)
+digit-xor : (a b : Bool) → digit (not (beq a b)) ≡ differ (digit a) (digit b)
 digit-xor true true = refl
 digit-xor true false = refl
 digit-xor false true = refl

@@ -1,37 +1,43 @@
 -- The last bit is the sign, and a right shift that copies it is a division that rounds down.
-use Rattle.std.proofs.Common.{◌≡◌, ℕ, zero, suc, ◌-◌, ◌*◌, ◌/◌, ◌%◌, ◌^◌, ◌<◌, ◌≤◌, Bool, true, false, not, List, [], ◌∷◌, length, ℤ, pos, negsuc, refl, sym, ap, ◌∙◌, subst, arith, lt_of_le_of_lt, to_z, of_z, to_z-of_z}
+use Rattle.std.proofs.Common.{◌≡◌, ℕ, zero, suc, ◌-◌, ◌*◌, ◌/◌, ◌%◌, ◌^◌, ◌<◌, ◌≤◌, Bool, true, false, not, List, length, get_or, ℤ, pos, negsuc, refl, sym, ap, ◌∙◌, subst, arith, lt_of_le_of_lt, to_z, of_z, to_z-of_z}
 use Rattle.std.specs.Prelude.{FitsSigned}
 use Rattle.std.specs.Int.{Width, int_shl, int_shr}
 use Rattle.std.proofs.Math.Nat.{pow-suc}
 use Rattle.std.proofs.Math.Pow.{shr_le}
 use Rattle.std.proofs.lemmas.Nat.{pow_pos}
 use Rattle.std.proofs.lemmas.Int.{ints}
+use Rattle.std.proofs.lemmas.List.{get_or-map}
 use mir.Val.{bits as width_of}
 use Rattle.arbitrary_base.specs.Range.{InRange}
 use Rattle.arbitrary_base.specs.Residue.{residue, wrap}
-use Rattle.arbitrary_base.specs.BitList.{bits, val, bits_not, shl, shr, last, fill}
+use Rattle.arbitrary_base.specs.BitList.{bits, val, bits_not, shl, shr, fill}
 use Rattle.arbitrary_base.proofs.Congruence.{pow_half}
 use Rattle.arbitrary_base.proofs.Wrap.{wrap-same, wrap-of_in_range}
 use Rattle.arbitrary_base.proofs.Narrow.{InRange-wider}
 use Rattle.arbitrary_base.proofs.Primitive.{mod-congruent, unsigned-in_range, residue-pos, signed-in_range, signed-fits, signed-from_bits, cast_unsigned-residue, bits_some, wrap-pos}
-use Rattle.arbitrary_base.proofs.BitNumber.{length-bits, num-bits_small, same_num}
+use Rattle.arbitrary_base.proofs.BitNumber.{length-bits, length-not, num-bits_small, same_num}
 use Rattle.arbitrary_base.proofs.BitShift.{length-shl, length-shr, num-shl, num-shr, shr-not}
 use Rattle.arbitrary_base.proofs.BitValue.{bits-negsuc, num-bits_residue, bits-wrap, val-num, val-bits}
 
 -- ---- the last bit
 
-last-small : (b n : ℕ) → n < 2 ^ b → last (bits (suc b) (pos n)) ≡ false
+abbrev last : List Bool → Bool
+last l = get_or l (length l - 1) false
+
+last-small : (b n : ℕ) → n < 2 ^ b → get_or (bits (suc b) (pos n)) b false ≡ false
 unfolding bits
 last-small zero n h = let e : n ≡ 0 = omega arith in rw e refl
 last-small (suc b) n h = last-small b (n / 2) (omega (arith, pow-suc 2 b))
 
 last-natural : (w n : ℕ) → 1 ≤ w → n < 2 ^ (w - 1) → last (bits w (pos n)) ≡ false
-last-natural w n h l = ap (λ (x : ℕ). last (bits x (pos n))) (let e : w ≡ suc (w - 1) = omega arith in e) ∙ last-small (w - 1) n l
+last-natural w n h l =
+    ap (λ (k : ℕ). get_or (bits w (pos n)) (k - 1) false) (length-bits w (pos n))
+    ∙ ap (λ (k : ℕ). get_or (bits k (pos n)) (w - 1) false) (let e : w ≡ suc (w - 1) = omega arith in e) ∙ last-small (w - 1) n l
 
 last-not : (l : List Bool) → 1 ≤ length l → last (bits_not l) ≡ not (last l)
-last-not [] h = absurd (omega arith)
-last-not (b ∷ []) h = refl
-last-not (b ∷ c ∷ l) h = last-not (c ∷ l) (omega arith)
+last-not l h =
+    ap (λ (k : ℕ). get_or (bits_not l) (k - 1) false) (length-not l)
+    ∙ get_or-map not l (length l - 1) false false (omega arith)
 
 -- ---- to the right
 

@@ -1,5 +1,5 @@
 -- A number's bits and its residue, and the number of a type that has given bits.
-use Rattle.std.proofs.Common.{◌≡◌, ℕ, zero, suc, ◌/◌, ◌%◌, ◌^◌, ◌≤◌, Bool, false, not, eqb, List, ◌∷◌, length, ℤ, pos, negsuc, refl, sym, ap, ◌∙◌, arith}
+use Rattle.std.proofs.Common.{◌≡◌, ℕ, zero, suc, ◌/◌, ◌%◌, ◌^◌, ◌≤◌, Bool, false, not, eqb, List, ◌∷◌, length, ℤ, pos, negsuc, refl, sym, ap, ap₂, ◌∙◌, arith}
 use Rattle.std.specs.Prelude.{unsigned_abs}
 use Rattle.arbitrary_base.specs.Range.{InRange}
 use Rattle.arbitrary_base.specs.Residue.{Congruent, residue, wrap}
@@ -9,11 +9,15 @@ use Rattle.arbitrary_base.proofs.Wrap.{residue-lt, residue-congruent, congruent-
 use Rattle.arbitrary_base.proofs.Primitive.{unsigned-in_range}
 use Rattle.arbitrary_base.proofs.BitNumber.{length-bits, num-bits, num-bits_small, bits-num_of, same_num, num-not}
 
+-- the number after an even one is odd
+odd-after : (n : ℕ) → eqb (suc n % 2) 1 ≡ not (eqb (n % 2) 1)
+odd-after n = grind arith
+
 -- the bits of -(n + 1) are those of n, each turned over
 pub bits-negsuc : (B n : ℕ) → bits B (negsuc n) ≡ bits_not (bits B (pos n))
 unfolding bits
 bits-negsuc zero n = refl
-bits-negsuc (suc k) n = ap (λ (l : List Bool). not (eqb (n % 2) 1) ∷ l) (bits-negsuc k (n / 2))
+bits-negsuc (suc k) n = ap₂ (λ (b : Bool) (l : List Bool). b ∷ l) (odd-after n) (bits-negsuc k (n / 2))
 
 pub num-bits_residue : (B : ℕ) (x : ℤ) → num (bits B x) ≡ residue B x
 unfolding residue

@@ -1,9 +1,10 @@
 -- Why the low bits of an answer depend on the low bits of its sources alone.
 use Rattle.std.proofs.Common.{◌≡◌, ℕ, zero, suc, ◌+◌, ◌-◌, ◌%◌, ◌^◌, ◌≤◌, ◌<◌, Bool, false, not, ◌&&◌, ◌||◌, List, [], ◌∷◌, ◌++◌, length, take, replicate, ℤ, pos, ◌+ℤ◌, ◌-ℤ◌, ◌*ℤ◌, refl, sym, ap, ◌∙◌, arith, length-take, take-take}
+use Rattle.std.specs.Bool.{beq}
 use Rattle.std.proofs.lemmas.List.{length-replicate, take-map}
 use Rattle.std.proofs.Math.Seq.{take-append-add}
 use Rattle.arbitrary_base.specs.Residue.{Congruent, wrap}
-use Rattle.arbitrary_base.specs.BitList.{bits, num, val, bits_and, bits_or, differs, bits_xor, bits_not, shl}
+use Rattle.arbitrary_base.specs.BitList.{bits, num, val, bits_and, bits_or, bits_xor, bits_not, shl}
 use Rattle.arbitrary_base.proofs.Congruence.{Congruent-sym, Congruent-add, Congruent-sub, Congruent-mul, Congruent-narrower}
 use Rattle.arbitrary_base.proofs.Wrap.{wrap-congruent, wrap-same}
 use Rattle.arbitrary_base.proofs.Primitive.{mod-congruent}
@@ -79,7 +80,7 @@ take-xor : (k : ℕ) (l m : List Bool) → take k (bits_xor l m) ≡ bits_xor (t
 take-xor zero l m = refl
 take-xor (suc k) [] m = refl
 take-xor (suc k) (a ∷ l) [] = refl
-take-xor (suc k) (a ∷ l) (b ∷ m) = ap (λ (r : List Bool). differs a b ∷ r) (take-xor k l m)
+take-xor (suc k) (a ∷ l) (b ∷ m) = ap (λ (r : List Bool). not (beq a b) ∷ r) (take-xor k l m)
 
 pub low-and : (s t : Bool) (A B : ℕ) (x y : ℤ) → 1 ≤ A → A ≤ B
     → wrap s A (val t (bits_and (bits B x) (bits B y))) ≡ val s (bits_and (bits A (wrap s A x)) (bits A (wrap s A y)))

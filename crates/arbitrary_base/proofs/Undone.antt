@@ -1,12 +1,13 @@
 -- Calls that undo each other: a sum and a difference that wrap, the two rotations, the reversal, the same `xor` twice, and
 -- the two ways between types of one width and other signs.
-use Rattle.std.specs.Prelude.{◌≡◌, ℕ, ℤ, Bool, List, [], ◌∷◌, true, false, neg_ℤ, ◌-◌, ◌≤◌, ◌+ℤ◌, ◌-ℤ◌, length, reverse, take, drop}
+use Rattle.std.specs.Prelude.{◌≡◌, ℕ, ℤ, Bool, List, [], ◌∷◌, true, false, not, neg_ℤ, ◌-◌, ◌≤◌, ◌+ℤ◌, ◌-ℤ◌, length, reverse, take, drop}
+use Rattle.std.specs.Bool.{beq}
 use Rattle.std.proofs.Common.{arith, refl, ap, ap₂, sym, ◌∙◌, length-drop, take-append-drop}
 use Rattle.std.proofs.lemmas.Int.{ints}
 use Rattle.std.proofs.lemmas.List.{length-reverse, reverse-reverse, take_at, drop_at}
 use Rattle.arbitrary_base.specs.Range.{InRange}
 use Rattle.arbitrary_base.specs.Residue.{wrap}
-use Rattle.arbitrary_base.specs.BitList.{bits, val, bits_xor, differs, rotl, rotr}
+use Rattle.arbitrary_base.specs.BitList.{bits, val, bits_xor, rotl, rotr}
 use Rattle.arbitrary_base.proofs.Congruence.{Congruent-refl, Congruent-add}
 use Rattle.arbitrary_base.proofs.Wrap.{wrap-congruent, wrap-of_in_range, wrap-same}
 use Rattle.arbitrary_base.proofs.BitNumber.{length-bits, length-xor}
@@ -51,16 +52,16 @@ reverse-undoes s B x z y h f e d =
     let l : bits B x ≡ reverse (bits B y) = ap (bits B) e ∙ bits-val s B (reverse (bits B y)) (length-reverse (bits B y) ∙ length-bits B y) in
     d ∙ ap (λ (m : List Bool). val s (reverse m)) l ∙ ap (val s) (reverse-reverse (bits B y)) ∙ val-bits_in_range s B y h f
 
-differs-twice : (a b : Bool) → differs (differs a b) b ≡ a
-differs-twice true true = refl
-differs-twice true false = refl
-differs-twice false true = refl
-differs-twice false false = refl
+unlike-twice : (a b : Bool) → not (beq (not (beq a b)) b) ≡ a
+unlike-twice true true = refl
+unlike-twice true false = refl
+unlike-twice false true = refl
+unlike-twice false false = refl
 
 xor-xor : (l m : List Bool) → length l ≡ length m → bits_xor (bits_xor l m) m ≡ l
 xor-xor [] m e = refl
 xor-xor (a ∷ l) [] e = absurd (omega arith)
-xor-xor (a ∷ l) (b ∷ m) e = ap₂ (λ (c : Bool) (n : List Bool). c ∷ n) (differs-twice a b) (xor-xor l m (omega arith))
+xor-xor (a ∷ l) (b ∷ m) e = ap₂ (λ (c : Bool) (n : List Bool). c ∷ n) (unlike-twice a b) (xor-xor l m (omega arith))
 
 pub xor-undoes : (s : Bool) (B : ℕ) (x b z y : ℤ) → 1 ≤ B → InRange s B y → x ≡ val s (bits_xor (bits B y) (bits B b)) → z ≡ val s (bits_xor (bits B x) (bits B b)) → z ≡ y
 xor-undoes s B x b z y h f e d =

@@ -1,21 +1,14 @@
 -- Numbers as lists of bits, the lowest bit first.
-use Rattle.std.specs.Prelude.{ℕ, zero, suc, ◌+◌, ◌-◌, ◌*◌, ◌/◌, ◌%◌, Bool, true, false, not, ◌&&◌, ◌||◌, ◌==◌, if◌then◌else◌, List, [], ◌∷◌, ◌++◌, map, reverse, length, take, drop, replicate, ℤ, pos, negsuc}
-use Rattle.std.specs.List.{count_by, prefix_len}
+use Rattle.std.specs.Prelude.{ℕ, zero, suc, ◌+◌, ◌-◌, ◌*◌, ◌%◌, Bool, false, not, ◌&&◌, ◌||◌, ◌==◌, if◌then◌else◌, List, [], ◌∷◌, ◌++◌, map, reverse, length, get_or, take, drop, replicate, ℤ, pos, unsigned_abs}
+use Rattle.std.specs.Bool.{beq}
+use Rattle.std.specs.Int.{int_div_euclid}
+use Rattle.std.specs.List.{count_by, prefix_len, zip}
 use Rattle.arbitrary_base.specs.Residue.{wrap}
 
-abbrev pub is_odd : ℤ → Bool
-is_odd (pos n) = n % 2 == 1
-is_odd (negsuc n) = not (n % 2 == 1)
-
--- the half, rounded down: what is left of x without its lowest bit
-abbrev pub half : ℤ → ℤ
-half (pos n) = pos (n / 2)
-half (negsuc n) = negsuc (n / 2)
-
--- the lowest k bits of x in two's complement
+-- the lowest k bits of x in two's complement: whether x is odd, then those of its half, rounded down
 unfoldable pub bits : ℕ → ℤ → List Bool
 bits zero x = []
-bits (suc k) x = is_odd x ∷ bits k (half x)
+bits (suc k) x = (unsigned_abs x % 2 == 1) ∷ bits k (int_div_euclid x (pos 2))
 
 abbrev pub digit : Bool → ℕ
 digit b = if b then 1 else 0
@@ -32,23 +25,13 @@ val s l = wrap s (length l) (pos (num l))
 -- ---- item by item
 
 abbrev pub bits_and : List Bool → List Bool → List Bool
-bits_and [] m = []
-bits_and (a ∷ l) [] = []
-bits_and (a ∷ l) (b ∷ m) = (a && b) ∷ bits_and l m
+bits_and l m = map (λ (p : Bool × Bool). p.0 && p.1) (zip l m)
 
 abbrev pub bits_or : List Bool → List Bool → List Bool
-bits_or [] m = []
-bits_or (a ∷ l) [] = []
-bits_or (a ∷ l) (b ∷ m) = (a || b) ∷ bits_or l m
-
-abbrev pub differs : Bool → Bool → Bool
-differs false b = b
-differs true b = not b
+bits_or l m = map (λ (p : Bool × Bool). p.0 || p.1) (zip l m)
 
 abbrev pub bits_xor : List Bool → List Bool → List Bool
-bits_xor [] m = []
-bits_xor (a ∷ l) [] = []
-bits_xor (a ∷ l) (b ∷ m) = differs a b ∷ bits_xor l m
+bits_xor l m = map (λ (p : Bool × Bool). not (beq p.0 p.1)) (zip l m)
 
 abbrev pub bits_not : List Bool → List Bool
 bits_not l = map not l
@@ -63,15 +46,9 @@ shl l k = replicate k false ++ take (length l - k) l
 abbrev pub shr : List Bool → ℕ → Bool → List Bool
 shr l k f = drop k l ++ replicate k f
 
--- the last item, or false where there is none
-abbrev pub last : List Bool → Bool
-last [] = false
-last (b ∷ []) = b
-last (b ∷ c ∷ l) = last (c ∷ l)
-
--- what a right shift brings in: zeros, or the sign where there is one
+-- what a right shift brings in: zeros, or the last item, which is the sign, where the type has one
 abbrev pub fill : Bool → List Bool → Bool
-fill s l = s && last l
+fill s l = s && get_or l (length l - 1) false
 
 -- the last k items, then the others
 abbrev pub rotl : List Bool → ℕ → List Bool
@@ -89,7 +66,7 @@ ones l = count_by (λ b. b) l
 
 -- the length of the longest run of b at the front
 abbrev pub front : Bool → List Bool → ℕ
-front b l = prefix_len (λ a. not (differs a b)) l
+front b l = prefix_len (beq b) l
 
 -- and at the end
 abbrev pub tail : Bool → List Bool → ℕ

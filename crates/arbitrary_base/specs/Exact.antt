@@ -1,6 +1,10 @@
 -- Answers that are exact or none.
-use Rattle.std.specs.Prelude.{◌≡◌, ◌≢◌, ◌&&◌, ℕ, ℤ, Bool, pos, int_div, int_lt, Option, Some, None}
-use Rattle.arbitrary_base.specs.Range.{InRange}
+use Rattle.std.specs.Prelude.{◌≡◌, ◌≢◌, ◌&&◌, ℕ, ℤ, Bool, pos, int_div, int_lt, Option, Some, None, if◌then◌else◌}
+use Rattle.arbitrary_base.specs.Range.{InRange, in_range}
+
+-- the number where a type of the sign s and the width B has it
+abbrev pub number_of_type : Bool → ℕ → ℤ → Option ℤ
+number_of_type s B x = if in_range s B x then Some x else None
 
 -- the number x where the type has it, and `None` where it does not
 abbrev pub ExactOrNone : {T : Type 0} → (T → ℤ) → Bool → ℕ → ℤ → Option T → Type 0
