@@ -37,6 +37,7 @@ where
 
     fn bitand_assign(&mut self, rhs: Int<T, BITS>)
         ensures bits { self.new ≡ val T.SIGNED (bits_and (bits BITS self.old) (bits BITS rhs)) }
+        ensures plain { pos 0 ≤ℤ self.old → pos 0 ≤ℤ rhs → self.new ≡ pos (bit_and (unsigned_abs self.old) (unsigned_abs rhs)) }
         ensures left { pos 0 ≤ℤ self.old → (pos 0 ≤ℤ self.new) × (self.new ≤ℤ self.old) }
         ensures right { pos 0 ≤ℤ rhs → (pos 0 ≤ℤ self.new) × (self.new ≤ℤ rhs) }
     {
@@ -67,7 +68,10 @@ where
 {
     ghost bitor_assign_gives = { λ a b r. r ≡ val T.SIGNED (bits_or (bits BITS a) (bits BITS b)) };
 
-    fn bitor_assign(&mut self, rhs: Int<T, BITS>) {
+    fn bitor_assign(&mut self, rhs: Int<T, BITS>)
+        ensures bits { self.new ≡ val T.SIGNED (bits_or (bits BITS self.old) (bits BITS rhs)) }
+        ensures plain { pos 0 ≤ℤ self.old → pos 0 ≤ℤ rhs → self.new ≡ pos (bit_or (unsigned_abs self.old) (unsigned_abs rhs)) }
+    {
         *self = *self | rhs;
     }
 }
