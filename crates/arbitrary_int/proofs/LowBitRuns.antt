@@ -1,5 +1,6 @@
 -- Why the low bits of a run at a wide type are those of the run at a narrow one.
 use Rattle.std.specs.Prelude.{◌≡◌, ℕ, ℤ, Bool, pos, ◌+◌, ◌%◌, ◌≤◌, ◌<◌, List, [], ◌∷◌, ◌++◌, length, map, take, get_or, set, Result, Ok, Err, ⊤, ◌+ℤ◌, ◌-ℤ◌, ◌*ℤ◌}
+use Rattle.std.specs.Result.{result_map_both}
 use Rattle.std.proofs.Common.{arith, refl, ap, sym, ◌∙◌, mod-eq_of_lt}
 use Rattle.std.proofs.lemmas.List.{map-set, map-append, map_more, take_more_set, take_all}
 use Rattle.std.proofs.lemmas.List.Elements.{All-head, All-tail}
@@ -9,7 +10,7 @@ use Rattle.arbitrary_base.specs.BitList.{bits, val, bits_and, bits_or, bits_xor,
 use Rattle.arbitrary_base.proofs.Sum.{wrap-zero}
 use Rattle.arbitrary_base.proofs.LowBits.{low-sum, low-difference, low-product, low-and, low-or, low-xor, low-not, low-shl}
 use Rattle.arbitrary_int.proofs.RunLemmas.{RunOf-ok}
-use Rattle.arbitrary_int.specs.Step.{register, written, two_meaning, one_meaning, by_meaning, answer_of, target_of, meaning, StepWithin}
+use Rattle.arbitrary_int.specs.Step.{two_meaning, one_meaning, by_meaning, answer_of, target_of, meaning, StepWithin}
 use Rattle.arbitrary_int.specs.Run.{later, RunOf, WellFormed}
 use Rattle.arbitrary_int.specs.Widths.{IsLowBitTwo, IsLowBitOne, IsLowBitBy, IsLowBit, OnlyLowBits}
 use Rattle.arbitrary_int.specs.declared.steps.TwoOp.{TwoOp}
@@ -61,17 +62,17 @@ low-by_meaning s t A B WrappingShl x k h g l = record {
 low-by_meaning s t A B op x k h g l = absurd l
 
 -- a source, wrapped
-low-register : (s : Bool) (A : ℕ) (regs : List ℤ) (k : ℕ) → 1 ≤ A → register (map (wrap s A) regs) k ≡ wrap s A (register regs k)
+low-register : (s : Bool) (A : ℕ) (regs : List ℤ) (k : ℕ) → 1 ≤ A → get_or (map (wrap s A) regs) k (pos 0) ≡ wrap s A (get_or regs k (pos 0))
 low-register s A regs k h = ap (get_or (map (wrap s A) regs) k) (sym (wrap-zero s A h)) ∙ get_or-map (wrap s A) regs k (pos 0)
 
 low-answer : (s t : Bool) (A B : ℕ) (step : Step) (regs : List ℤ) → 1 ≤ A → A ≤ B → IsLowBit A step
     → LowAnswer s A (answer_of t B step regs) (answer_of s A step (map (wrap s A) regs))
 low-answer s t A B (Two op to left right) regs h g l =
-    rw (low-register s A regs left h, low-register s A regs right h) (low-two_meaning s t A B op (register regs left) (register regs right) h g l)
+    rw (low-register s A regs left h, low-register s A regs right h) (low-two_meaning s t A B op (get_or regs left (pos 0)) (get_or regs right (pos 0)) h g l)
 low-answer s t A B (One op to src) regs h g l =
-    rw (low-register s A regs src h) (low-one_meaning s t A B op (register regs src) h g l)
+    rw (low-register s A regs src h) (low-one_meaning s t A B op (get_or regs src (pos 0)) h g l)
 low-answer s t A B (By op to src amount) regs h g l =
-    rw (low-register s A regs src h) (low-by_meaning s t A B op (register regs src) amount h g l)
+    rw (low-register s A regs src h) (low-by_meaning s t A B op (get_or regs src (pos 0)) amount h g l)
 
 -- the narrow run on the wrapped registers is the wide one, wrapped, and neither stops
 pub record LowRun (s : Bool) (A : ℕ) (wide narrow : List ℤ × Result ⊤ Stop) : Type 0 where
@@ -89,9 +90,9 @@ low-run s t A B (step ∷ steps) regs h g l =
     let a = low-answer s t A B step regs h g (All-head (IsLowBit A) step steps l) in
     let to = target_of step in
     let new = set regs to a.number in
-    let wide : meaning t B step regs ≡ Ok new = ap (written regs to) a.wide_is in
+    let wide : meaning t B step regs ≡ Ok new = ap (result_map_both (set regs to) (λ why. why)) a.wide_is in
     let narrow : meaning s A step (map (wrap s A) regs) ≡ Ok (map (wrap s A) new) =
-    ap (written (map (wrap s A) regs) to) a.narrow_is ∙ ap Ok (sym (map-set (wrap s A) regs to a.number)) in
+    ap (result_map_both (set (map (wrap s A) regs) to) (λ why. why)) a.narrow_is ∙ ap Ok (sym (map-set (wrap s A) regs to a.number)) in
     let rest = low-run s t A B steps new h g (All-tail (IsLowBit A) step steps l) in
     rw (RunOf-ok t B step steps regs new wide, RunOf-ok s A step steps (map (wrap s A) regs) (map (wrap s A) new) narrow)
     (later-low s A 1 (RunOf t B steps new) (RunOf s A steps (map (wrap s A) new)) rest)

@@ -1,17 +1,18 @@
 -- Why a step is right: from the contract of each call to the meaning of its operation.
 use Rattle.std.specs.Prelude.{◌≡◌, ◌≢◌, ◌↔◌, ℕ, ℤ, Bool, true, false, pos, ◌<◌, ◌≤◌, List, length, map, get_or, set, Option, Some, None, Result, Ok, Err, ok_or, int_le, int_div, nat_eq, nat_lt, MatchResult, IsNone, IfSome, ◌&&◌}
 use Rattle.std.specs.Ordering.{int_eq}
+use Rattle.std.specs.Result.{result_map_both}
 use Rattle.std.proofs.Common.{arith, refl, ap, sym, ◌∙◌, subst, lit≤, lit<}
 use Rattle.std.proofs.lemmas.Int.{ints}
 use Rattle.std.proofs.lemmas.List.{get_or-map, map-set}
 use Rattle.arbitrary_base.specs.Range.{lo, hi, InRange, in_range}
 use Rattle.arbitrary_base.specs.Residue.{residue, Congruent}
-use Rattle.arbitrary_base.specs.Exact.{ExactOrNone, QuotientOrNone}
+use Rattle.arbitrary_base.specs.Exact.{number_of_type, ExactOrNone, QuotientOrNone}
 use Rattle.arbitrary_base.proofs.Wrap.{congruent-same, residue-congruent}
 use Rattle.arbitrary_base.proofs.Narrow.{InRange-wider}
 use Rattle.arbitrary_base.proofs.Primitive.{residue-pos}
 use Rattle.arbitrary_base.proofs.Sum.{zero-in_range}
-use Rattle.arbitrary_int.specs.Step.{exact, unless_zero, if_below, register, written, two_meaning, one_meaning, by_meaning}
+use Rattle.arbitrary_int.specs.Step.{unless_zero, if_below, two_meaning, one_meaning, by_meaning}
 use Rattle.arbitrary_int.specs.declared.steps.TwoOp.{TwoOp}
 use Rattle.arbitrary_int.specs.declared.steps.OneOp.{OneOp}
 use Rattle.arbitrary_int.specs.declared.steps.ByOp.{ByOp}
@@ -36,15 +37,15 @@ in_range-false s B x f = by_tests (int_le (lo s B) x) (int_le x (hi s B)) refl r
     by_tests true false p q = refl
     by_tests false u p q = refl
 
-exact-some : (s : Bool) (B : ℕ) (x : ℤ) → InRange s B x → exact s B x ≡ Ok x
+exact-some : (s : Bool) (B : ℕ) (x : ℤ) → InRange s B x → ok_or (number_of_type s B x) Refused ≡ Ok x
 exact-some s B x f = rw (in_range-true s B x f) refl
 
-exact-none : (s : Bool) (B : ℕ) (x : ℤ) → (InRange s B x → ⊥) → exact s B x ≡ Err Refused
+exact-none : (s : Bool) (B : ℕ) (x : ℤ) → (InRange s B x → ⊥) → ok_or (number_of_type s B x) Refused ≡ Err Refused
 exact-none s B x f = rw (in_range-false s B x f) refl
 
 pub exact-checks : {T : Type 0} (number : T → ℤ) (s : Bool) (B : ℕ) (x : ℤ) (o : Option T) (r : Result T Why)
     → ExactOrNone number s B x o → r ≡ ok_or o Refused
-    → MatchResult r (λ v. exact s B x ≡ Ok (number v)) (λ why. exact s B x ≡ Err why)
+    → MatchResult r (λ v. ok_or (number_of_type s B x) Refused ≡ Ok (number v)) (λ why. ok_or (number_of_type s B x) Refused ≡ Err why)
 exact-checks number s B x None r h e = rw e (exact-none s B x h)
 exact-checks number s B x (Some y) r h e = rw e (exact-some s B x h.0 ∙ ap Ok (sym h.1))
 
@@ -68,14 +69,14 @@ unless_zero-other y why answer e = rw e refl
 
 pub quotient-checks : {T : Type 0} (number : T → ℤ) (s : Bool) (B : ℕ) (x y : ℤ) (o : Option T) (r : Result T Why)
     → QuotientOrNone number s B x y o → r ≡ ok_or o Refused
-    → MatchResult r (λ v. unless_zero y Refused (exact s B (int_div x y)) ≡ Ok (number v)) (λ why. unless_zero y Refused (exact s B (int_div x y)) ≡ Err why)
+    → MatchResult r (λ v. unless_zero y Refused (ok_or (number_of_type s B (int_div x y)) Refused) ≡ Ok (number v)) (λ why. unless_zero y Refused (ok_or (number_of_type s B (int_div x y)) Refused) ≡ Err why)
 quotient-checks number s B x y (Some q) r h e =
-    rw e (unless_zero-other y Refused (exact s B (int_div x y)) (int_eq-false y h.0) ∙ exact-some s B (int_div x y) h.1 ∙ ap Ok (sym h.2))
+    rw e (unless_zero-other y Refused (ok_or (number_of_type s B (int_div x y)) Refused) (int_eq-false y h.0) ∙ exact-some s B (int_div x y) h.1 ∙ ap Ok (sym h.2))
 quotient-checks number s B x y None r h e = rw e (by_test (int_eq y (pos 0)) refl)
   where
-    by_test : (t : Bool) → int_eq y (pos 0) ≡ t → unless_zero y Refused (exact s B (int_div x y)) ≡ Err Refused
-    by_test true p = unless_zero-zero y Refused (exact s B (int_div x y)) p
-    by_test false p = unless_zero-other y Refused (exact s B (int_div x y)) p ∙ exact-none s B (int_div x y) (h (nonzero y p))
+    by_test : (t : Bool) → int_eq y (pos 0) ≡ t → unless_zero y Refused (ok_or (number_of_type s B (int_div x y)) Refused) ≡ Err Refused
+    by_test true p = unless_zero-zero y Refused (ok_or (number_of_type s B (int_div x y)) Refused) p
+    by_test false p = unless_zero-other y Refused (ok_or (number_of_type s B (int_div x y)) Refused) p ∙ exact-none s B (int_div x y) (h (nonzero y p))
 
 -- the residue is 0 exactly where the number is
 pub zero_test : (s : Bool) (B p : ℕ) (x : ℤ) (b : Bool) → (1 ≤ B) × (B ≤ 128) → InRange s B x → p ≡ residue 128 x → b ≡ nat_eq p 0 → b ≡ int_eq x (pos 0)
@@ -104,28 +105,28 @@ pub ruleset divisors = (nonzero, unless_zero-zero, unless_zero-other)
 
 -- ---- registers
 
-source : {T : Type 0} (number : T → ℤ) (regs : List T) (k : ℕ) (x : T) → k < length regs → x ≡ get_or regs k x → number x ≡ register (map number regs) k
+source : {T : Type 0} (number : T → ℤ) (regs : List T) (k : ℕ) (x : T) → k < length regs → x ≡ get_or regs k x → number x ≡ get_or (map number regs) k (pos 0)
 source number regs k x h e = sym (get_or-map number regs k x (pos 0) h ∙ ap number (sym e))
 
 pub two-sources : {T : Type 0} (number : T → ℤ) (s : Bool) (B : ℕ) (op : TwoOp) (left right : ℕ) (regs : List T) (x y : T) (r : Result T Why)
     → left < length regs → right < length regs → x ≡ get_or regs left x → y ≡ get_or regs right y
     → MatchResult r (λ v. two_meaning s B op (number x) (number y) ≡ Ok (number v)) (λ why. two_meaning s B op (number x) (number y) ≡ Err why)
-    → MatchResult r (λ v. two_meaning s B op (register (map number regs) left) (register (map number regs) right) ≡ Ok (number v)) (λ why. two_meaning s B op (register (map number regs) left) (register (map number regs) right) ≡ Err why)
+    → MatchResult r (λ v. two_meaning s B op (get_or (map number regs) left (pos 0)) (get_or (map number regs) right (pos 0)) ≡ Ok (number v)) (λ why. two_meaning s B op (get_or (map number regs) left (pos 0)) (get_or (map number regs) right (pos 0)) ≡ Err why)
 two-sources number s B op left right regs x y r h g e f m =
     let a = source number regs left x h e in
     let b = source number regs right y g f in
     let P : ℤ → ℤ → Type 0 = λ p q. MatchResult r (λ v. two_meaning s B op p q ≡ Ok (number v)) (λ why. two_meaning s B op p q ≡ Err why) in
-    subst (λ (q : ℤ). P (register (map number regs) left) q) b (subst (λ (p : ℤ). P p (number y)) a m)
+    subst (λ (q : ℤ). P (get_or (map number regs) left (pos 0)) q) b (subst (λ (p : ℤ). P p (number y)) a m)
 
 pub one-source : {T : Type 0} (number : T → ℤ) (s : Bool) (B : ℕ) (op : OneOp) (src : ℕ) (regs : List T) (x v : T)
     → src < length regs → x ≡ get_or regs src x → one_meaning s B op (number x) ≡ Ok (number v)
-    → one_meaning s B op (register (map number regs) src) ≡ Ok (number v)
+    → one_meaning s B op (get_or (map number regs) src (pos 0)) ≡ Ok (number v)
 one-source number s B op src regs x v h e m = subst (λ (p : ℤ). one_meaning s B op p ≡ Ok (number v)) (source number regs src x h e) m
 
 pub by-source : {T : Type 0} (number : T → ℤ) (s : Bool) (B : ℕ) (op : ByOp) (src amount : ℕ) (regs : List T) (x : T) (r : Result T Why)
     → src < length regs → x ≡ get_or regs src x
     → MatchResult r (λ v. by_meaning s B op (number x) amount ≡ Ok (number v)) (λ why. by_meaning s B op (number x) amount ≡ Err why)
-    → MatchResult r (λ v. by_meaning s B op (register (map number regs) src) amount ≡ Ok (number v)) (λ why. by_meaning s B op (register (map number regs) src) amount ≡ Err why)
+    → MatchResult r (λ v. by_meaning s B op (get_or (map number regs) src (pos 0)) amount ≡ Ok (number v)) (λ why. by_meaning s B op (get_or (map number regs) src (pos 0)) amount ≡ Err why)
 by-source number s B op src amount regs x r h e m =
     subst (λ (p : ℤ). MatchResult r (λ v. by_meaning s B op p amount ≡ Ok (number v)) (λ why. by_meaning s B op p amount ≡ Err why)) (source number regs src x h e) m
 
@@ -133,10 +134,10 @@ pub ruleset sources = (two-sources, one-source, by-source)
 
 -- a step that writes, and one that stops
 pub written-ok : {T : Type 0} (number : T → ℤ) (regs : List T) (to : ℕ) (v : T) (answer : Result ℤ Why)
-    → answer ≡ Ok (number v) → written (map number regs) to answer ≡ Ok (map number (set regs to v))
-written-ok number regs to v answer e = ap (written (map number regs) to) e ∙ ap Ok (sym (map-set number regs to v))
+    → answer ≡ Ok (number v) → result_map_both (set (map number regs) to) (λ why. why) answer ≡ Ok (map number (set regs to v))
+written-ok number regs to v answer e = ap (result_map_both (set (map number regs) to) (λ why. why)) e ∙ ap Ok (sym (map-set number regs to v))
 
-pub written-err : (regs : List ℤ) (to : ℕ) (answer : Result ℤ Why) (why : Why) → answer ≡ Err why → written regs to answer ≡ Err why
-written-err regs to answer why e = ap (written regs to) e
+pub written-err : (regs : List ℤ) (to : ℕ) (answer : Result ℤ Why) (why : Why) → answer ≡ Err why → result_map_both (set regs to) (λ why. why) answer ≡ Err why
+written-err regs to answer why e = ap (result_map_both (set regs to) (λ why. why)) e
 
 pub ruleset writes = (written-ok, written-err)

@@ -1,14 +1,16 @@
 -- Why a run of checked sums, differences, products and quotients is the same at each type that has the range.
-use Rattle.std.specs.Prelude.{◌≡◌, ℕ, ℤ, Bool, true, false, pos, ◌+◌, ◌≤◌, ◌<◌, List, [], ◌∷◌, length, take, drop, get_or, Result, Ok, Err, ⊤, int_le, int_div, ◌&&◌}
+use Rattle.std.specs.Prelude.{◌≡◌, ℕ, ℤ, Bool, true, false, pos, ◌+◌, ◌≤◌, ◌<◌, List, [], ◌∷◌, length, take, drop, get_or, set, Result, Ok, Err, ok_or, ⊤, int_le, int_div, ◌&&◌}
 use Rattle.std.specs.Ordering.{int_eq}
+use Rattle.std.specs.Result.{result_map_both}
 use Rattle.std.proofs.Common.{arith, refl, ap, sym, ◌∙◌, suc}
 use Rattle.std.proofs.lemmas.Int.{ints}
 use Rattle.std.proofs.lemmas.List.{get_or_default}
 use Rattle.std.proofs.lemmas.List.Elements.{All-head, All-tail}
 use Rattle.arbitrary_base.specs.Range.{lo, hi, in_range}
+use Rattle.arbitrary_base.specs.Exact.{number_of_type}
 use Rattle.arbitrary_int.proofs.StepLemmas.{in_range-true}
 use Rattle.arbitrary_int.proofs.RunLemmas.{RunOf-ok, RunOf-err, run-stop, run-end}
-use Rattle.arbitrary_int.specs.Step.{exact, unless_zero, register, written, answer_of, target_of, meaning}
+use Rattle.arbitrary_int.specs.Step.{unless_zero, answer_of, target_of, meaning}
 use Rattle.arbitrary_int.specs.Run.{later, RunOf}
 use Rattle.arbitrary_int.specs.Widths.{IsCheckedArithmetic, OnlyCheckedArithmetic, carried_out, RangeWithin}
 use Rattle.arbitrary_int.specs.declared.steps.TwoOp.TheVariants.{CheckedAdd, CheckedSub, CheckedMul, CheckedDiv}
@@ -29,27 +31,27 @@ in_range-wider s t A B x c e = by_tests (int_le (lo s A) x) (int_le x (hi s A)) 
     by_tests true false p q r = absurd (cc)
     by_tests false q p r u = absurd (cc)
 
-exact-wider : (s t : Bool) (A B : ℕ) (x y : ℤ) → RangeWithin s A t B → exact s A x ≡ Ok y → exact t B x ≡ Ok y
+exact-wider : (s t : Bool) (A B : ℕ) (x y : ℤ) → RangeWithin s A t B → ok_or (number_of_type s A x) Refused ≡ Ok y → ok_or (number_of_type t B x) Refused ≡ Ok y
 exact-wider s t A B x y c e = by_test (in_range s A x) refl
   where
-    by_test : (b : Bool) → in_range s A x ≡ b → exact t B x ≡ Ok y
+    by_test : (b : Bool) → in_range s A x ≡ b → ok_or (number_of_type t B x) Refused ≡ Ok y
     by_test true p = let q = in_range-wider s t A B x c p in rw q (rw p at e)
     by_test false p = let r : Err Refused ≡ Ok y = rw p at e in absurd (cc)
 
 quotient-wider : (s t : Bool) (A B : ℕ) (x y z : ℤ) → RangeWithin s A t B
-    → unless_zero y Refused (exact s A (int_div x y)) ≡ Ok z → unless_zero y Refused (exact t B (int_div x y)) ≡ Ok z
+    → unless_zero y Refused (ok_or (number_of_type s A (int_div x y)) Refused) ≡ Ok z → unless_zero y Refused (ok_or (number_of_type t B (int_div x y)) Refused) ≡ Ok z
 quotient-wider s t A B x y z c e = by_test (int_eq y (pos 0)) refl
   where
-    by_test : (b : Bool) → int_eq y (pos 0) ≡ b → unless_zero y Refused (exact t B (int_div x y)) ≡ Ok z
+    by_test : (b : Bool) → int_eq y (pos 0) ≡ b → unless_zero y Refused (ok_or (number_of_type t B (int_div x y)) Refused) ≡ Ok z
     by_test true p = let r : Err Refused ≡ Ok z = rw p at e in absurd (cc)
-    by_test false p = let r : exact s A (int_div x y) ≡ Ok z = rw p at e in rw p (exact-wider s t A B (int_div x y) z c r)
+    by_test false p = let r : ok_or (number_of_type s A (int_div x y)) Refused ≡ Ok z = rw p at e in rw p (exact-wider s t A B (int_div x y) z c r)
 
 answer-wider : (s t : Bool) (A B : ℕ) (step : Step) (regs : List ℤ) (x : ℤ) → RangeWithin s A t B → IsCheckedArithmetic step
     → answer_of s A step regs ≡ Ok x → answer_of t B step regs ≡ Ok x
 answer-wider s t A B (Two CheckedAdd to left right) regs x c i e = exact-wider s t A B _ x c e
 answer-wider s t A B (Two CheckedSub to left right) regs x c i e = exact-wider s t A B _ x c e
 answer-wider s t A B (Two CheckedMul to left right) regs x c i e = exact-wider s t A B _ x c e
-answer-wider s t A B (Two CheckedDiv to left right) regs x c i e = quotient-wider s t A B (register regs left) (register regs right) x c e
+answer-wider s t A B (Two CheckedDiv to left right) regs x c i e = quotient-wider s t A B (get_or regs left (pos 0)) (get_or regs right (pos 0)) x c e
 answer-wider s t A B (Two op to left right) regs x c i e = absurd i
 answer-wider s t A B step regs x c i e = absurd i
 
@@ -59,8 +61,8 @@ meaning-wider s t A B step regs new c i e = by_answer (answer_of s A step regs) 
   where
     by_answer : (a : Result ℤ Why) → answer_of s A step regs ≡ a → meaning t B step regs ≡ Ok new
     by_answer (Ok x) p =
-        ap (written regs (target_of step)) (answer-wider s t A B step regs x c i p ∙ sym p) ∙ e
-    by_answer (Err why) p = let r : Err why ≡ Ok new = sym (ap (written regs (target_of step)) p) ∙ e in absurd (cc)
+        ap (result_map_both (set regs (target_of step)) (λ why. why)) (answer-wider s t A B step regs x c i p ∙ sym p) ∙ e
+    by_answer (Err why) p = let r : Err why ≡ Ok new = sym (ap (result_map_both (set regs (target_of step)) (λ why. why)) p) ∙ e in absurd (cc)
 
 later-carried : (step : Step) (steps : List Step) (q : List ℤ × Result ⊤ Stop) → carried_out (later 1 q).1 (step ∷ steps) ≡ step ∷ carried_out q.1 steps
 later-carried step steps (regs, Ok u) = refl

@@ -1,9 +1,10 @@
 -- What one step does, by whole numbers and bit lists. No storage comes into it.
-use Rattle.std.specs.Prelude.{ℕ, ℤ, Bool, pos, ◌+ℤ◌, ◌-ℤ◌, ◌*ℤ◌, ◌%◌, ◌<◌, List, get_or, set, reverse, Result, Ok, Err, if◌then◌else◌, int_div, nat_lt}
+use Rattle.std.specs.Prelude.{ℕ, ℤ, Bool, pos, ◌+ℤ◌, ◌-ℤ◌, ◌*ℤ◌, ◌%◌, ◌<◌, List, get_or, set, reverse, Result, Ok, Err, ok_or, if◌then◌else◌, int_div, nat_lt}
 use Rattle.std.specs.Ordering.{int_eq}
-use Rattle.arbitrary_base.specs.Range.{in_range}
+use Rattle.std.specs.Result.{result_map_both}
 use Rattle.arbitrary_base.specs.Residue.{wrap}
 use Rattle.arbitrary_base.specs.Saturation.{clamp}
+use Rattle.arbitrary_base.specs.Exact.{number_of_type}
 use Rattle.arbitrary_base.specs.Power.{power}
 use Rattle.arbitrary_base.specs.BitList.{bits, val, bits_and, bits_or, bits_xor, bits_not, shl, shr, fill, rotl, rotr}
 use Rattle.arbitrary_int.specs.declared.steps.TwoOp.{TwoOp}
@@ -16,10 +17,6 @@ use Rattle.arbitrary_int.specs.declared.steps.Step.{Step}
 use Rattle.arbitrary_int.specs.declared.steps.Step.TheVariants.{Two, One, By}
 use Rattle.arbitrary_int.specs.declared.steps.Why.{Why}
 use Rattle.arbitrary_int.specs.declared.steps.Why.TheVariants.{Refused, ZeroDivisor}
-
--- the number where the type has it
-abbrev pub exact : Bool → ℕ → ℤ → Result ℤ Why
-exact s B x = if in_range s B x then Ok x else Err Refused
 
 -- the answer, unless the divisor is zero
 abbrev pub unless_zero : ℤ → Why → Result ℤ Why → Result ℤ Why
@@ -43,10 +40,10 @@ two_meaning s B SaturatingAdd x y = Ok (clamp s B (x +ℤ y))
 two_meaning s B SaturatingSub x y = Ok (clamp s B (x -ℤ y))
 two_meaning s B SaturatingMul x y = Ok (clamp s B (x *ℤ y))
 two_meaning s B SaturatingDiv x y = unless_zero y ZeroDivisor (Ok (clamp s B (int_div x y)))
-two_meaning s B CheckedAdd x y = exact s B (x +ℤ y)
-two_meaning s B CheckedSub x y = exact s B (x -ℤ y)
-two_meaning s B CheckedMul x y = exact s B (x *ℤ y)
-two_meaning s B CheckedDiv x y = unless_zero y Refused (exact s B (int_div x y))
+two_meaning s B CheckedAdd x y = ok_or (number_of_type s B (x +ℤ y)) Refused
+two_meaning s B CheckedSub x y = ok_or (number_of_type s B (x -ℤ y)) Refused
+two_meaning s B CheckedMul x y = ok_or (number_of_type s B (x *ℤ y)) Refused
+two_meaning s B CheckedDiv x y = unless_zero y Refused (ok_or (number_of_type s B (int_div x y)) Refused)
 two_meaning s B And x y = Ok (val s (bits_and (bits B x) (bits B y)))
 two_meaning s B Or x y = Ok (val s (bits_or (bits B x) (bits B y)))
 two_meaning s B Xor x y = Ok (val s (bits_xor (bits B x) (bits B y)))
@@ -67,15 +64,11 @@ by_meaning s B RotateLeft x amount = Ok (val s (rotl (bits B x) (amount % B)))
 by_meaning s B RotateRight x amount = Ok (val s (rotr (bits B x) (amount % B)))
 by_meaning s B SaturatingPow x amount = Ok (clamp s B (power x amount))
 
--- the register at a place
-abbrev pub register : List ℤ → ℕ → ℤ
-register regs k = get_or regs k (pos 0)
-
 -- what the step makes of its sources
 abbrev pub answer_of : Bool → ℕ → Step → List ℤ → Result ℤ Why
-answer_of s B (Two op to left right) regs = two_meaning s B op (register regs left) (register regs right)
-answer_of s B (One op to src) regs = one_meaning s B op (register regs src)
-answer_of s B (By op to src amount) regs = by_meaning s B op (register regs src) amount
+answer_of s B (Two op to left right) regs = two_meaning s B op (get_or regs left (pos 0)) (get_or regs right (pos 0))
+answer_of s B (One op to src) regs = one_meaning s B op (get_or regs src (pos 0))
+answer_of s B (By op to src amount) regs = by_meaning s B op (get_or regs src (pos 0)) amount
 
 -- the register that the step writes
 abbrev pub target_of : Step → ℕ
@@ -83,14 +76,9 @@ target_of (Two op to left right) = to
 target_of (One op to src) = to
 target_of (By op to src amount) = to
 
--- the registers with the answer at the place `to`, or why there is none
-abbrev pub written : List ℤ → ℕ → Result ℤ Why → Result (List ℤ) Why
-written regs to (Ok x) = Ok (set regs to x)
-written regs to (Err why) = Err why
-
--- the registers after the step, or why it stops
+-- the registers with the answer at their place, or why there is none
 abbrev pub meaning : Bool → ℕ → Step → List ℤ → Result (List ℤ) Why
-meaning s B step regs = written regs (target_of step) (answer_of s B step regs)
+meaning s B step regs = result_map_both (set regs (target_of step)) (λ why. why) (answer_of s B step regs)
 
 -- the register numbers of the step are below n
 abbrev pub StepWithin : ℕ → Step → Type 0
