@@ -1,10 +1,8 @@
 -- For callers: what no single call can say, as one set to name: `#[tactic(auto, using(arbitrary_int::proofs::Everyday::everyday))]`.
-use Rattle.std.specs.Prelude.{◌≡◌, ℕ, ℤ, Bool, ◌+◌, ◌*◌, ◌/◌, ◌%◌, ◌^◌, ◌≤◌, ◌<◌}
+use Rattle.std.specs.Prelude.{◌≡◌, ℕ, ◌+◌, ◌*◌, ◌/◌, ◌%◌, ◌^◌, ◌<◌}
 use Rattle.std.specs.Int.Bits.{bit_or}
 use Rattle.std.proofs.Common.{arith, ap, sym, ◌∙◌, mod-eq_of_lt}
 use Rattle.std.proofs.lemmas.Grind.{low_zeros, or_after_shift}
-use Rattle.arbitrary_base.specs.Range.{InRange}
-use Rattle.arbitrary_base.specs.Residue.{wrap}
 use Rattle.arbitrary_base.proofs.Wrap.{wrap-congruent, wrap-of_in_range}
 use Rattle.arbitrary_base.proofs.Undone.{wrap-wrap}
 use Rattle.arbitrary_base.proofs.Clamp.{clamp-fits}
