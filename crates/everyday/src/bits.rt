@@ -1,6 +1,7 @@
 //! Fields, masks, shifts, rotations and counts.
 
 ghost use Rattle.std.specs.Prelude.{◌≡◌, ◌↔◌, ◌/◌, ◌%◌, ◌+ℤ◌, ◌-ℤ◌, ◌*ℤ◌, ◌≤ℤ◌, ◌<ℤ◌, pos, neg_ℤ, unsigned_abs, int_div, IsTrue};
+ghost use Rattle.std.specs.Int.Bits.{bit_or};
 ghost use Rattle.arbitrary_int.specs.Field.{field};
 
 use arbitrary_int::prelude::*;
@@ -261,6 +262,16 @@ pub fn signed_masked_in_place(x: i12) -> i12
     let mut low = x;
     low &= i12::new(15);
     low
+}
+
+pub fn signed_joined_in_place(x: i12, more: i12) -> i12
+    requires x { pos 0 ≤ℤ x }
+    requires more { pos 0 ≤ℤ more }
+    ensures { result ≡ pos (bit_or (unsigned_abs x) (unsigned_abs more)) }
+{
+    let mut joined = x;
+    joined |= more;
+    joined
 }
 
 /// Fields of a word with a sign: the low one is not below 0.
