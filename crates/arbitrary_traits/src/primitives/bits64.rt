@@ -4,6 +4,7 @@ ghost use Rattle.std.specs.Prelude.{◌≡◌, ◌+◌, ◌*◌, ◌+ℤ◌, ◌
 ghost use Rattle.std.specs.Int.{w64};
 ghost use Rattle.std.proofs.Common.{ap, lit≤};
 ghost use Rattle.arbitrary_base.specs.Order.{nat_cmp-pos};
+ghost use Rattle.arbitrary_traits.specs.Assigned.{is_assigned};
 ghost use Rattle.arbitrary_traits.specs.Primitive.{lt-of_in_range, nat_eq-pos, nonzero-pos, signed-fits, signed-nonzero, sub-in_range, sub-pos};
 ghost use Rattle.arbitrary_traits.specs.PrimitiveBits.{bitand-signed, bitand-unsigned, bitor-signed, bitor-unsigned, bitxor-signed, bitxor-unsigned, not-signed, not-unsigned};
 
@@ -94,61 +95,35 @@ impl Integer for u64 {
 
     ghost add_law = { λ a b r h f. ap pos h };
 
-    ghost can_add_assign_law = { λ a b h. h };
-
-    ghost add_assign_law = { λ a b r h. h };
-
     ghost can_sub_law = { sub-in_range 64 };
 
     ghost sub_law = { sub-pos 64 };
-
-    ghost can_sub_assign_law = { λ a b h. h };
-
-    ghost sub_assign_law = { λ a b r h. h };
 
     ghost can_mul_law = { λ a b h. lt-of_in_range 64 (a * b) h };
 
     ghost mul_law = { λ a b r h f. ap pos h };
 
-    ghost can_mul_assign_law = { λ a b h. h };
-
-    ghost mul_assign_law = { λ a b r h. h };
-
     ghost can_div_law = { λ a b f n g. nonzero-pos b n };
 
     ghost div_law = { λ a b r h. ap pos h };
-
-    ghost can_div_assign_law = { λ a b h. h };
-
-    ghost div_assign_law = { λ a b r h. h };
 
     ghost can_bitand_law = { λ a b. tt };
 
     ghost bitand_law = { bitand-unsigned w64 };
 
-    ghost can_bitand_assign_law = { λ a b. tt };
-
-    ghost bitand_assign_law = { λ a b r h. h };
-
     ghost can_bitor_law = { λ a b. tt };
 
     ghost bitor_law = { bitor-unsigned w64 };
-
-    ghost can_bitor_assign_law = { λ a b. tt };
-
-    ghost bitor_assign_law = { λ a b r h. h };
 
     ghost can_bitxor_law = { λ a b. tt };
 
     ghost bitxor_law = { bitxor-unsigned w64 };
 
-    ghost can_bitxor_assign_law = { λ a b. tt };
-
-    ghost bitxor_assign_law = { λ a b r h. h };
-
     ghost can_not_law = { λ a. tt };
 
     ghost not_law = { not-unsigned w64 };
+
+    ghost assign_law = { (is_assigned, is_assigned, is_assigned, is_assigned, is_assigned, is_assigned, is_assigned) };
 }
 
 impl UnsignedInteger for u64 {
@@ -238,61 +213,35 @@ impl Integer for i64 {
 
     ghost add_law = { λ a b r h f. h };
 
-    ghost can_add_assign_law = { λ a b h. h };
-
-    ghost add_assign_law = { λ a b r h. h };
-
     ghost can_sub_law = { λ a b h. signed-fits w64 (a -ℤ b) h };
 
     ghost sub_law = { λ a b r h f. h };
-
-    ghost can_sub_assign_law = { λ a b h. h };
-
-    ghost sub_assign_law = { λ a b r h. h };
 
     ghost can_mul_law = { λ a b h. signed-fits w64 (a *ℤ b) h };
 
     ghost mul_law = { λ a b r h f. h };
 
-    ghost can_mul_assign_law = { λ a b h. h };
-
-    ghost mul_assign_law = { λ a b r h. h };
-
     ghost can_div_law = { λ a b f n g. (signed-nonzero w64 b f n, signed-fits w64 (int_div a b) g) };
 
     ghost div_law = { λ a b r h. h };
-
-    ghost can_div_assign_law = { λ a b h. h };
-
-    ghost div_assign_law = { λ a b r h. h };
 
     ghost can_bitand_law = { λ a b. tt };
 
     ghost bitand_law = { bitand-signed w64 };
 
-    ghost can_bitand_assign_law = { λ a b. tt };
-
-    ghost bitand_assign_law = { λ a b r h. h };
-
     ghost can_bitor_law = { λ a b. tt };
 
     ghost bitor_law = { bitor-signed w64 };
-
-    ghost can_bitor_assign_law = { λ a b. tt };
-
-    ghost bitor_assign_law = { λ a b r h. h };
 
     ghost can_bitxor_law = { λ a b. tt };
 
     ghost bitxor_law = { bitxor-signed w64 };
 
-    ghost can_bitxor_assign_law = { λ a b. tt };
-
-    ghost bitxor_assign_law = { λ a b r h. h };
-
     ghost can_not_law = { λ a. tt };
 
     ghost not_law = { not-signed w64 };
+
+    ghost assign_law = { (is_assigned, is_assigned, is_assigned, is_assigned, is_assigned, is_assigned, is_assigned) };
 }
 
 impl SignedInteger for i64 {
