@@ -6,6 +6,7 @@ ghost use Rattle.std.specs.Fmt.{signed_decimal};
 ghost use Rattle.arbitrary_base.specs.Range.{lo, hi, InRange};
 ghost use Rattle.arbitrary_base.specs.Residue.{residue, wrap, Congruent};
 ghost use Rattle.arbitrary_base.specs.BitList.{bits, bits_and, bits_not, bits_or, bits_xor, val};
+ghost use Rattle.arbitrary_traits.specs.Assigned.{IsAssigned};
 
 use arbitrary_base::error::TryNewError;
 use arbitrary_base::storage::Sealed;
@@ -324,68 +325,49 @@ pub trait Integer: Copy
     ghost add_law: { (a b r : Self) → Self.add_gives a b r → InRange IS_SIGNED BITS (number a +ℤ number b)
         → number r ≡ number a +ℤ number b };
 
-    ghost can_add_assign_law: { (a b : Self) → Self.can_add a b → Self.can_add_assign a b };
-
-    ghost add_assign_law: { (a b r : Self) → Self.add_assign_gives a b r → Self.add_gives a b r };
-
     ghost can_sub_law: { (a b : Self) → InRange IS_SIGNED BITS (number a -ℤ number b) → Self.can_sub a b };
 
     ghost sub_law: { (a b r : Self) → Self.sub_gives a b r → InRange IS_SIGNED BITS (number a -ℤ number b)
         → number r ≡ number a -ℤ number b };
-
-    ghost can_sub_assign_law: { (a b : Self) → Self.can_sub a b → Self.can_sub_assign a b };
-
-    ghost sub_assign_law: { (a b r : Self) → Self.sub_assign_gives a b r → Self.sub_gives a b r };
 
     ghost can_mul_law: { (a b : Self) → InRange IS_SIGNED BITS (number a *ℤ number b) → Self.can_mul a b };
 
     ghost mul_law: { (a b r : Self) → Self.mul_gives a b r → InRange IS_SIGNED BITS (number a *ℤ number b)
         → number r ≡ number a *ℤ number b };
 
-    ghost can_mul_assign_law: { (a b : Self) → Self.can_mul a b → Self.can_mul_assign a b };
-
-    ghost mul_assign_law: { (a b r : Self) → Self.mul_assign_gives a b r → Self.mul_gives a b r };
-
     ghost can_div_law: { (a b : Self) → InRange IS_SIGNED BITS (number b) → number b ≢ pos 0
         → InRange IS_SIGNED BITS (int_div (number a) (number b)) → Self.can_div a b };
 
     ghost div_law: { (a b r : Self) → Self.div_gives a b r → number r ≡ int_div (number a) (number b) };
-
-    ghost can_div_assign_law: { (a b : Self) → Self.can_div a b → Self.can_div_assign a b };
-
-    ghost div_assign_law: { (a b r : Self) → Self.div_assign_gives a b r → Self.div_gives a b r };
 
     ghost can_bitand_law: { (a b : Self) → Self.can_bitand a b };
 
     ghost bitand_law: { (a b r : Self) → Self.bitand_gives a b r → InRange IS_SIGNED BITS (number a) → InRange IS_SIGNED BITS (number b)
         → number r ≡ val IS_SIGNED (bits_and (bits BITS (number a)) (bits BITS (number b))) };
 
-    ghost can_bitand_assign_law: { (a b : Self) → Self.can_bitand_assign a b };
-
-    ghost bitand_assign_law: { (a b r : Self) → Self.bitand_assign_gives a b r → Self.bitand_gives a b r };
-
     ghost can_bitor_law: { (a b : Self) → Self.can_bitor a b };
 
     ghost bitor_law: { (a b r : Self) → Self.bitor_gives a b r → InRange IS_SIGNED BITS (number a) → InRange IS_SIGNED BITS (number b)
         → number r ≡ val IS_SIGNED (bits_or (bits BITS (number a)) (bits BITS (number b))) };
-
-    ghost can_bitor_assign_law: { (a b : Self) → Self.can_bitor_assign a b };
-
-    ghost bitor_assign_law: { (a b r : Self) → Self.bitor_assign_gives a b r → Self.bitor_gives a b r };
 
     ghost can_bitxor_law: { (a b : Self) → Self.can_bitxor a b };
 
     ghost bitxor_law: { (a b r : Self) → Self.bitxor_gives a b r → InRange IS_SIGNED BITS (number a) → InRange IS_SIGNED BITS (number b)
         → number r ≡ val IS_SIGNED (bits_xor (bits BITS (number a)) (bits BITS (number b))) };
 
-    ghost can_bitxor_assign_law: { (a b : Self) → Self.can_bitxor_assign a b };
-
-    ghost bitxor_assign_law: { (a b r : Self) → Self.bitxor_assign_gives a b r → Self.bitxor_gives a b r };
-
     ghost can_not_law: { (a : Self) → Self.can_not a };
 
     ghost not_law: { (a r : Self) → Self.not_gives a r → InRange IS_SIGNED BITS (number a)
         → number r ≡ val IS_SIGNED (bits_not (bits BITS (number a))) };
+
+    // Each assigning form may be made where its operator may, and gives what that gives.
+    ghost assign_law: { IsAssigned Self.can_add Self.can_add_assign Self.add_gives Self.add_assign_gives
+        × IsAssigned Self.can_sub Self.can_sub_assign Self.sub_gives Self.sub_assign_gives
+        × IsAssigned Self.can_mul Self.can_mul_assign Self.mul_gives Self.mul_assign_gives
+        × IsAssigned Self.can_div Self.can_div_assign Self.div_gives Self.div_assign_gives
+        × IsAssigned Self.can_bitand Self.can_bitand_assign Self.bitand_gives Self.bitand_assign_gives
+        × IsAssigned Self.can_bitor Self.can_bitor_assign Self.bitor_gives Self.bitor_assign_gives
+        × IsAssigned Self.can_bitxor Self.can_bitxor_assign Self.bitxor_gives Self.bitxor_assign_gives };
 }
 
 /// An integer type that has no sign.

@@ -2,6 +2,7 @@
 
 ghost use Rattle.std.specs.Prelude.{◌≡◌, ◌^◌, ◌≤ℤ◌, ◌<ℤ◌, ℤ, pos};
 
+use crate::primitives::Primitive;
 use arbitrary_base::storage::Sealed;
 
 /// A primitive integer that tells by how many places to shift.
@@ -16,43 +17,12 @@ pub trait ShiftAmount: Sealed + Copy {
         ensures { pos result ≡ amount self };
 }
 
-impl ShiftAmount for u8 {
-    ghost amount = { pos };
+impl<T: Primitive> ShiftAmount for T {
+    ghost amount = { T.number };
 
+    #[tactic(auto, using(crate::proofs::Conversion::amounts))]
     fn to_amount(self) -> usize {
-        self as usize
-    }
-}
-
-impl ShiftAmount for u16 {
-    ghost amount = { pos };
-
-    fn to_amount(self) -> usize {
-        self as usize
-    }
-}
-
-impl ShiftAmount for u32 {
-    ghost amount = { pos };
-
-    fn to_amount(self) -> usize {
-        self as usize
-    }
-}
-
-impl ShiftAmount for u64 {
-    ghost amount = { pos };
-
-    fn to_amount(self) -> usize {
-        self as usize
-    }
-}
-
-impl ShiftAmount for u128 {
-    ghost amount = { pos };
-
-    fn to_amount(self) -> usize {
-        self as usize
+        self.pattern() as usize
     }
 }
 
@@ -61,46 +31,6 @@ impl ShiftAmount for usize {
 
     fn to_amount(self) -> usize {
         self
-    }
-}
-
-impl ShiftAmount for i8 {
-    ghost amount = { λ x. x };
-
-    fn to_amount(self) -> usize {
-        self as usize
-    }
-}
-
-impl ShiftAmount for i16 {
-    ghost amount = { λ x. x };
-
-    fn to_amount(self) -> usize {
-        self as usize
-    }
-}
-
-impl ShiftAmount for i32 {
-    ghost amount = { λ x. x };
-
-    fn to_amount(self) -> usize {
-        self as usize
-    }
-}
-
-impl ShiftAmount for i64 {
-    ghost amount = { λ x. x };
-
-    fn to_amount(self) -> usize {
-        self as usize
-    }
-}
-
-impl ShiftAmount for i128 {
-    ghost amount = { λ x. x };
-
-    fn to_amount(self) -> usize {
-        self as usize
     }
 }
 

@@ -3,6 +3,7 @@
 ghost use Rattle.std.specs.Prelude.{refl};
 ghost use Rattle.std.proofs.Common.{le_trans};
 ghost use Rattle.arbitrary_base.specs.Range.{IsValidWidth};
+ghost use Rattle.arbitrary_traits.specs.Assigned.{is_assigned};
 
 use crate::signed::Int;
 use crate::unsigned::UInt;
@@ -103,61 +104,35 @@ where
 
     ghost add_law = { λ a b r h f. h };
 
-    ghost can_add_assign_law = { λ a b h. h };
-
-    ghost add_assign_law = { λ a b r h. h };
-
     ghost can_sub_law = { λ a b h. h };
 
     ghost sub_law = { λ a b r h f. h };
-
-    ghost can_sub_assign_law = { λ a b h. h };
-
-    ghost sub_assign_law = { λ a b r h. h };
 
     ghost can_mul_law = { λ a b h. h };
 
     ghost mul_law = { λ a b r h f. h };
 
-    ghost can_mul_assign_law = { λ a b h. h };
-
-    ghost mul_assign_law = { λ a b r h. h };
-
     ghost can_div_law = { λ a b f n g. (n, g) };
 
     ghost div_law = { λ a b r h. h };
-
-    ghost can_div_assign_law = { λ a b h. h };
-
-    ghost div_assign_law = { λ a b r h. h };
 
     ghost can_bitand_law = { λ a b. tt };
 
     ghost bitand_law = { λ a b r h f g. h };
 
-    ghost can_bitand_assign_law = { λ a b. tt };
-
-    ghost bitand_assign_law = { λ a b r h. h };
-
     ghost can_bitor_law = { λ a b. tt };
 
     ghost bitor_law = { λ a b r h f g. h };
-
-    ghost can_bitor_assign_law = { λ a b. tt };
-
-    ghost bitor_assign_law = { λ a b r h. h };
 
     ghost can_bitxor_law = { λ a b. tt };
 
     ghost bitxor_law = { λ a b r h f g. h };
 
-    ghost can_bitxor_assign_law = { λ a b. tt };
-
-    ghost bitxor_assign_law = { λ a b r h. h };
-
     ghost can_not_law = { λ a. tt };
 
     ghost not_law = { λ a r h f. h };
+
+    ghost assign_law = { (is_assigned, is_assigned, is_assigned, is_assigned, is_assigned, is_assigned, is_assigned) };
 }
 
 impl<T: BuiltinInteger + UnsignedStorage, const BITS: usize> UnsignedInteger for UInt<T, BITS>

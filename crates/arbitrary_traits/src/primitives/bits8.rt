@@ -1,92 +1,21 @@
-//! The integers of 8 bits.
+//! What the operators of the integers of 8 bits do.
 
-ghost use Rattle.std.specs.Prelude.{◌≡◌, ◌+◌, ◌*◌, ◌+ℤ◌, ◌-ℤ◌, ◌*ℤ◌, ℕ, ℤ, ⊤, true, false, pos, neg_ℤ, int_div, refl};
+ghost use Rattle.std.specs.Prelude.{◌+◌, ◌*◌, ◌+ℤ◌, ◌-ℤ◌, ◌*ℤ◌, pos, neg_ℤ, int_div, refl};
 ghost use Rattle.std.specs.Int.{w8};
-ghost use Rattle.std.proofs.Common.{ap, lit≤};
-ghost use Rattle.arbitrary_base.specs.Order.{nat_cmp-pos};
+ghost use Rattle.std.proofs.Common.{ap};
+ghost use Rattle.arbitrary_traits.specs.Assigned.{is_assigned};
 ghost use Rattle.arbitrary_traits.specs.Primitive.{lt-of_in_range, nat_eq-pos, nonzero-pos, signed-fits, signed-nonzero, sub-in_range, sub-pos};
 ghost use Rattle.arbitrary_traits.specs.PrimitiveBits.{bitand-signed, bitand-unsigned, bitor-signed, bitor-unsigned, bitxor-signed, bitxor-unsigned, not-signed, not-unsigned};
 
-use crate::integer::{Integer, SignedInteger, UnsignedInteger};
-use arbitrary_base::error::TryNewError;
-use arbitrary_base::narrowing::{extended, from_low_bits};
+use crate::integer::{SignedInteger, UnsignedInteger};
+use crate::primitives::Primitive;
 
-impl Integer for u8 {
-    type UnderlyingType = u8;
-
-    type UnsignedInteger = u8;
-
-    type SignedInteger = i8;
-
-    const BITS: usize = 8;
-
-    const IS_SIGNED: bool = false;
-
-    ghost BITS = { 8 };
-
-    ghost IS_SIGNED = { false };
-
-    ghost valid = { ⊤ };
-
-    ghost number = { pos };
-
-    ghost underlying = { pos };
-
-    ghost unsigned_number = { pos };
-
-    fn min_value() -> u8 {
-        u8::MIN
-    }
-
-    fn max_value() -> u8 {
-        u8::MAX
-    }
-
-    fn zero() -> u8 {
-        0
-    }
-
-    fn new(value: u8) -> u8 {
-        value
-    }
-
-    fn try_new(value: u8) -> Result<u8, TryNewError> {
-        Ok(value)
-    }
-
-    fn value(self) -> u8 {
-        self
-    }
-
-    fn extended(self) -> u128 {
-        extended(self)
-    }
-
-    fn from_extended(pattern: u128) -> u8 {
-        from_low_bits(pattern, 8)
-    }
-
-    #[tactic(auto, using(crate::proofs::Conversion::mates))]
-    fn to_unsigned(self) -> u8 {
-        self
-    }
-
-    #[tactic(auto, using(crate::proofs::Conversion::mates))]
-    fn from_unsigned(value: u8) -> u8 {
-        value
-    }
-
-    ghost width_law = { λ h. (lit≤ tt, lit≤ tt) };
-
+impl Primitive for u8 {
     ghost clone_law = { λ a b h. h };
 
     ghost infallible_law = { λ _. tt };
 
     ghost eq_law = { nat_eq-pos };
-
-    ghost cmp_law = { nat_cmp-pos };
-
-    ghost output_law = { λ a. refl };
 
     ghost debug_output_law = { λ a. refl };
 
@@ -94,143 +23,47 @@ impl Integer for u8 {
 
     ghost add_law = { λ a b r h f. ap pos h };
 
-    ghost can_add_assign_law = { λ a b h. h };
-
-    ghost add_assign_law = { λ a b r h. h };
-
     ghost can_sub_law = { sub-in_range 8 };
 
     ghost sub_law = { sub-pos 8 };
-
-    ghost can_sub_assign_law = { λ a b h. h };
-
-    ghost sub_assign_law = { λ a b r h. h };
 
     ghost can_mul_law = { λ a b h. lt-of_in_range 8 (a * b) h };
 
     ghost mul_law = { λ a b r h f. ap pos h };
 
-    ghost can_mul_assign_law = { λ a b h. h };
-
-    ghost mul_assign_law = { λ a b r h. h };
-
     ghost can_div_law = { λ a b f n g. nonzero-pos b n };
 
     ghost div_law = { λ a b r h. ap pos h };
-
-    ghost can_div_assign_law = { λ a b h. h };
-
-    ghost div_assign_law = { λ a b r h. h };
 
     ghost can_bitand_law = { λ a b. tt };
 
     ghost bitand_law = { bitand-unsigned w8 };
 
-    ghost can_bitand_assign_law = { λ a b. tt };
-
-    ghost bitand_assign_law = { λ a b r h. h };
-
     ghost can_bitor_law = { λ a b. tt };
 
     ghost bitor_law = { bitor-unsigned w8 };
-
-    ghost can_bitor_assign_law = { λ a b. tt };
-
-    ghost bitor_assign_law = { λ a b r h. h };
 
     ghost can_bitxor_law = { λ a b. tt };
 
     ghost bitxor_law = { bitxor-unsigned w8 };
 
-    ghost can_bitxor_assign_law = { λ a b. tt };
-
-    ghost bitxor_assign_law = { λ a b r h. h };
-
     ghost can_not_law = { λ a. tt };
 
     ghost not_law = { not-unsigned w8 };
+
+    ghost assign_law = { (is_assigned, is_assigned, is_assigned, is_assigned, is_assigned, is_assigned, is_assigned) };
 }
 
 impl UnsignedInteger for u8 {
     ghost unsigned_law = { refl };
 }
 
-impl Integer for i8 {
-    type UnderlyingType = i8;
-
-    type UnsignedInteger = u8;
-
-    type SignedInteger = i8;
-
-    const BITS: usize = 8;
-
-    const IS_SIGNED: bool = true;
-
-    ghost BITS = { 8 };
-
-    ghost IS_SIGNED = { true };
-
-    ghost valid = { ⊤ };
-
-    ghost number = { λ x. x };
-
-    ghost underlying = { λ x. x };
-
-    ghost unsigned_number = { pos };
-
-    fn min_value() -> i8 {
-        i8::MIN
-    }
-
-    fn max_value() -> i8 {
-        i8::MAX
-    }
-
-    fn zero() -> i8 {
-        0
-    }
-
-    fn new(value: i8) -> i8 {
-        value
-    }
-
-    fn try_new(value: i8) -> Result<i8, TryNewError> {
-        Ok(value)
-    }
-
-    fn value(self) -> i8 {
-        self
-    }
-
-    fn extended(self) -> u128 {
-        extended(self)
-    }
-
-    fn from_extended(pattern: u128) -> i8 {
-        from_low_bits(pattern, 8)
-    }
-
-    #[tactic(auto, using(crate::proofs::Conversion::mates))]
-    fn to_unsigned(self) -> u8 {
-        self.cast_unsigned()
-    }
-
-    #[tactic(auto, using(crate::proofs::Conversion::mates))]
-    fn from_unsigned(value: u8) -> i8 {
-        value.cast_signed()
-    }
-
-    ghost width_law = { λ h. (lit≤ tt, lit≤ tt) };
-
+impl Primitive for i8 {
     ghost clone_law = { λ a b h. h };
 
     ghost infallible_law = { λ _. tt };
 
     ghost eq_law = { λ a b. refl };
-
-    ghost cmp_law = { λ a b. refl };
-
-    ghost output_law = { λ a. refl };
 
     ghost debug_output_law = { λ a. refl };
 
@@ -238,61 +71,35 @@ impl Integer for i8 {
 
     ghost add_law = { λ a b r h f. h };
 
-    ghost can_add_assign_law = { λ a b h. h };
-
-    ghost add_assign_law = { λ a b r h. h };
-
     ghost can_sub_law = { λ a b h. signed-fits w8 (a -ℤ b) h };
 
     ghost sub_law = { λ a b r h f. h };
-
-    ghost can_sub_assign_law = { λ a b h. h };
-
-    ghost sub_assign_law = { λ a b r h. h };
 
     ghost can_mul_law = { λ a b h. signed-fits w8 (a *ℤ b) h };
 
     ghost mul_law = { λ a b r h f. h };
 
-    ghost can_mul_assign_law = { λ a b h. h };
-
-    ghost mul_assign_law = { λ a b r h. h };
-
     ghost can_div_law = { λ a b f n g. (signed-nonzero w8 b f n, signed-fits w8 (int_div a b) g) };
 
     ghost div_law = { λ a b r h. h };
-
-    ghost can_div_assign_law = { λ a b h. h };
-
-    ghost div_assign_law = { λ a b r h. h };
 
     ghost can_bitand_law = { λ a b. tt };
 
     ghost bitand_law = { bitand-signed w8 };
 
-    ghost can_bitand_assign_law = { λ a b. tt };
-
-    ghost bitand_assign_law = { λ a b r h. h };
-
     ghost can_bitor_law = { λ a b. tt };
 
     ghost bitor_law = { bitor-signed w8 };
-
-    ghost can_bitor_assign_law = { λ a b. tt };
-
-    ghost bitor_assign_law = { λ a b r h. h };
 
     ghost can_bitxor_law = { λ a b. tt };
 
     ghost bitxor_law = { bitxor-signed w8 };
 
-    ghost can_bitxor_assign_law = { λ a b. tt };
-
-    ghost bitxor_assign_law = { λ a b r h. h };
-
     ghost can_not_law = { λ a. tt };
 
     ghost not_law = { not-signed w8 };
+
+    ghost assign_law = { (is_assigned, is_assigned, is_assigned, is_assigned, is_assigned, is_assigned, is_assigned) };
 }
 
 impl SignedInteger for i8 {

@@ -1,6 +1,0 @@
-use Rattle.std.specs.Int.{w16}
-use Rattle.arbitrary_traits.proofs.Conversion.{cast_signed-mate_undoes}
-use Rattle.arbitrary_traits.proofs.primitives.bits16.I16Integer.from_unsigned.Goals as goal
-
-pub returns-clause-undo : goal.returns-clause-undo
-returns-clause-undo c y f d = cast_signed-mate_undoes w16 c.args.value _ y c.ranges.value c.cast_signed.ensures f d
