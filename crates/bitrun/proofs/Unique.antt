@@ -3,12 +3,12 @@ use Rattle.std.proofs.Common.{◌≡◌, ℕ, List, [], ◌∷◌, length, filte
 use Rattle.std.specs.List.{AllZip}
 use Rattle.std.proofs.lemmas.Bool.{cases_order}
 use Rattle.arbitrary_int.specs.declared.steps.Step.{Step}
-use Rattle.bitrun.specs.Numeral.{value_named}
-use Rattle.bitrun.specs.Kind.{sign_of, width_of, kind_named}
-use Rattle.bitrun.specs.Operation.{step_named}
-use Rattle.bitrun.specs.Form.{Form, BadLine, IsValue, IsStep, has_words}
+use Rattle.step_text.specs.Numeral.{value_named}
+use Rattle.step_text.specs.Kind.{sign_of, width_of, kind_named}
+use Rattle.step_text.specs.Operation.{step_named}
+use Rattle.step_text.specs.Form.{Form, BadLine, IsValue, IsStep, has_words}
 use Rattle.bitrun.specs.Answer.{IsAnswer}
-use Rattle.bitrun.specs.declared.kind.Kind.{Kind}
+use Rattle.step_text.specs.declared.kind.Kind.{Kind}
 
 pub one_bad_line : (input : List ℕ) (m n : ℕ) → BadLine input m → BadLine input n → m ≡ n
 one_bad_line input m n a b =

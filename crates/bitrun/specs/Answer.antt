@@ -8,10 +8,10 @@ use Rattle.arbitrary_int.specs.declared.steps.Step.{Step}
 use Rattle.arbitrary_int.specs.declared.steps.Stop.{Stop}
 use Rattle.arbitrary_int.specs.declared.steps.Why.{Why}
 use Rattle.arbitrary_int.specs.declared.steps.Why.TheVariants.{Refused, ZeroDivisor}
-use Rattle.bitrun.specs.Form.{Form, IsValue, IsStep, has_words}
-use Rattle.bitrun.specs.Kind.{type_sign, type_width, narrow_of, sign_of, width_of}
-use Rattle.bitrun.specs.declared.kind.Kind.{Kind}
-use Rattle.bitrun.specs.declared.kind.Kind.TheVariants as kinds
+use Rattle.step_text.specs.Form.{Form, IsValue, IsStep, has_words}
+use Rattle.step_text.specs.Kind.{type_sign, type_width, narrow_of, sign_of, width_of}
+use Rattle.step_text.specs.declared.kind.Kind.{Kind}
+use Rattle.step_text.specs.declared.kind.Kind.TheVariants as kinds
 
 abbrev pub cause_text : Why → List ℕ
 cause_text Refused = codes "refused"
