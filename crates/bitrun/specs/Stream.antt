@@ -8,6 +8,8 @@ use Rattle.step_text.specs.declared.fault.Fault.TheVariants.{Line, TooLong, Memo
 abbrev pub AppendsBeginning : Option (List ℕ) → Option (List ℕ) → List ℕ → Type 0
 AppendsBeginning old new text = (n : ℕ) × Appends old new (take n text)
 
+-- ---- what the parts of the reader say
+
 -- what reading may answer in place of the input: by the bytes that the reader held, and its flag afterwards
 abbrev pub ReadFault : Option (List ℕ) → Bool → Fault → Type 0
 ReadFault held failed (Line k) = ⊥

@@ -8,8 +8,9 @@ use Rattle.std.proofs.lemmas.Bool.Decides.{nat_tests}
 use Rattle.std.proofs.lemmas.Str.Parse.{digits_value-take-le}
 use Rattle.std.proofs.Math.Bool.{and-false}
 use Rattle.std.proofs.lemmas.List.{nil_from_length}
-use Rattle.step_text.specs.Text.{has_bytes}
+use Rattle.step_text.specs.Text.{has_items}
 use Rattle.step_text.specs.Numeral.{number_in, number_below}
+use Rattle.step_text.proofs.Lines.{some_items}
 
 -- the value of a digit
 pub digit_is : (c : ℕ) → is_ascii_digit c ≡ true → digit_value c ≡ c - 48
@@ -30,13 +31,13 @@ no_digits limit word e = rw (nil_from_length word e) refl
 
 pub not_digits : (limit : ℕ) (word : List ℕ) → all_ascii_digits word ≡ false → number_below limit word ≡ None
 unfolding number_below number_in
-not_digits limit word e = rw (e, and-false (has_bytes word)) refl
+not_digits limit word e = rw (e, and-false (has_items word)) refl
 
 pub too_large : (limit : ℕ) (word : List ℕ) (i : ℕ) → limit ≤ digits_value 10 (take i word) → number_below limit word ≡ None
 unfolding number_below number_in
 too_large limit word i h =
     let large : ltb (digits_value 10 word) limit ≡ false = le-ltb _ _ (omega (arith, digits_value-take-le 10 word i (omega arith))) in
-    elim (cases_Bool (has_bytes word && all_ascii_digits word)) [
+    elim (cases_Bool (has_items word && all_ascii_digits word)) [
       | inl digits ↦ rw (digits, large) refl
       | inr other ↦ rw other refl
     ]
@@ -44,4 +45,4 @@ too_large limit word i h =
 pub is_number : (limit : ℕ) (word : List ℕ) → 0 < length word → all_ascii_digits word ≡ true → digits_value 10 word < limit → number_below limit word ≡ Some (digits_value 10 word)
 unfolding number_below number_in
 is_number limit word some digits below =
-    rw (and_from (has_bytes word) (all_ascii_digits word) (lt-ltb 0 (length word) some) digits, lt-ltb (digits_value 10 word) limit below) refl
+    rw (and_from (has_items word) (all_ascii_digits word) (some_items word some) digits, lt-ltb (digits_value 10 word) limit below) refl

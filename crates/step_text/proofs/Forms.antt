@@ -5,11 +5,11 @@ use Rattle.std.specs.List.{AllZip, slice_split, onto_first}
 use Rattle.std.proofs.lemmas.Bool.{cases_Bool}
 use Rattle.std.proofs.lemmas.List.Splits.{slice_split-cons_no, slice_split-cons_yes}
 use Rattle.arbitrary_int.specs.declared.steps.Step.{Step}
-use Rattle.step_text.specs.Text.{ends_line, without_empty_last, lines_of, words_of, word_lines}
+use Rattle.step_text.specs.Text.{has_items, ends_line, without_empty_last, lines_of, words_of, word_lines}
 use Rattle.step_text.specs.Numeral.{value_named}
 use Rattle.step_text.specs.Kind.{sign_of, width_of, kind_named}
 use Rattle.step_text.specs.Operation.{step_named}
-use Rattle.step_text.specs.Form.{Form, BadLine, HasNoBadLine, HasForm, HasRegistersForm, HasStepForm, FirstBad, IsValue, IsStep, StepsFault, LinesFault, FormFault, has_words}
+use Rattle.step_text.specs.Form.{Form, BadLine, HasNoBadLine, HasForm, HasRegistersForm, HasStepForm, FirstBad, IsValue, IsStep, StepsFault, LinesFault, FormFault}
 use Rattle.step_text.specs.declared.fault.Fault.{Fault}
 use Rattle.step_text.specs.declared.fault.Fault.TheVariants as faults
 use Rattle.step_text.specs.declared.kind.Kind.{Kind}
@@ -105,7 +105,7 @@ module _ (input : List ℕ) (first : List (List ℕ)) (kind : Kind) (named : kin
 
 -- ---- an input of the form has no bad line
 
-steps_fine : (count : ℕ) (later : List (List (List ℕ))) (steps : List Step) (i : ℕ) → AllZip (IsStep count) (filter has_words later) steps → IfSome (slice_get later i) (HasStepForm count)
+steps_fine : (count : ℕ) (later : List (List (List ℕ))) (steps : List Step) (i : ℕ) → AllZip (IsStep count) (filter has_items later) steps → IfSome (slice_get later i) (HasStepForm count)
 steps_fine count [] steps i h = tt
 steps_fine count ([] ∷ later) steps zero h = tt
 steps_fine count ([] ∷ later) steps (suc i) h = steps_fine count later steps i h

@@ -4,6 +4,7 @@ pub mod Values
 pub mod StepLines
 pub mod Forms
 pub mod Operands
+pub mod StepWords
 pub mod Families
 pub mod UsualLines
 pub mod LongNumbers

@@ -1,11 +1,11 @@
 -- The first word and the first line of a text, and what is left.
 use Rattle.std.proofs.Common.{◌≡◌, ℕ, suc, ◌<◌, ◌≤◌, Bool, true, false, cond, not, List, [], ◌∷◌, length, drop, map, filter, position, ltb, ltb-true, ltb-false, eqb, eqb-true, false-eqb, Some, None, refl, sym, ap, ◌∙◌, inl, inr, arith, one-add, suc-add, drop_of_length-le, take_all}
 use Rattle.std.specs.List.{slice_split, onto_first, position_or_len, before_first, after_first}
-use Rattle.std.proofs.lemmas.Bool.{cases_Bool, cases_lt, lt-ltb, ne_eqb}
+use Rattle.std.proofs.lemmas.Bool.{cases_Bool, cases_lt, ne_eqb}
 use Rattle.std.proofs.lemmas.Bool.Decides.{nat_tests}
 use Rattle.std.proofs.lemmas.List.Splits.{slice_split-cons_no, slice_split-cons_yes, slice_split_first}
 use Rattle.std.proofs.lemmas.List.{nil_from_length}
-use Rattle.step_text.specs.Text.{ends_line, is_blank, is_solid, ends_word, has_bytes, without_empty_last, lines_of, words_of, word_lines, Left, left_of}
+use Rattle.step_text.specs.Text.{ends_line, is_blank, is_solid, ends_word, has_items, without_empty_last, lines_of, words_of, word_lines, Left, left_of}
 
 -- ---- a part that ends before the first item that passes
 
@@ -57,9 +57,13 @@ end-blank byte end other = grind (arith, nat_tests)
 
 -- ---- words
 
+pub some_items : {X : Type 0} (xs : List X) → 0 < length xs → has_items xs ≡ true
+some_items [] some = absurd (omega arith)
+some_items (x ∷ xs) some = refl
+
 words-blank : (byte : ℕ) (line : List ℕ) → is_blank byte ≡ true → words_of (byte ∷ line) ≡ words_of line
 unfolding words_of
-words-blank byte line blank = ap (filter has_bytes) (slice_split-cons_yes is_blank byte line blank)
+words-blank byte line blank = ap (filter has_items) (slice_split-cons_yes is_blank byte line blank)
 
 pub left-blank : (byte : ℕ) (bytes : List ℕ) → is_blank byte ≡ true → left_of (byte ∷ bytes) ≡ left_of bytes
 unfolding left_of
@@ -80,7 +84,7 @@ left-blanks (byte ∷ bytes) =
 record After (text : List ℕ) : Type 0 where
   pub parts : List (List ℕ)
   pub split : slice_split is_blank (before_first ends_line text) ≡ before_first ends_word text ∷ parts
-  pub words : filter has_bytes parts ≡ words_of (before_first ends_line (drop (position_or_len ends_word text) text))
+  pub words : filter has_items parts ≡ words_of (before_first ends_line (drop (position_or_len ends_word text) text))
   pub later : after_first ends_line text ≡ after_first ends_line (drop (position_or_len ends_word text) text)
 
 after_word : (text : List ℕ) → After text
@@ -103,7 +107,7 @@ after_word (byte ∷ bytes) =
                 record {
                   parts = slice_split is_blank line;
                   split = rw (before-no ends_line byte bytes other, here) cut;
-                  words = rw (here, before-no ends_line byte bytes other) (sym (ap (filter has_bytes) cut));
+                  words = rw (here, before-no ends_line byte bytes other) (sym (ap (filter has_items) cut));
                   later = rw here refl;
                 }
           ]
@@ -126,7 +130,7 @@ pub left-word : (text : List ℕ) → 0 < length (before_first ends_word text)
 unfolding left_of words_of
 left-word text some =
     let rest = after_word text in
-    rw (rest.split, lt-ltb 0 (length (before_first ends_word text)) some, rest.words, rest.later) refl
+    rw (rest.split, some_items (before_first ends_word text) some, rest.words, rest.later) refl
 
 -- past the blanks, where there is no word
 pub left-no_word : (text : List ℕ) → length (before_first ends_word (drop (position_or_len is_solid text) text)) ≡ 0 → (left_of (drop (position_or_len is_solid text) text)).words ≡ []

@@ -3,8 +3,9 @@ use Rattle.std.proofs.Common.{◌≡◌, ℕ, suc, List, [], ◌∷◌, filter, 
 use Rattle.std.specs.List.{AllZip}
 use Rattle.arbitrary_int.specs.declared.steps.Step.{Step}
 use Rattle.arbitrary_int.specs.Step.{StepWithin}
+use Rattle.step_text.specs.Text.{has_items}
 use Rattle.step_text.specs.Operation.{step_named}
-use Rattle.step_text.specs.Form.{IsStep, HasStepForm, FirstBad, has_words}
+use Rattle.step_text.specs.Form.{IsStep, HasStepForm, FirstBad}
 
 -- the words of a line name the step, and the later lines are left
 pub record LineRead (count : ℕ) (words : List (List ℕ)) (rest : List (List (List ℕ))) (step : Step) (after : List (List (List ℕ))) : Type 0 where
@@ -19,7 +20,7 @@ some_words count (word ∷ operands) step named = (word, operands, refl)
 
 -- the lines are one of these words, and the rest
 module _ (count : ℕ) (lines rest after : List (List (List ℕ))) (words : List (List ℕ)) (taken : lines ≡ words ∷ rest) (same : after ≡ rest) where
-  pub blank-found : words ≡ [] → (steps : List Step) → AllZip (IsStep count) (filter has_words after) steps → AllZip (IsStep count) (filter has_words lines) steps
+  pub blank-found : words ≡ [] → (steps : List Step) → AllZip (IsStep count) (filter has_items after) steps → AllZip (IsStep count) (filter has_items lines) steps
   blank-found blank steps found = rw (taken, blank, ← same) found
 
   pub blank-fault : words ≡ [] → (i : ℕ) → FirstBad (HasStepForm count) after i → FirstBad (HasStepForm count) lines (suc i)
@@ -27,7 +28,7 @@ module _ (count : ℕ) (lines rest after : List (List (List ℕ))) (words : List
 
   module _ (word : List ℕ) (operands : List (List ℕ)) (split : words ≡ word ∷ operands) where
     pub step-found : (step : Step) → Some step ≡ step_named count (word ∷ operands)
-        → (steps : List Step) → AllZip (IsStep count) (filter has_words after) steps → AllZip (IsStep count) (filter has_words lines) (step ∷ steps)
+        → (steps : List Step) → AllZip (IsStep count) (filter has_items after) steps → AllZip (IsStep count) (filter has_items lines) (step ∷ steps)
     step-found step named steps found = rw (taken, split, ← same) (sym named, found)
 
     pub step-fault : (step : Step) → Some step ≡ step_named count (word ∷ operands)

@@ -20,7 +20,7 @@ use Rattle.arbitrary_int.specs.declared.steps.OneOp.{OneOp}
 use Rattle.arbitrary_int.specs.declared.steps.ByOp.{ByOp}
 use Rattle.step_text.specs.Text.{ends_word, words_of, Left, left_of}
 use Rattle.step_text.specs.Numeral.{first_number}
-use Rattle.step_text.specs.Operation.{operation_named, step_with, step_named}
+use Rattle.step_text.specs.Operation.{operation_named, step_named}
 use Rattle.step_text.specs.declared.operation.Operation.{Operation}
 use Rattle.step_text.specs.declared.operation.Operation.TheVariants as operations
 use Rattle.step_text.specs.Usual.{is_whole, IsName, BeginsWithName, BeginsWithNumber, NamesStep}
@@ -29,6 +29,7 @@ use Rattle.step_text.proofs.Digits.{digit_is, no_digits, is_number}
 use Rattle.step_text.proofs.Families.{no_letter}
 use Rattle.step_text.proofs.Lines.{left-blank, left-word}
 use Rattle.step_text.proofs.Operands.{take-take}
+use Rattle.step_text.proofs.StepWords.{one_taken, two_taken, by_taken}
 
 -- ---- the name
 
@@ -147,11 +148,11 @@ module _ (count : ℕ) (text after next third : List ℕ) (to src : ℕ)
   later_left operation begins = sym (ap (λ (l : Left). l.later) (name_left text after operation begins after_ends) ∙ to_left.1 ∙ src_left.1)
 
   pub one_named : (op : OneOp) (more : List ℕ) → BeginsWithName text (operations.One op) after → third ≡ 10 ∷ more → NamesStep count text (steps.One op to src) third
-  unfolding step_named step_with
+  unfolding step_named
   one_named op more begins lf =
       let words = (line_end third more lf).1 in
       record {
-        names = rw (ap (λ (l : Left). l.words) (name_left text after (operations.One op) begins after_ends), begins.is_name.names, to_left.0, src_left.0, words) refl;
+        names = rw (ap (λ (l : Left). l.words) (name_left text after (operations.One op) begins after_ends), begins.is_name.names, one_taken count op (left_of after).words, to_left.0, src_left.0, words) refl;
         at_end = words;
         later = later_left (operations.One op) begins;
       }
@@ -159,24 +160,24 @@ module _ (count : ℕ) (text after next third : List ℕ) (to src : ℕ)
   module _ (last more : List ℕ) (lf : last ≡ 10 ∷ more) where
     pub two_named : (op : TwoOp) (right : ℕ) → BeginsWithName text (operations.Two op) after → third ≡ 32 ∷ (48 + right) ∷ last → right < 10 → right < count
         → NamesStep count text (steps.Two op to src right) last
-    unfolding step_named step_with
+    unfolding step_named
     two_named op right begins right_is digit within =
         let words = (line_end last more lf).1 in
         let taken = number_left count third right last (digit_begins count third right last right_is digit within (line_end last more lf).0) in
         record {
-          names = rw (ap (λ (l : Left). l.words) (name_left text after (operations.Two op) begins after_ends), begins.is_name.names, to_left.0, src_left.0, taken.0, words) refl;
+          names = rw (ap (λ (l : Left). l.words) (name_left text after (operations.Two op) begins after_ends), begins.is_name.names, two_taken count op (left_of after).words, to_left.0, src_left.0, taken.0, words) refl;
           at_end = words;
           later = sym taken.1 ∙ later_left (operations.Two op) begins;
         }
 
     pub by_named : (op : ByOp) (amount : ℕ) → BeginsWithName text (operations.By op) after → BeginsWithNumber (2 ^ 32) third amount last
         → NamesStep count text (steps.By op to src amount) last
-    unfolding step_named step_with
+    unfolding step_named
     by_named op amount begins number =
         let words = (line_end last more lf).1 in
         let taken = number_left (2 ^ 32) third amount last number in
         record {
-          names = rw (ap (λ (l : Left). l.words) (name_left text after (operations.By op) begins after_ends), begins.is_name.names, to_left.0, src_left.0, taken.0, words) refl;
+          names = rw (ap (λ (l : Left). l.words) (name_left text after (operations.By op) begins after_ends), begins.is_name.names, by_taken count op (left_of after).words, to_left.0, src_left.0, taken.0, words) refl;
           at_end = words;
           later = sym taken.1 ∙ later_left (operations.By op) begins;
         }

@@ -3,16 +3,9 @@ use Rattle.std.specs.Prelude.{ℕ, List, ◌++◌, codes, decimal}
 use Rattle.step_text.specs.declared.fault.Fault.{Fault}
 use Rattle.step_text.specs.declared.fault.Fault.TheVariants.{Line, TooLong, Memory, Read, Write}
 
-abbrev pub fault_text : Fault → List ℕ
-fault_text (Line k) = codes "fault: line " ++ decimal k
-fault_text TooLong = codes "fault: too long"
-fault_text Memory = codes "fault: memory"
-fault_text Read = codes "fault: read"
-fault_text Write = codes "fault: write"
-
-abbrev pub status_of : Fault → ℕ
-status_of (Line k) = 2
-status_of TooLong = 2
-status_of Memory = 3
-status_of Read = 4
-status_of Write = 5
+abbrev pub fault_row : Fault → List ℕ × ℕ
+fault_row (Line k) = (codes "fault: line " ++ decimal k, 2)
+fault_row TooLong = (codes "fault: too long", 2)
+fault_row Memory = (codes "fault: memory", 3)
+fault_row Read = (codes "fault: read", 4)
+fault_row Write = (codes "fault: write", 5)

@@ -1,26 +1,14 @@
 -- Which inputs are of the form, and which line of another is the first that isn't.
-use Rattle.std.specs.Prelude.{◌≡◌, ℕ, zero, suc, ◌+◌, ◌<◌, ◌⊎◌, Bool, true, false, List, [], ◌∷◌, length, filter, Some, IsSome, IfSome, ℤ, slice_get}
+use Rattle.std.specs.Prelude.{◌≡◌, ℕ, zero, suc, ◌+◌, ◌<◌, ◌⊎◌, Bool, List, [], ◌∷◌, length, filter, Some, IsSome, IfSome, ℤ, slice_get}
 use Rattle.std.specs.List.{AllZip, AllByRecursion}
 use Rattle.arbitrary_int.specs.declared.steps.Step.{Step}
-use Rattle.step_text.specs.Text.{word_lines}
+use Rattle.step_text.specs.Text.{has_items, word_lines}
 use Rattle.step_text.specs.Numeral.{value_named}
 use Rattle.step_text.specs.Kind.{sign_of, width_of, kind_named}
 use Rattle.step_text.specs.Operation.{step_named}
 use Rattle.step_text.specs.declared.fault.Fault.{Fault}
 use Rattle.step_text.specs.declared.fault.Fault.TheVariants as faults
 use Rattle.step_text.specs.declared.kind.Kind.{Kind}
-
-abbrev pub has_words : List (List ℕ) → Bool
-has_words [] = false
-has_words (word ∷ words) = true
-
--- the word is a numeral of x, and a type of the sign s and the width B has x
-abbrev pub IsValue : Bool → ℕ → List ℕ → ℤ → Type 0
-IsValue s B word x = value_named s B word ≡ Some x
-
--- the words name the step, on so many registers
-abbrev pub IsStep : ℕ → List (List ℕ) → Step → Type 0
-IsStep count words step = step_named count words ≡ Some step
 
 -- the lines are one that names the type, one whose words are numerals of the registers, each in range, and one
 -- for each step, where lines without words are left out
@@ -30,8 +18,8 @@ pub record Form (input : List ℕ) (kind : Kind) (registers : List ℤ) (steps :
   pub later : List (List (List ℕ))
   pub lines : word_lines input ≡ first ∷ second ∷ later
   pub names_kind : kind_named first ≡ Some kind
-  pub holds_registers : AllZip (IsValue (sign_of kind) (width_of kind)) second registers
-  pub names_steps : AllZip (IsStep (length registers)) (filter has_words later) steps
+  pub holds_registers : AllZip (λ word x. value_named (sign_of kind) (width_of kind) word ≡ Some x) second registers
+  pub names_steps : AllZip (λ words step. step_named (length registers) words ≡ Some step) (filter has_items later) steps
 
 -- the second line
 abbrev pub HasRegistersForm : Bool → ℕ → List (List ℕ) → Type 0
@@ -62,6 +50,14 @@ pub record HasNoBadLine (input : List ℕ) : Type 0 where
   pub none : (line : ℕ) → BadLine input line → ⊥
 
 -- ---- what the parts of the reader say
+
+-- the word is a numeral of x, and a type of the sign s and the width B has x
+abbrev pub IsValue : Bool → ℕ → List ℕ → ℤ → Type 0
+IsValue s B word x = value_named s B word ≡ Some x
+
+-- the words name the step, on so many registers
+abbrev pub IsStep : ℕ → List (List ℕ) → Step → Type 0
+IsStep count words step = step_named count words ≡ Some step
 
 -- the first item without P has i items before it
 abbrev pub FirstBad : {X : Type 0} → (X → Type 0) → List X → ℕ → Type 0

@@ -1,5 +1,6 @@
 -- The types of the registers, and the first line.
-use Rattle.std.specs.Prelude.{ℕ, Bool, true, false, List, [], ◌∷◌, Option, Some, None, option_map, option_and_then, if◌then◌else◌, codes, bytes_eq}
+use Rattle.std.specs.Prelude.{ℕ, ◌&&◌, Bool, true, false, List, [], ◌∷◌, Option, None, option_map, if◌then◌else◌, codes, bytes_eq}
+use Rattle.std.specs.List.{find}
 use Rattle.step_text.specs.declared.kind.RegisterType.{RegisterType}
 use Rattle.step_text.specs.declared.kind.RegisterType.TheVariants as types
 use Rattle.step_text.specs.declared.kind.WidePair.{WidePair}
@@ -7,43 +8,37 @@ use Rattle.step_text.specs.declared.kind.WidePair.TheVariants as pairs
 use Rattle.step_text.specs.declared.kind.Kind.{Kind}
 use Rattle.step_text.specs.declared.kind.Kind.TheVariants as kinds
 
+-- a type's name, whether it has a sign, and its width
+abbrev pub type_row : RegisterType → List ℕ × Bool × ℕ
+type_row types.U1 = (codes "u1", false, 1)
+type_row types.I1 = (codes "i1", true, 1)
+type_row types.U7 = (codes "u7", false, 7)
+type_row types.I7 = (codes "i7", true, 7)
+type_row types.U14 = (codes "u14", false, 14)
+type_row types.I14 = (codes "i14", true, 14)
+type_row types.U120 = (codes "u120", false, 120)
+type_row types.I120 = (codes "i120", true, 120)
+
+abbrev pub type_name : RegisterType → List ℕ
+type_name type = (type_row type).0
+
 abbrev pub type_sign : RegisterType → Bool
-type_sign types.U1 = false
-type_sign types.I1 = true
-type_sign types.U7 = false
-type_sign types.I7 = true
-type_sign types.U14 = false
-type_sign types.I14 = true
-type_sign types.U120 = false
-type_sign types.I120 = true
+type_sign type = (type_row type).1
 
 abbrev pub type_width : RegisterType → ℕ
-type_width types.U1 = 1
-type_width types.I1 = 1
-type_width types.U7 = 7
-type_width types.I7 = 7
-type_width types.U14 = 14
-type_width types.I14 = 14
-type_width types.U120 = 120
-type_width types.I120 = 120
+type_width type = (type_row type).2
 
--- the two types of a pair
-abbrev pub wide_of : WidePair → RegisterType
-wide_of pairs.U14U7 = types.U14
-wide_of pairs.U14I7 = types.U14
-wide_of pairs.I14U7 = types.I14
-wide_of pairs.I120U14 = types.I120
-
-abbrev pub narrow_of : WidePair → RegisterType
-narrow_of pairs.U14U7 = types.U7
-narrow_of pairs.U14I7 = types.I7
-narrow_of pairs.I14U7 = types.U7
-narrow_of pairs.I120U14 = types.U14
+-- the wide type of a pair, and the narrow one
+abbrev pub types_of : WidePair → RegisterType × RegisterType
+types_of pairs.U14U7 = (types.U14, types.U7)
+types_of pairs.U14I7 = (types.U14, types.I7)
+types_of pairs.I14U7 = (types.I14, types.U7)
+types_of pairs.I120U14 = (types.I120, types.U14)
 
 -- the type of the registers that the second line holds
 abbrev pub type_of : Kind → RegisterType
 type_of (kinds.Run type) = type
-type_of (kinds.Wide pair) = wide_of pair
+type_of (kinds.Wide pair) = (types_of pair).0
 
 abbrev pub sign_of : Kind → Bool
 sign_of kind = type_sign (type_of kind)
@@ -51,29 +46,19 @@ sign_of kind = type_sign (type_of kind)
 abbrev pub width_of : Kind → ℕ
 width_of kind = type_width (type_of kind)
 
+abbrev pub all_types : List RegisterType
+all_types = types.U1 ∷ types.I1 ∷ types.U7 ∷ types.I7 ∷ types.U14 ∷ types.I14 ∷ types.U120 ∷ types.I120 ∷ []
+
+abbrev pub all_pairs : List WidePair
+all_pairs = pairs.U14U7 ∷ pairs.U14I7 ∷ pairs.I14U7 ∷ pairs.I120U14 ∷ []
+
 -- the type that a word names
 unfoldable pub type_named : List ℕ → Option RegisterType
-type_named word =
-    if bytes_eq word (codes "u1") then Some types.U1 else (
-    if bytes_eq word (codes "i1") then Some types.I1 else (
-    if bytes_eq word (codes "u7") then Some types.U7 else (
-    if bytes_eq word (codes "i7") then Some types.I7 else (
-    if bytes_eq word (codes "u14") then Some types.U14 else (
-    if bytes_eq word (codes "i14") then Some types.I14 else (
-    if bytes_eq word (codes "u120") then Some types.U120 else (
-    if bytes_eq word (codes "i120") then Some types.I120 else None)))))))
-
--- the pair of a wide and a narrow type, where it is served
-abbrev pub pair_of : RegisterType → RegisterType → Option WidePair
-pair_of types.U14 types.U7 = Some pairs.U14U7
-pair_of types.U14 types.I7 = Some pairs.U14I7
-pair_of types.I14 types.U7 = Some pairs.I14U7
-pair_of types.I120 types.U14 = Some pairs.I120U14
-pair_of wide narrow = None
+type_named word = find (λ type. bytes_eq word (type_name type)) all_types
 
 -- the pair that two words name
 unfoldable pub pair_named : List ℕ → List ℕ → Option WidePair
-pair_named wide narrow = option_and_then (λ w. option_and_then (pair_of w) (type_named narrow)) (type_named wide)
+pair_named wide narrow = find (λ pair. bytes_eq wide (type_name (types_of pair).0) && bytes_eq narrow (type_name (types_of pair).1)) all_pairs
 
 -- what the words of the first line name
 unfoldable pub kind_named : List (List ℕ) → Option Kind

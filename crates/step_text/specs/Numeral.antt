@@ -4,11 +4,11 @@ use Rattle.std.specs.Char.{is_ascii_digit}
 use Rattle.std.specs.Str.{all_ascii_digits}
 use Rattle.std.specs.Str.Parse.{digits_value}
 use Rattle.arbitrary_int.specs.Range.{in_range}
-use Rattle.step_text.specs.Text.{has_bytes}
+use Rattle.step_text.specs.Text.{has_items}
 
 -- what one or more decimal digits write
 unfoldable pub number_in : List ℕ → Option ℕ
-number_in word = if has_bytes word && all_ascii_digits word then Some (digits_value 10 word) else None
+number_in word = if has_items word && all_ascii_digits word then Some (digits_value 10 word) else None
 
 -- what one or more decimal digits write, where a minus sign may stand before them
 unfoldable pub integer_in : List ℕ → Option ℤ
@@ -19,11 +19,6 @@ integer_in (byte ∷ bytes) = if byte == 45 then option_map (λ n. neg_ℤ (pos 
 unfoldable pub number_below : ℕ → List ℕ → Option ℕ
 number_below limit word = option_and_then (λ n. if nat_lt n limit then Some n else None) (number_in word)
 
--- the number that the first of the words writes, if it is below the limit, and the words after it
-abbrev pub first_number : ℕ → List (List ℕ) → Option (ℕ × List (List ℕ))
-first_number limit [] = None
-first_number limit (word ∷ words) = option_map (λ n. (n, words)) (number_below limit word)
-
 -- the number, if a type of the sign s and the width B has it
 abbrev pub number_of_type : Bool → ℕ → ℤ → Option ℤ
 number_of_type s B x = if in_range s B x then Some x else None
@@ -33,6 +28,11 @@ unfoldable pub value_named : Bool → ℕ → List ℕ → Option ℤ
 value_named s B word = option_and_then (number_of_type s B) (integer_in word)
 
 -- ---- what the parts of the reader say
+
+-- the number that the first of the words writes, if it is below the limit, and the words after it
+abbrev pub first_number : ℕ → List (List ℕ) → Option (ℕ × List (List ℕ))
+first_number limit [] = None
+first_number limit (word ∷ words) = option_map (λ n. (n, words)) (number_below limit word)
 
 -- more than a type of 120 bits has
 abbrev pub IsFar : Option ℤ → Type 0

@@ -1,11 +1,11 @@
 -- The words of a step.
-use Rattle.std.specs.Prelude.{ℕ, ◌^◌, ◌==◌, List, [], ◌∷◌, length, Option, Some, None, option_and_then, if◌then◌else◌, codes, bytes_eq}
+use Rattle.std.specs.Prelude.{ℕ, ◌^◌, ◌==◌, List, [], ◌∷◌, length, Option, Some, None, option_map, option_and_then, if◌then◌else◌, codes, bytes_eq}
 use Rattle.arbitrary_int.specs.declared.steps.Step.{Step}
 use Rattle.arbitrary_int.specs.declared.steps.Step.TheVariants as steps
 use Rattle.arbitrary_int.specs.declared.steps.TwoOp.TheVariants as twos
 use Rattle.arbitrary_int.specs.declared.steps.OneOp.TheVariants as ones
 use Rattle.arbitrary_int.specs.declared.steps.ByOp.TheVariants as bys
-use Rattle.step_text.specs.Numeral.{first_number}
+use Rattle.step_text.specs.Numeral.{number_below}
 use Rattle.step_text.specs.declared.operation.Operation.{Operation}
 use Rattle.step_text.specs.declared.operation.Operation.TheVariants as operations
 
@@ -42,30 +42,28 @@ infixl 10 ◌>>=◌
 abbrev pub ◌>>=◌ : {A B : Type 0} → Option A → (A → Option B) → Option B
 o >>= f = option_and_then f o
 
--- the step, where no words are left
-abbrev pub at_end : List (List ℕ) → Step → Option Step
-at_end words step = if length words == 0 then Some step else None
-
 -- the step of an operation on so many registers, with the words after its name
 unfoldable pub step_with : ℕ → Operation → List (List ℕ) → Option Step
-step_with count (operations.Two op) words = do
-  to ← first_number count words
-  left ← first_number count to.1
-  right ← first_number count left.1
-  at_end right.1 (steps.Two op to.0 left.0 right.0)
-step_with count (operations.One op) words = do
-  to ← first_number count words
-  src ← first_number count to.1
-  at_end src.1 (steps.One op to.0 src.0)
-step_with count (operations.By op) words = do
-  to ← first_number count words
-  src ← first_number count to.1
-  amount ← first_number (2 ^ 32) src.1
-  at_end amount.1 (steps.By op to.0 src.0 amount.0)
+step_with count (operations.Two op) (first ∷ second ∷ third ∷ []) = do
+  to ← number_below count first
+  left ← number_below count second
+  option_map (steps.Two op to left) (number_below count third)
+step_with count (operations.One op) (first ∷ second ∷ []) = do
+  to ← number_below count first
+  option_map (steps.One op to) (number_below count second)
+step_with count (operations.By op) (first ∷ second ∷ third ∷ []) = do
+  to ← number_below count first
+  src ← number_below count second
+  option_map (steps.By op to src) (number_below (2 ^ 32) third)
+step_with count operation words = None
 
 -- the step that the words of a line name
 unfoldable pub step_named : ℕ → List (List ℕ) → Option Step
 step_named count [] = None
-step_named count (word ∷ operands) = do
-  operation ← operation_named word
-  step_with count operation operands
+step_named count (word ∷ operands) = operation_named word >>= λ operation. step_with count operation operands
+
+-- ---- what the parts of the reader say
+
+-- the step, where no words are left
+abbrev pub at_end : List (List ℕ) → Step → Option Step
+at_end words step = if length words == 0 then Some step else None

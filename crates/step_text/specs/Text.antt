@@ -1,14 +1,23 @@
 -- The lines and the words of a text.
-use Rattle.std.specs.Prelude.{ℕ, ◌||◌, Bool, List, [], ◌∷◌, length, map, filter, not, ◌==◌, nat_lt}
+use Rattle.std.specs.Prelude.{ℕ, ◌||◌, Bool, true, false, List, [], ◌∷◌, map, filter, not, ◌==◌}
 use Rattle.std.specs.List.{slice_split, before_first, after_first}
 
--- LF
-abbrev pub ends_line : ℕ → Bool
-ends_line byte = byte == 10
+abbrev pub has_items : {X : Type 0} → List X → Bool
+has_items [] = false
+has_items (x ∷ xs) = true
 
--- space, tab and CR
+abbrev pub lf : ℕ
+lf = 10
+
+abbrev pub space : ℕ
+space = 32
+
+abbrev pub ends_line : ℕ → Bool
+ends_line byte = byte == lf
+
+-- a space, a tab or a CR
 abbrev pub is_blank : ℕ → Bool
-is_blank byte = byte == 32 || (byte == 9 || byte == 13)
+is_blank byte = byte == space || (byte == 9 || byte == 13)
 
 abbrev pub without_empty_last : List (List ℕ) → List (List ℕ)
 without_empty_last [] = []
@@ -20,12 +29,9 @@ without_empty_last (part ∷ next ∷ parts) = part ∷ without_empty_last (next
 unfoldable pub lines_of : List ℕ → List (List ℕ)
 lines_of text = without_empty_last (slice_split ends_line text)
 
-abbrev pub has_bytes : List ℕ → Bool
-has_bytes word = nat_lt 0 (length word)
-
 -- what stands between the blanks, if anything does
 unfoldable pub words_of : List ℕ → List (List ℕ)
-words_of line = filter has_bytes (slice_split is_blank line)
+words_of line = filter has_items (slice_split is_blank line)
 
 -- the words of each line
 abbrev pub word_lines : List ℕ → List (List (List ℕ))

@@ -1,7 +1,7 @@
 //! What can go wrong.
 
 ghost use Rattle.std.specs.Prelude.{◌≡◌, Some};
-ghost use Rattle.step_text.specs.Fault.{fault_text, status_of};
+ghost use Rattle.step_text.specs.Fault.{fault_row};
 ghost use Rattle.step_text.specs.declared.fault.Fault.TheVariants as faults;
 
 use std::alloc::{AllocError, AllocFailed};
@@ -26,7 +26,7 @@ pub enum Fault {
 impl Fault {
     /// The status that the program ends with.
     pub fn status(&self) -> u8
-        ensures { result ≡ status_of self.now }
+        ensures { result ≡ (fault_row self.now).1 }
     {
         match self {
             Fault::Line(_) => 2,
@@ -39,7 +39,7 @@ impl Fault {
 }
 
 impl fmt::Display for Fault {
-    ghost output = { λ fault. Some (fault_text fault) };
+    ghost output = { λ fault. Some (fault_row fault).0 };
 
     fn fmt<W: fmt::Write>(&self, f: &mut fmt::Formatter<W>) -> fmt::Result {
         match self {

@@ -2,7 +2,7 @@
 
 ghost use Rattle.std.specs.Prelude.{◌≡◌};
 ghost use Rattle.step_text.specs.Text.{Left};
-ghost use Rattle.step_text.specs.Kind.{type_named, pair_of, pair_named, kind_named};
+ghost use Rattle.step_text.specs.Kind.{type_named, pair_named, kind_named};
 
 use crate::text::Cursor;
 
@@ -65,21 +65,16 @@ pub fn kind_named(line: &mut Cursor) -> Option<Kind>
 fn pair_named(wide: &[u8], narrow: &[u8]) -> Option<WidePair>
     ensures { result ≡ pair_named wide.now narrow.now }
 {
-    let wide = type_named(wide)?;
-    let narrow = type_named(narrow)?;
-    pair_of(wide, narrow)
-}
-
-/// The pair of the two types, where it is served.
-fn pair_of(wide: RegisterType, narrow: RegisterType) -> Option<WidePair>
-    ensures { result ≡ pair_of wide narrow }
-{
-    match (wide, narrow) {
-        (RegisterType::U14, RegisterType::U7) => Some(WidePair::U14U7),
-        (RegisterType::U14, RegisterType::I7) => Some(WidePair::U14I7),
-        (RegisterType::I14, RegisterType::U7) => Some(WidePair::I14U7),
-        (RegisterType::I120, RegisterType::U14) => Some(WidePair::I120U14),
-        _ => None,
+    if wide == b"u14".as_slice() && narrow == b"u7".as_slice() {
+        Some(WidePair::U14U7)
+    } else if wide == b"u14".as_slice() && narrow == b"i7".as_slice() {
+        Some(WidePair::U14I7)
+    } else if wide == b"i14".as_slice() && narrow == b"u7".as_slice() {
+        Some(WidePair::I14U7)
+    } else if wide == b"i120".as_slice() && narrow == b"u14".as_slice() {
+        Some(WidePair::I120U14)
+    } else {
+        None
     }
 }
 

@@ -172,7 +172,7 @@ fn complement_or_negation_named(name: &[u8]) -> Option<Operation>
 }
 
 /// The step of an operation on so many registers, with the operands that the line's words name.
-#[tactic(auto, unfolding(crate::specs::Operation::step_with))]
+#[tactic(auto, using(crate::proofs::StepWords::taken))]
 fn step_with(operation: Operation, operands: &mut Cursor, count: usize) -> Option<Step>
     ensures step { result ≡ step_with count operation operands.old.words }
     ensures within { IfSome result (StepWithin count) }

@@ -3,8 +3,8 @@
 ghost use Rattle.std.specs.Prelude.{◌≡◌, ◌≤◌, length, map, filter, IfOk, IfErr, OnOk, MatchOption};
 ghost use Rattle.std.specs.List.{AllZip};
 ghost use Rattle.arbitrary_int.specs.Run.{WellFormed};
-ghost use Rattle.step_text.specs.Text.{Left};
-ghost use Rattle.step_text.specs.Form.{IsValue, IsStep, HasRegistersForm, StepsFault, has_words};
+ghost use Rattle.step_text.specs.Text.{Left, has_items};
+ghost use Rattle.step_text.specs.Form.{IsValue, IsStep, HasRegistersForm, StepsFault};
 
 use crate::fault::Fault;
 use crate::numeral::value_named;
@@ -57,7 +57,7 @@ pub fn steps<'a, A: Allocator>(
     lines: &mut Cursor,
 ) -> Result<Vec<Step, &'a A>, Fault>
     requires { length lines.old.later ≤ 65536 }
-    ensures found { IfOk result (λ steps. AllZip (IsStep count) (filter has_words lines.old.later) steps.items) }
+    ensures found { IfOk result (λ steps. AllZip (IsStep count) (filter has_items lines.old.later) steps.items) }
     ensures within { IfOk result (λ steps. WellFormed steps.items count) }
     ensures fault { IfErr result (StepsFault count lines.old.later) }
 {

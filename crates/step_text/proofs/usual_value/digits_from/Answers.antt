@@ -1,5 +1,4 @@
 use Rattle.std.proofs.Common.{◌≡◌, ◌<◌, ◌+◌, ◌-◌, ◌*◌, ◌^◌, length, get_or, sym, arith}
-use Rattle.step_text.proofs.Digits.{digit_is}
 use Rattle.step_text.proofs.Operands.{reads-more}
 use Rattle.step_text.proofs.LongNumbers.{shifted, power-shifted, room}
 use Rattle.step_text.proofs.usual_value.digits_from.Goals as goal

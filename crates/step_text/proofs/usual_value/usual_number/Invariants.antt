@@ -1,4 +1,4 @@
-use Rattle.std.proofs.Common.{◌-◌, ◌≤◌, length}
+use Rattle.std.proofs.Common.{◌-◌, length}
 use Rattle.step_text.specs.Numeral.{Reads}
 use Rattle.step_text.proofs.usual_value.usual_number.Given as goal
 
