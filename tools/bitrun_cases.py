@@ -75,7 +75,8 @@ class Clone:
         self.root = folder / 'clone'
         (self.root / 'crates/bitrun/src').mkdir(parents=True)
         shutil.copy(ROOT / 'bitrun.sh', self.root)
-        (self.root / 'crates.txt').write_text('bitrun:\n')
+        (self.root / 'crates/step_text/src').mkdir(parents=True)
+        (self.root / 'crates.txt').write_text('step_text:\nbitrun: step_text\n')
         self.source = self.root / 'crates/bitrun/src/main.rt'
         self.source.write_text('first')
         self.tools = folder / 'tools'
@@ -176,6 +177,14 @@ def a_source_that_went_is_seen(clone):
     return answers(first) and answers(run(clone)) and clone.calls() == 2
 
 
+def an_edit_of_a_library_is_seen(clone):
+    library = clone.root / 'crates/step_text/src/lib.rt'
+    library.write_text('first')
+    first = run(clone)
+    library.write_text('second')
+    return answers(first) and answers(run(clone)) and clone.calls() == 2
+
+
 def cdpath_leads_nowhere_else(clone):
     other = clone.root / 'elsewhere'
     (other / 'clone').mkdir(parents=True)
@@ -225,6 +234,7 @@ CASES = [
     an_edit_that_is_undone_while_it_proves_is_seen,
     an_older_source_put_in_its_place_is_seen,
     a_source_that_went_is_seen,
+    an_edit_of_a_library_is_seen,
     cdpath_leads_nowhere_else,
     a_symbolic_link_is_followed,
     the_second_of_two_at_once_is_refused,

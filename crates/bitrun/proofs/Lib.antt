@@ -1,13 +1,5 @@
-pub mod Lines
 pub mod Streams
-pub mod Digits
-pub mod Values
-pub mod StepLines
-pub mod Forms
+pub mod WholeAnswers
 pub mod Joined
 pub mod Decimals
-pub mod Operands
-pub mod Families
 pub mod Unique
-pub mod UsualLines
-pub mod LongNumbers

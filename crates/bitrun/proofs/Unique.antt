@@ -3,12 +3,13 @@ use Rattle.std.proofs.Common.{◌≡◌, ℕ, List, [], ◌∷◌, length, filte
 use Rattle.std.specs.List.{AllZip}
 use Rattle.std.proofs.lemmas.Bool.{cases_order}
 use Rattle.arbitrary_int.specs.declared.steps.Step.{Step}
-use Rattle.bitrun.specs.Numeral.{value_named}
-use Rattle.bitrun.specs.Kind.{sign_of, width_of, kind_named}
-use Rattle.bitrun.specs.Operation.{step_named}
-use Rattle.bitrun.specs.Form.{Form, BadLine, IsValue, IsStep, has_words}
+use Rattle.step_text.specs.Text.{has_items}
+use Rattle.step_text.specs.Numeral.{value_named}
+use Rattle.step_text.specs.Kind.{sign_of, width_of, kind_named}
+use Rattle.step_text.specs.Operation.{step_named}
+use Rattle.step_text.specs.Form.{Form, BadLine, IsValue, IsStep}
 use Rattle.bitrun.specs.Answer.{IsAnswer}
-use Rattle.bitrun.specs.declared.kind.Kind.{Kind}
+use Rattle.step_text.specs.declared.kind.Kind.{Kind}
 
 pub one_bad_line : (input : List ℕ) (m n : ℕ) → BadLine input m → BadLine input n → m ≡ n
 one_bad_line input m n a b =
@@ -37,7 +38,7 @@ one_form input k l xs ys ss ts f g =
     let parts = parts_same f.first f.second g.first g.second f.later g.later (sym f.lines ∙ g.lines) in
     let kinds : k ≡ l = same_some (kind_named f.first) k l f.names_kind (rw parts.0 g.names_kind) in
     let registers : xs ≡ ys = zip_once (IsValue (sign_of k) (width_of k)) (λ w x y. same_some (value_named (sign_of k) (width_of k) w) x y) f.second xs ys f.holds_registers (rw (kinds, parts.1) g.holds_registers) in
-    let steps : ss ≡ ts = zip_once (IsStep (length xs)) (λ w s t. same_some (step_named (length xs) w) s t) (filter has_words f.later) ss ts f.names_steps (rw (registers, parts.2) g.names_steps) in
+    let steps : ss ≡ ts = zip_once (IsStep (length xs)) (λ w s t. same_some (step_named (length xs) w) s t) (filter has_items f.later) ss ts f.names_steps (rw (registers, parts.2) g.names_steps) in
     (kinds, registers, steps)
 
 pub one_answer : (input text other : List ℕ) → IsAnswer input text → IsAnswer input other → text ≡ other

@@ -8,10 +8,11 @@ use Rattle.arbitrary_int.specs.declared.steps.Step.{Step}
 use Rattle.arbitrary_int.specs.declared.steps.Stop.{Stop}
 use Rattle.arbitrary_int.specs.declared.steps.Why.{Why}
 use Rattle.arbitrary_int.specs.declared.steps.Why.TheVariants.{Refused, ZeroDivisor}
-use Rattle.bitrun.specs.Form.{Form, IsValue, IsStep, has_words}
-use Rattle.bitrun.specs.Kind.{type_sign, type_width, narrow_of, sign_of, width_of}
-use Rattle.bitrun.specs.declared.kind.Kind.{Kind}
-use Rattle.bitrun.specs.declared.kind.Kind.TheVariants as kinds
+use Rattle.step_text.specs.Text.{has_items, lf, space}
+use Rattle.step_text.specs.Form.{Form, IsValue, IsStep}
+use Rattle.step_text.specs.Kind.{type_sign, type_width, types_of, sign_of, width_of}
+use Rattle.step_text.specs.declared.kind.Kind.{Kind}
+use Rattle.step_text.specs.declared.kind.Kind.TheVariants as kinds
 
 abbrev pub cause_text : Why → List ℕ
 cause_text Refused = codes "refused"
@@ -24,19 +25,19 @@ ending_text (Err stop) = codes "stopped at " ++ decimal stop.at ++ codes ": " ++
 
 -- the registers with one space between
 abbrev pub registers_text : List ℤ → List ℕ
-registers_text registers = join_with_byte 32 (map signed_decimal registers)
+registers_text registers = join_with_byte space (map signed_decimal registers)
 
 -- the registers, and how the run ended
 abbrev pub answer_text : List ℤ × Result ⊤ Stop → List ℕ
-answer_text run = registers_text run.0 ++ 10 ∷ (ending_text run.1 ++ 10 ∷ [])
+answer_text run = registers_text run.0 ++ lf ∷ (ending_text run.1 ++ lf ∷ [])
 
 -- the registers, what is left of them at the sign s and the width B, and how the run ended
 abbrev pub wide_answer_text : Bool → ℕ → List ℤ × Result ⊤ Stop → List ℕ
-wide_answer_text s B run = registers_text run.0 ++ 10 ∷ answer_text (map (wrap s B) run.0, run.1)
+wide_answer_text s B run = registers_text run.0 ++ lf ∷ answer_text (map (wrap s B) run.0, run.1)
 
 abbrev pub text_for : Kind → List ℤ × Result ⊤ Stop → List ℕ
 text_for (kinds.Run type) = answer_text
-text_for (kinds.Wide pair) = wide_answer_text (type_sign (narrow_of pair)) (type_width (narrow_of pair))
+text_for (kinds.Wide pair) = wide_answer_text (type_sign (types_of pair).1) (type_width (types_of pair).1)
 
 pub record IsAnswer (input text : List ℕ) : Type 0 where
   pub kind : Kind
@@ -48,12 +49,12 @@ pub record IsAnswer (input text : List ℕ) : Type 0 where
 -- ---- what the parts of the writer say
 
 abbrev pub after_space : ℤ → List ℕ
-after_space x = 32 ∷ signed_decimal x
+after_space x = space ∷ signed_decimal x
 
 -- the answer of the lines from the second on, where the first names a type of the sign s and the width B, and a way to write a run
 pub record IsAnswerAt (s : Bool) (B : ℕ) (write : List ℤ × Result ⊤ Stop → List ℕ) (second : List (List ℕ)) (later : List (List (List ℕ))) (text : List ℕ) : Type 0 where
   pub registers : List ℤ
   pub steps : List Step
   pub holds_registers : AllZip (IsValue s B) second registers
-  pub names_steps : AllZip (IsStep (length registers)) (filter has_words later) steps
+  pub names_steps : AllZip (IsStep (length registers)) (filter has_items later) steps
   pub written : text ≡ write (RunOf s B steps registers)

@@ -1,11 +1,3 @@
-pub mod Fault
 pub mod Stream
-pub mod Text
-pub mod Numeral
-pub mod Kind
-pub mod Operation
-pub mod Form
 pub mod Answer
-pub mod Usual
-pub mod UsualValue
 pub mod Serving

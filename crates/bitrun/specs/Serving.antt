@@ -2,10 +2,10 @@
 use Rattle.std.specs.Prelude.{◌≢◌, ℕ, ◌≤◌, ◌<◌, Bool, List, length, Option, IfSome, Result, IfErr, OnOk, IsErrOf, IsTrue, ⊤}
 use Rattle.std.specs.Io.KnownBytes.{Appends, Keeps, IsAtEnd}
 use Rattle.bitrun.specs.Answer.{IsAnswer}
-use Rattle.bitrun.specs.Form.{BadLine, HasNoBadLine}
+use Rattle.step_text.specs.Form.{BadLine, HasNoBadLine}
 use Rattle.bitrun.specs.Stream.{AppendsBeginning}
-use Rattle.bitrun.specs.declared.fault.Fault.{Fault}
-use Rattle.bitrun.specs.declared.fault.Fault.TheVariants.{Line, TooLong, Read, Write}
+use Rattle.step_text.specs.declared.fault.Fault.{Fault}
+use Rattle.step_text.specs.declared.fault.Fault.TheVariants.{Line, TooLong, Read, Write}
 
 -- `held` is the input, all that the reader held before, and `left` what it holds afterwards; `before` and `after` are
 -- what the writer took; the flags tell afterwards whether a call failed

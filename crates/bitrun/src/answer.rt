@@ -3,22 +3,22 @@
 ghost use Rattle.std.specs.Prelude.{◌≡◌, ◌≤◌, ◌<◌, ◌^◌, ◌∷◌, ◌++◌, [], length, map, unsigned_abs, IfOk, IfErr, OnOk};
 ghost use Rattle.std.specs.List.{flat_map, join_with_byte};
 ghost use Rattle.std.specs.Fmt.{signed_decimal};
-ghost use Rattle.bitrun.specs.Text.{Left};
-ghost use Rattle.bitrun.specs.Kind.{sign_of, width_of};
-ghost use Rattle.bitrun.specs.Form.{LinesFault, FormFault};
+ghost use Rattle.step_text.specs.Text.{Left};
+ghost use Rattle.step_text.specs.Kind.{sign_of, width_of};
+ghost use Rattle.step_text.specs.Form.{LinesFault, FormFault};
 ghost use Rattle.bitrun.specs.Answer.{after_space, cause_text, ending_text, registers_text, answer_text, wide_answer_text, text_for, IsAnswer, IsAnswerAt};
 
 use crate::decimal::push_decimal;
-use crate::fault::Fault;
-use crate::kind::{Kind, RegisterType, WidePair, kind_named};
-use crate::parsing::{registers, steps};
-use crate::text::Cursor;
 use arbitrary_int::traits::{FixedWidth, Integer};
 use arbitrary_int::{Stop, Why, i1, i7, i14, i120, run, run_wide, u1, u7, u14, u120};
 use std::alloc::{AllocError, Allocator};
+use step_text::fault::Fault;
+use step_text::kind::{Kind, RegisterType, WidePair, kind_named};
+use step_text::parsing::{registers, steps};
+use step_text::text::Cursor;
 
 /// The whole answer to an input.
-#[tactic(auto, using(crate::proofs::Forms::answers))]
+#[tactic(auto, using(crate::proofs::WholeAnswers::answers))]
 pub fn answer<'a, A: Allocator>(alloc: &'a A, input: &[u8]) -> Result<Vec<u8, &'a A>, Fault>
     requires { length input.now ≤ 65536 }
     ensures found { IfOk result (λ text. IsAnswer input.now text.items) }

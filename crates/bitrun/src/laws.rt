@@ -1,7 +1,7 @@
 //! What follows of the definitions alone.
 
 ghost use Rattle.std.specs.Prelude.{◌≡◌, ℕ, List};
-ghost use Rattle.bitrun.specs.Form.{BadLine};
+ghost use Rattle.step_text.specs.Form.{BadLine};
 ghost use Rattle.bitrun.specs.Answer.{IsAnswer};
 
 /// An input has one answer at most.

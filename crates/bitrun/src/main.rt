@@ -8,25 +8,17 @@
 
 mod answer;
 mod decimal;
-mod fault;
-mod kind;
 pub mod laws;
-mod numeral;
-mod operation;
-mod parsing;
 mod serving;
 mod stream;
 #[cfg(test)]
 mod tests;
-mod text;
-mod usual;
-mod usual_value;
 
-use crate::fault::Fault;
 use crate::serving::serve;
 use arbitrary_int::Watched;
 use std::io;
 use std::process::ExitCode;
+use step_text::fault::Fault;
 
 fn main(rt: HostRuntime) -> io::Result<ExitCode> {
     let mut reader = Watched::new(rt.reader());

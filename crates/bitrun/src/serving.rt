@@ -4,11 +4,11 @@ ghost use Rattle.arbitrary_int.specs.Watching.{inner_of, has_failed};
 ghost use Rattle.bitrun.specs.Serving.{Serves};
 
 use crate::answer::answer;
-use crate::fault::Fault;
 use crate::stream::{read_all, write_all};
 use arbitrary_int::Watched;
 use std::alloc::{Allocator, Global};
 use std::io::{Read, Write};
+use step_text::fault::Fault;
 
 /// Reads all of the input, and writes the answer to it.
 ///
@@ -27,7 +27,7 @@ pub fn serve<R: Read, W: Write>(
 }
 
 /// `serve`, with memory from any allocator.
-#[tactic(auto, using(crate::proofs::Forms::answer_is_fine))]
+#[tactic(auto, using(crate::proofs::WholeAnswers::answer_is_fine))]
 pub fn serve_in<A: Allocator, R: Read, W: Write>(
     alloc: &A,
     reader: &mut Watched<R>,

@@ -5,10 +5,10 @@ ghost use Rattle.std.specs.Io.KnownBytes.{Appends, IsAtEnd};
 ghost use Rattle.arbitrary_int.specs.Watching.{inner_of, has_failed};
 ghost use Rattle.bitrun.specs.Stream.{ReadFault, AppendsBeginning};
 
-use crate::fault::Fault;
 use arbitrary_int::Watched;
 use std::alloc::Allocator;
 use std::io::{Read, Write};
+use step_text::fault::Fault;
 
 /// The most bytes of an input.
 const LONGEST_INPUT: usize = 65_536;

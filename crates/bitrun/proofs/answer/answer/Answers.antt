@@ -1,5 +1,5 @@
 use Rattle.std.proofs.Common.{ap, length, arith}
-use Rattle.bitrun.proofs.Forms.{length-word_lines}
+use Rattle.step_text.proofs.Forms.{length-word_lines}
 use Rattle.bitrun.proofs.answer.answer.Goals as goal
 
 pub answer_with-requires : goal.answer_with-requires

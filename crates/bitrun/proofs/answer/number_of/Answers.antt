@@ -1,6 +1,6 @@
 use Rattle.std.proofs.Common.{◌≡◌, ◌∙◌, rules, to_z, of_z, to_z-of_z}
 use Rattle.std.specs.Int.{w128}
-use Rattle.bitrun.proofs.Values.{from_pattern}
+use Rattle.step_text.proofs.Values.{from_pattern}
 use Rattle.bitrun.proofs.answer.number_of.Goals as goal
 
 pub returns-clause-number : goal.returns-clause-number

@@ -1,6 +1,6 @@
 use Rattle.std.proofs.Common.{◌≡◌, ◌∙◌, length}
 use Rattle.std.proofs.lemmas.Result.{err_from_is_err_and}
-use Rattle.bitrun.proofs.Forms.{fault_of_steps}
+use Rattle.step_text.proofs.Forms.{fault_of_steps}
 use Rattle.bitrun.proofs.answer.wide_answer_at.Goals as goal
 
 pub returns-in_err-steps-clause-fault : goal.returns-in_err-steps-clause-fault

@@ -1,0 +1,10 @@
+pub mod Lines
+pub mod Digits
+pub mod Values
+pub mod StepLines
+pub mod Forms
+pub mod Operands
+pub mod StepWords
+pub mod Families
+pub mod UsualLines
+pub mod LongNumbers
