@@ -11,15 +11,16 @@ import sys
 from pathlib import Path
 
 ROOT = Path(__file__).resolve().parent.parent
-# What the tests of each crate bring in. A table of docs/CALLS.md runs in arbitrary_int, unless its title is named here.
+# The modules of tests that docs/CALLS.md makes, with what each brings in. A table runs in worked_values, unless its title is
+# named here.
 USES = {
-    'arbitrary_int': [
-        'use crate::prelude::*;', 'use crate::{Watched, range_inclusive, try_product, try_sum};', 'use std::io::sink;',
-        'use std::test::Fail;',
+    'worked_values/src/calls.rt': [
+        'use arbitrary_int::prelude::*;', 'use arbitrary_int::{Watched, range_inclusive, try_product, try_sum};',
+        'use std::io::sink;', 'use std::test::Fail;',
     ],
-    'bit_fields': ['use crate::{Record, disjoint};', 'use arbitrary_int::prelude::*;'],
+    'bit_fields/src/worked/calls.rt': ['use crate::{Record, disjoint};', 'use arbitrary_int::prelude::*;'],
 }
-ELSEWHERE = {'Fields in a record': 'bit_fields'}
+ELSEWHERE = {'Fields in a record': 'bit_fields/src/worked/calls.rt'}
 FROM_RUST = ROOT / 'crates/proving/src/from_rust.rt'
 PROVING = ROOT / 'crates/proving'
 
@@ -49,11 +50,11 @@ def test(name, known, examples):
     return lines + (['    Ok(())', '}'] if takes_memory else ['}'])
 
 
-def calls(crate):
-    """The module of tests that the tables of calls make in a crate."""
-    lines = ['//! The examples of docs/CALLS.md.', '', *USES[crate]]
+def calls(module):
+    """The module of tests that the tables of calls make there."""
+    lines = ['//! The examples of docs/CALLS.md.', '', *USES[module]]
     for title, examples in tables('docs/CALLS.md'):
-        if ELSEWHERE.get(title, 'arbitrary_int') == crate:
+        if ELSEWHERE.get(title, 'worked_values/src/calls.rt') == module:
             lines += test(re.sub(r'\W+', '_', title.lower()), [], examples)
     return '\n'.join(lines) + '\n'
 
@@ -95,7 +96,7 @@ def refused(page):
 
 def main():
     wrong = []
-    tests = [(ROOT / f'crates/{crate}/src/worked/calls.rt', calls(crate)) for crate in USES]
+    tests = [(ROOT / 'crates' / module, calls(module)) for module in USES]
     for file, text in [*tests, (FROM_RUST, from_rust())]:
         if '--write' in sys.argv[1:]:
             file.write_text(text)

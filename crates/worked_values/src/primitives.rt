@@ -1,5 +1,6 @@
-use crate::integer::Integer;
-use crate::shift_amount::ShiftAmount;
+//! The calls of `Integer` on the primitives.
+
+use arbitrary_int::prelude::*;
 
 #[test]
 fn numbers_are_read_by_their_low_bits(rt: HostRuntime) {

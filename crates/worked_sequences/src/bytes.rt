@@ -1,7 +1,7 @@
 //! Bytes, and values in streams.
 
-use crate::Watched;
-use crate::prelude::*;
+use arbitrary_int::Watched;
+use arbitrary_int::prelude::*;
 use std::io::ErrorKind;
 use std::test::Fail;
 

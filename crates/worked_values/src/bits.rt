@@ -1,6 +1,6 @@
 //! Shifts, rotations, counts and extraction.
 
-use crate::prelude::*;
+use arbitrary_int::prelude::*;
 
 #[test]
 fn shift_operators(rt: HostRuntime) {

@@ -1,8 +1,6 @@
 //! The calls of `Number`.
 
-use crate::Number;
-use arbitrary_base::error::TryNewError;
-use arbitrary_core::aliases::unsigned::{u5, u14};
+use arbitrary_int::{Number, TryNewError, u5, u14};
 
 #[test]
 fn calls_answer_as_those_of_integer(rt: HostRuntime) {

@@ -1,7 +1,7 @@
 //! Sums and products, steps and ranges.
 
-use crate::prelude::*;
-use crate::{range_inclusive, try_product, try_sum};
+use arbitrary_int::prelude::*;
+use arbitrary_int::{range_inclusive, try_product, try_sum};
 use std::iter::repeat_n;
 
 #[test]

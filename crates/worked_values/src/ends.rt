@@ -1,6 +1,6 @@
 //! Ranges, masks and conversions.
 
-use crate::prelude::*;
+use arbitrary_int::prelude::*;
 
 #[test]
 fn ranges_and_masks_at_their_ends(rt: HostRuntime) {

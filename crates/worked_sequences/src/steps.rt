@@ -1,7 +1,7 @@
 //! Lists of steps on registers.
 
-use crate::prelude::*;
-use crate::{Step, Stop, TwoOp, Why, run, well_formed};
+use arbitrary_int::prelude::*;
+use arbitrary_int::{Step, Stop, TwoOp, Why, run, well_formed};
 
 /// The step of an operation on two registers.
 pub fn two(op: TwoOp, to: usize, left: usize, right: usize) -> Step {

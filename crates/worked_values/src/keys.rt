@@ -1,6 +1,6 @@
 //! Values as keys, in order, and as truth values.
 
-use crate::prelude::*;
+use arbitrary_int::prelude::*;
 use std::alloc::{AllocFailed, Global};
 use std::collections::HashMap;
 use std::hash::Hash;

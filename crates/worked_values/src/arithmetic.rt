@@ -1,6 +1,6 @@
 //! The four families of arithmetic, negation, and the exact operators.
 
-use crate::prelude::*;
+use arbitrary_int::prelude::*;
 
 #[test]
 fn wrapping_keeps_the_low_bits(rt: HostRuntime) {

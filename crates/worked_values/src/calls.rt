@@ -1,7 +1,7 @@
 //! The examples of docs/CALLS.md.
 
-use crate::prelude::*;
-use crate::{Watched, range_inclusive, try_product, try_sum};
+use arbitrary_int::prelude::*;
+use arbitrary_int::{Watched, range_inclusive, try_product, try_sum};
 use std::io::sink;
 use std::test::Fail;
 

@@ -1,8 +1,6 @@
-//! Worked values of numbers below 0: their order, text and right shifts are not those of their bits.
+//! Numbers below 0: their order, text and right shifts are not those of their bits.
 
-use crate::aliases::signed::{i4, i7, i120};
-use crate::signed::Int;
-use arbitrary_traits::integer::Integer;
+use arbitrary_int::prelude::*;
 use std::test::Fail;
 
 #[test]

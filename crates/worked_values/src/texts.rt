@@ -1,6 +1,6 @@
 //! Text: decimal for every kind of type, and the bases 2, 8 and 16.
 
-use crate::prelude::*;
+use arbitrary_int::prelude::*;
 use std::alloc::{AllocError, Global};
 use std::fmt;
 use std::test::Fail;

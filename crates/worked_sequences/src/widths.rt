@@ -1,8 +1,8 @@
 //! Runs at two widths.
 
-use crate::prelude::*;
-use crate::worked::steps::two;
-use crate::{ByOp, OneOp, Step, Stop, TwoOp, Why, run, run_wide, well_formed};
+use crate::steps::two;
+use arbitrary_int::prelude::*;
+use arbitrary_int::{ByOp, OneOp, Step, Stop, TwoOp, Why, run, run_wide, well_formed};
 
 /// A left shift of register 0.
 fn shifted(amount: u32) -> [Step; 1] {

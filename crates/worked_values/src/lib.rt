@@ -1,0 +1,23 @@
+//! Worked values of the calls on one value or two: each answer was computed apart from the library.
+#![tactic(auto)]
+
+#[cfg(test)]
+mod arithmetic;
+#[cfg(test)]
+mod bits;
+#[cfg(test)]
+mod calls;
+#[cfg(test)]
+mod ends;
+#[cfg(test)]
+mod first_version;
+#[cfg(test)]
+mod keys;
+#[cfg(test)]
+mod powers;
+#[cfg(test)]
+mod primitives;
+#[cfg(test)]
+mod signs;
+#[cfg(test)]
+mod texts;
