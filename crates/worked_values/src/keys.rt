@@ -1,5 +1,6 @@
 //! Values as keys, in order, and as truth values.
 
+use crate::same::same;
 use arbitrary_int::prelude::*;
 use std::alloc::{AllocFailed, Global};
 use std::collections::HashMap;
@@ -10,14 +11,14 @@ use std::test::Fail;
 fn keys_of_a_hash_map(rt: HostRuntime) -> Result<(), Fail> {
     let mut map = HashMap::new(rt.alloc());
     map.insert(u5::new(11), u7::new(9))?;
-    assert_eq!(rt; map.get(&u5::new(11)).copied(), Some(u7::new(9)));
-    assert_eq!(rt; map.get(&u5::new(12)).copied(), None);
+    same(&rt, map.get(&u5::new(11)).copied(), Some(u7::new(9)));
+    same(&rt, map.get(&u5::new(12)).copied(), None);
     let mut map = HashMap::new(rt.alloc());
     for number in -64i8..64 {
         map.insert(i7::masked_new(number), number)?;
     }
     for number in -64i8..64 {
-        assert_eq!(rt; map.get(&i7::masked_new(number)).copied(), Some(number));
+        same(&rt, map.get(&i7::masked_new(number)).copied(), Some(number));
     }
     Ok(())
 }
@@ -32,29 +33,29 @@ fn is_found<K: Hash + Copy + Drop>(alloc: Global, key: K) -> Result<bool, AllocF
 #[test]
 fn keys_of_each_storage(rt: HostRuntime) -> Result<(), Fail> {
     let alloc = rt.alloc();
-    assert!(rt; is_found(alloc, UInt::<u8, 8>::max_value())?);
-    assert!(rt; is_found(alloc, u14::max_value())?);
-    assert!(rt; is_found(alloc, u31::max_value())?);
-    assert!(rt; is_found(alloc, u53::max_value())?);
-    assert!(rt; is_found(alloc, u127::max_value())?);
-    assert!(rt; is_found(alloc, Int::<i8, 8>::min_value())?);
-    assert!(rt; is_found(alloc, i14::min_value())?);
-    assert!(rt; is_found(alloc, i31::min_value())?);
-    assert!(rt; is_found(alloc, i53::min_value())?);
-    assert!(rt; is_found(alloc, i127::min_value())?);
+    same(&rt, is_found(alloc, UInt::<u8, 8>::max_value())?, true);
+    same(&rt, is_found(alloc, u14::max_value())?, true);
+    same(&rt, is_found(alloc, u31::max_value())?, true);
+    same(&rt, is_found(alloc, u53::max_value())?, true);
+    same(&rt, is_found(alloc, u127::max_value())?, true);
+    same(&rt, is_found(alloc, Int::<i8, 8>::min_value())?, true);
+    same(&rt, is_found(alloc, i14::min_value())?, true);
+    same(&rt, is_found(alloc, i31::min_value())?, true);
+    same(&rt, is_found(alloc, i53::min_value())?, true);
+    same(&rt, is_found(alloc, i127::min_value())?, true);
     Ok(())
 }
 
 #[test]
 fn order_is_that_of_the_numbers(rt: HostRuntime) {
-    assert!(rt; u4::new(12) > u4::new(3));
-    assert!(rt; i4::new(-8) < i4::new(7));
+    same(&rt, u4::new(12) > u4::new(3), true);
+    same(&rt, i4::new(-8) < i4::new(7), true);
 }
 
 #[test]
 fn one_bit_and_truth(rt: HostRuntime) {
-    assert_eq!(rt; u1::from(true), u1::new(1));
-    assert_eq!(rt; u1::from(false), u1::new(0));
-    assert!(rt; bool::from(u1::new(1)));
-    assert!(rt; !bool::from(u1::new(0)));
+    same(&rt, u1::from(true), u1::new(1));
+    same(&rt, u1::from(false), u1::new(0));
+    same(&rt, bool::from(u1::new(1)), true);
+    same(&rt, bool::from(u1::new(0)), false);
 }

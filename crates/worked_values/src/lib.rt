@@ -1,10 +1,12 @@
-//! Worked values of the calls on one value or two: each answer was computed apart from the library.
+//! Worked values: each answer was computed apart from the library.
 #![tactic(auto)]
 
 #[cfg(test)]
 mod arithmetic;
 #[cfg(test)]
 mod bits;
+#[cfg(test)]
+mod bytes;
 #[cfg(test)]
 mod calls;
 #[cfg(test)]
@@ -18,6 +20,16 @@ mod powers;
 #[cfg(test)]
 mod primitives;
 #[cfg(test)]
+mod ranges;
+#[cfg(test)]
+mod same;
+#[cfg(test)]
 mod signs;
 #[cfg(test)]
+mod steps;
+#[cfg(test)]
+mod streams;
+#[cfg(test)]
 mod texts;
+#[cfg(test)]
+mod widths;

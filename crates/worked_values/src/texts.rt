@@ -1,5 +1,6 @@
 //! Text: decimal for every kind of type, and the bases 2, 8 and 16.
 
+use crate::same::same;
 use arbitrary_int::prelude::*;
 use std::alloc::{AllocError, Global};
 use std::fmt;
@@ -16,36 +17,51 @@ fn ends<V: Integer>(alloc: Global) -> Result<String, AllocError>
 #[test]
 fn decimals_at_full_width(rt: HostRuntime) -> Result<(), Fail> {
     let alloc = rt.alloc();
-    assert_eq!(rt; ends::<UInt<u8, 8>>(alloc)?.as_str(), "0 255 0 255");
-    assert_eq!(rt; ends::<UInt<u16, 16>>(alloc)?.as_str(), "0 65535 0 65535");
-    assert_eq!(rt;
+    same(&rt, ends::<UInt<u8, 8>>(alloc)?.as_str(), "0 255 0 255");
+    same(
+        &rt,
+        ends::<UInt<u16, 16>>(alloc)?.as_str(),
+        "0 65535 0 65535",
+    );
+    same(
+        &rt,
         ends::<UInt<u32, 32>>(alloc)?.as_str(),
-        "0 4294967295 0 4294967295"
+        "0 4294967295 0 4294967295",
     );
-    assert_eq!(rt;
+    same(
+        &rt,
         ends::<UInt<u64, 64>>(alloc)?.as_str(),
-        "0 18446744073709551615 0 18446744073709551615"
+        "0 18446744073709551615 0 18446744073709551615",
     );
-    assert_eq!(rt;
+    same(
+        &rt,
         ends::<UInt<u128, 128>>(alloc)?.as_str(),
-        "0 340282366920938463463374607431768211455 0 340282366920938463463374607431768211455"
+        "0 340282366920938463463374607431768211455 0 340282366920938463463374607431768211455",
     );
-    assert_eq!(rt; ends::<Int<i8, 8>>(alloc)?.as_str(), "-128 127 -128 127");
-    assert_eq!(rt;
+    same(
+        &rt,
+        ends::<Int<i8, 8>>(alloc)?.as_str(),
+        "-128 127 -128 127",
+    );
+    same(
+        &rt,
         ends::<Int<i16, 16>>(alloc)?.as_str(),
-        "-32768 32767 -32768 32767"
+        "-32768 32767 -32768 32767",
     );
-    assert_eq!(rt;
+    same(
+        &rt,
         ends::<Int<i32, 32>>(alloc)?.as_str(),
-        "-2147483648 2147483647 -2147483648 2147483647"
+        "-2147483648 2147483647 -2147483648 2147483647",
     );
-    assert_eq!(rt;
+    same(
+        &rt,
         ends::<Int<i64, 64>>(alloc)?.as_str(),
-        "-9223372036854775808 9223372036854775807 -9223372036854775808 9223372036854775807"
+        "-9223372036854775808 9223372036854775807 -9223372036854775808 9223372036854775807",
     );
-    assert_eq!(rt;
+    same(
+        &rt,
         ends::<Int<i128, 128>>(alloc)?.as_str(),
-        "-170141183460469231731687303715884105728 170141183460469231731687303715884105727 -170141183460469231731687303715884105728 170141183460469231731687303715884105727"
+        "-170141183460469231731687303715884105728 170141183460469231731687303715884105727 -170141183460469231731687303715884105728 170141183460469231731687303715884105727",
     );
     Ok(())
 }
@@ -53,35 +69,40 @@ fn decimals_at_full_width(rt: HostRuntime) -> Result<(), Fail> {
 #[test]
 fn decimals_at_narrower_widths(rt: HostRuntime) -> Result<(), Fail> {
     let alloc = rt.alloc();
-    assert_eq!(rt; ends::<u1>(alloc)?.as_str(), "0 1 0 1");
-    assert_eq!(rt; ends::<i1>(alloc)?.as_str(), "-1 0 -1 0");
-    assert_eq!(rt; ends::<u7>(alloc)?.as_str(), "0 127 0 127");
-    assert_eq!(rt; ends::<i7>(alloc)?.as_str(), "-64 63 -64 63");
-    assert_eq!(rt; ends::<u14>(alloc)?.as_str(), "0 16383 0 16383");
-    assert_eq!(rt; ends::<i14>(alloc)?.as_str(), "-8192 8191 -8192 8191");
-    assert_eq!(rt; ends::<u18>(alloc)?.as_str(), "0 262143 0 262143");
-    assert_eq!(rt;
+    same(&rt, ends::<u1>(alloc)?.as_str(), "0 1 0 1");
+    same(&rt, ends::<i1>(alloc)?.as_str(), "-1 0 -1 0");
+    same(&rt, ends::<u7>(alloc)?.as_str(), "0 127 0 127");
+    same(&rt, ends::<i7>(alloc)?.as_str(), "-64 63 -64 63");
+    same(&rt, ends::<u14>(alloc)?.as_str(), "0 16383 0 16383");
+    same(&rt, ends::<i14>(alloc)?.as_str(), "-8192 8191 -8192 8191");
+    same(&rt, ends::<u18>(alloc)?.as_str(), "0 262143 0 262143");
+    same(
+        &rt,
         ends::<i18>(alloc)?.as_str(),
-        "-131072 131071 -131072 131071"
+        "-131072 131071 -131072 131071",
     );
-    assert_eq!(rt;
+    same(
+        &rt,
         ends::<u53>(alloc)?.as_str(),
-        "0 9007199254740991 0 9007199254740991"
+        "0 9007199254740991 0 9007199254740991",
     );
-    assert_eq!(rt;
+    same(
+        &rt,
         ends::<i53>(alloc)?.as_str(),
-        "-4503599627370496 4503599627370495 -4503599627370496 4503599627370495"
+        "-4503599627370496 4503599627370495 -4503599627370496 4503599627370495",
     );
-    assert_eq!(rt;
+    same(
+        &rt,
         ends::<u127>(alloc)?.as_str(),
-        "0 170141183460469231731687303715884105727 0 170141183460469231731687303715884105727"
+        "0 170141183460469231731687303715884105727 0 170141183460469231731687303715884105727",
     );
-    assert_eq!(rt;
+    same(
+        &rt,
         ends::<i127>(alloc)?.as_str(),
-        "-85070591730234615865843651857942052864 85070591730234615865843651857942052863 -85070591730234615865843651857942052864 85070591730234615865843651857942052863"
+        "-85070591730234615865843651857942052864 85070591730234615865843651857942052863 -85070591730234615865843651857942052864 85070591730234615865843651857942052863",
     );
-    assert_eq!(rt; ends::<UInt<u128, 5>>(alloc)?.as_str(), "0 31 0 31");
-    assert_eq!(rt; ends::<Int<i32, 4>>(alloc)?.as_str(), "-8 7 -8 7");
+    same(&rt, ends::<UInt<u128, 5>>(alloc)?.as_str(), "0 31 0 31");
+    same(&rt, ends::<Int<i32, 4>>(alloc)?.as_str(), "-8 7 -8 7");
     Ok(())
 }
 
@@ -118,35 +139,41 @@ fn bases<V: Integer>(alloc: Global, value: V) -> Result<(String, String), AllocE
 fn numbers_from_zero_up_in_other_bases(rt: HostRuntime) -> Result<(), Fail> {
     let alloc = rt.alloc();
     let (by_strings, by_traits) = bases(alloc, u5::new(10))?;
-    assert_eq!(rt; by_strings.as_str(), "a A 12 1010");
-    assert_eq!(rt; by_traits.as_str(), by_strings.as_str());
+    same(&rt, by_strings.as_str(), "a A 12 1010");
+    same(&rt, by_traits.as_str(), by_strings.as_str());
     let (by_strings, by_traits) = bases(alloc, u7::new(0))?;
-    assert_eq!(rt; by_strings.as_str(), "0 0 0 0");
-    assert_eq!(rt; by_traits.as_str(), by_strings.as_str());
+    same(&rt, by_strings.as_str(), "0 0 0 0");
+    same(&rt, by_traits.as_str(), by_strings.as_str());
     let (by_strings, by_traits) = bases(alloc, UInt::<u8, 8>::max_value())?;
-    assert_eq!(rt; by_strings.as_str(), "ff FF 377 11111111");
-    assert_eq!(rt; by_traits.as_str(), by_strings.as_str());
+    same(&rt, by_strings.as_str(), "ff FF 377 11111111");
+    same(&rt, by_traits.as_str(), by_strings.as_str());
     let (by_strings, by_traits) = bases(alloc, UInt::<u16, 16>::max_value())?;
-    assert_eq!(rt; by_strings.as_str(), "ffff FFFF 177777 1111111111111111");
-    assert_eq!(rt; by_traits.as_str(), by_strings.as_str());
+    same(
+        &rt,
+        by_strings.as_str(),
+        "ffff FFFF 177777 1111111111111111",
+    );
+    same(&rt, by_traits.as_str(), by_strings.as_str());
     let (by_strings, by_traits) = bases(alloc, u31::new(0x1234_5678))?;
-    assert_eq!(rt;
+    same(
+        &rt,
         by_strings.as_str(),
-        "12345678 12345678 2215053170 10010001101000101011001111000"
+        "12345678 12345678 2215053170 10010001101000101011001111000",
     );
-    assert_eq!(rt; by_traits.as_str(), by_strings.as_str());
+    same(&rt, by_traits.as_str(), by_strings.as_str());
     let (by_strings, by_traits) = bases(alloc, UInt::<u64, 64>::max_value())?;
-    assert_eq!(rt;
+    same(
+        &rt,
         by_strings.as_str(),
-        "ffffffffffffffff FFFFFFFFFFFFFFFF 1777777777777777777777 1111111111111111111111111111111111111111111111111111111111111111"
+        "ffffffffffffffff FFFFFFFFFFFFFFFF 1777777777777777777777 1111111111111111111111111111111111111111111111111111111111111111",
     );
-    assert_eq!(rt; by_traits.as_str(), by_strings.as_str());
+    same(&rt, by_traits.as_str(), by_strings.as_str());
     let (by_strings, by_traits) = bases(alloc, i14::new(8191))?;
-    assert_eq!(rt; by_strings.as_str(), "1fff 1FFF 17777 1111111111111");
-    assert_eq!(rt; by_traits.as_str(), by_strings.as_str());
+    same(&rt, by_strings.as_str(), "1fff 1FFF 17777 1111111111111");
+    same(&rt, by_traits.as_str(), by_strings.as_str());
     let (by_strings, by_traits) = bases(alloc, 171u8)?;
-    assert_eq!(rt; by_strings.as_str(), "ab AB 253 10101011");
-    assert_eq!(rt; by_traits.as_str(), by_strings.as_str());
+    same(&rt, by_strings.as_str(), "ab AB 253 10101011");
+    same(&rt, by_traits.as_str(), by_strings.as_str());
     Ok(())
 }
 
@@ -154,35 +181,46 @@ fn numbers_from_zero_up_in_other_bases(rt: HostRuntime) -> Result<(), Fail> {
 fn negative_numbers_in_other_bases(rt: HostRuntime) -> Result<(), Fail> {
     let alloc = rt.alloc();
     let (by_strings, by_traits) = bases(alloc, i4::new(-1))?;
-    assert_eq!(rt; by_strings.as_str(), "ff FF 377 11111111");
-    assert_eq!(rt; by_traits.as_str(), by_strings.as_str());
+    same(&rt, by_strings.as_str(), "ff FF 377 11111111");
+    same(&rt, by_traits.as_str(), by_strings.as_str());
     let (by_strings, by_traits) = bases(alloc, Int::<i32, 4>::new(-1))?;
-    assert_eq!(rt;
+    same(
+        &rt,
         by_strings.as_str(),
-        "ffffffff FFFFFFFF 37777777777 11111111111111111111111111111111"
+        "ffffffff FFFFFFFF 37777777777 11111111111111111111111111111111",
     );
-    assert_eq!(rt; by_traits.as_str(), by_strings.as_str());
+    same(&rt, by_traits.as_str(), by_strings.as_str());
     let (by_strings, by_traits) = bases(alloc, Int::<i8, 8>::min_value())?;
-    assert_eq!(rt; by_strings.as_str(), "80 80 200 10000000");
-    assert_eq!(rt; by_traits.as_str(), by_strings.as_str());
+    same(&rt, by_strings.as_str(), "80 80 200 10000000");
+    same(&rt, by_traits.as_str(), by_strings.as_str());
     let (by_strings, by_traits) = bases(alloc, i14::new(-3))?;
-    assert_eq!(rt; by_strings.as_str(), "fffd FFFD 177775 1111111111111101");
-    assert_eq!(rt; by_traits.as_str(), by_strings.as_str());
+    same(
+        &rt,
+        by_strings.as_str(),
+        "fffd FFFD 177775 1111111111111101",
+    );
+    same(&rt, by_traits.as_str(), by_strings.as_str());
     let (by_strings, by_traits) = bases(alloc, Int::<i64, 64>::new(-2))?;
-    assert_eq!(rt;
+    same(
+        &rt,
         by_strings.as_str(),
-        "fffffffffffffffe FFFFFFFFFFFFFFFE 1777777777777777777776 1111111111111111111111111111111111111111111111111111111111111110"
+        "fffffffffffffffe FFFFFFFFFFFFFFFE 1777777777777777777776 1111111111111111111111111111111111111111111111111111111111111110",
     );
-    assert_eq!(rt; by_traits.as_str(), by_strings.as_str());
+    same(&rt, by_traits.as_str(), by_strings.as_str());
     let (by_strings, by_traits) = bases(alloc, i33::min_value())?;
-    assert_eq!(rt;
+    same(
+        &rt,
         by_strings.as_str(),
-        "ffffffff00000000 FFFFFFFF00000000 1777777777740000000000 1111111111111111111111111111111100000000000000000000000000000000"
+        "ffffffff00000000 FFFFFFFF00000000 1777777777740000000000 1111111111111111111111111111111100000000000000000000000000000000",
     );
-    assert_eq!(rt; by_traits.as_str(), by_strings.as_str());
+    same(&rt, by_traits.as_str(), by_strings.as_str());
     let (by_strings, by_traits) = bases(alloc, -5i16)?;
-    assert_eq!(rt; by_strings.as_str(), "fffb FFFB 177773 1111111111111011");
-    assert_eq!(rt; by_traits.as_str(), by_strings.as_str());
+    same(
+        &rt,
+        by_strings.as_str(),
+        "fffb FFFB 177773 1111111111111011",
+    );
+    same(&rt, by_traits.as_str(), by_strings.as_str());
     Ok(())
 }
 
@@ -190,41 +228,46 @@ fn negative_numbers_in_other_bases(rt: HostRuntime) -> Result<(), Fail> {
 fn wide_storages_in_other_bases(rt: HostRuntime) -> Result<(), Fail> {
     let alloc = rt.alloc();
     let (by_strings, by_traits) = bases(alloc, u65::new(60))?;
-    assert_eq!(rt; by_strings.as_str(), "3c 3C 74 111100");
-    assert_eq!(rt; by_traits.as_str(), by_strings.as_str());
+    same(&rt, by_strings.as_str(), "3c 3C 74 111100");
+    same(&rt, by_traits.as_str(), by_strings.as_str());
     let (by_strings, by_traits) = bases(alloc, u65::new(0x1_0000_0000_0000_0000))?;
-    assert_eq!(rt;
+    same(
+        &rt,
         by_strings.as_str(),
-        "10000000000000000 10000000000000000 2000000000000000000000 10000000000000000000000000000000000000000000000000000000000000000"
+        "10000000000000000 10000000000000000 2000000000000000000000 10000000000000000000000000000000000000000000000000000000000000000",
     );
-    assert_eq!(rt; by_traits.as_str(), by_strings.as_str());
+    same(&rt, by_traits.as_str(), by_strings.as_str());
     let (by_strings, by_traits) = bases(
         alloc,
         UInt::<u128, 128>::new(0x0123_4567_89ab_cdef_0fed_cba9_8765_4321),
     )?;
-    assert_eq!(rt;
+    same(
+        &rt,
         by_strings.as_str(),
-        "123456789abcdef0fedcba987654321 123456789ABCDEF0FEDCBA987654321 11064254742325715736077556272460731241441 1001000110100010101100111100010011010101111001101111011110000111111101101110010111010100110000111011001010100001100100001"
+        "123456789abcdef0fedcba987654321 123456789ABCDEF0FEDCBA987654321 11064254742325715736077556272460731241441 1001000110100010101100111100010011010101111001101111011110000111111101101110010111010100110000111011001010100001100100001",
     );
-    assert_eq!(rt; by_traits.as_str(), by_strings.as_str());
+    same(&rt, by_traits.as_str(), by_strings.as_str());
     let (by_strings, by_traits) = bases(alloc, UInt::<u128, 128>::max_value())?;
-    assert_eq!(rt;
+    same(
+        &rt,
         by_strings.as_str(),
-        "ffffffffffffffffffffffffffffffff FFFFFFFFFFFFFFFFFFFFFFFFFFFFFFFF 3777777777777777777777777777777777777777777 11111111111111111111111111111111111111111111111111111111111111111111111111111111111111111111111111111111111111111111111111111111"
+        "ffffffffffffffffffffffffffffffff FFFFFFFFFFFFFFFFFFFFFFFFFFFFFFFF 3777777777777777777777777777777777777777777 11111111111111111111111111111111111111111111111111111111111111111111111111111111111111111111111111111111111111111111111111111111",
     );
-    assert_eq!(rt; by_traits.as_str(), by_strings.as_str());
+    same(&rt, by_traits.as_str(), by_strings.as_str());
     let (by_strings, by_traits) = bases(alloc, i100::new(-5))?;
-    assert_eq!(rt;
+    same(
+        &rt,
         by_strings.as_str(),
-        "fffffffffffffffffffffffffffffffb FFFFFFFFFFFFFFFFFFFFFFFFFFFFFFFB 3777777777777777777777777777777777777777773 11111111111111111111111111111111111111111111111111111111111111111111111111111111111111111111111111111111111111111111111111111011"
+        "fffffffffffffffffffffffffffffffb FFFFFFFFFFFFFFFFFFFFFFFFFFFFFFFB 3777777777777777777777777777777777777777773 11111111111111111111111111111111111111111111111111111111111111111111111111111111111111111111111111111111111111111111111111111011",
     );
-    assert_eq!(rt; by_traits.as_str(), by_strings.as_str());
+    same(&rt, by_traits.as_str(), by_strings.as_str());
     let (by_strings, by_traits) = bases(alloc, Int::<i128, 128>::min_value())?;
-    assert_eq!(rt;
+    same(
+        &rt,
         by_strings.as_str(),
-        "80000000000000000000000000000000 80000000000000000000000000000000 2000000000000000000000000000000000000000000 10000000000000000000000000000000000000000000000000000000000000000000000000000000000000000000000000000000000000000000000000000000"
+        "80000000000000000000000000000000 80000000000000000000000000000000 2000000000000000000000000000000000000000000 10000000000000000000000000000000000000000000000000000000000000000000000000000000000000000000000000000000000000000000000000000000",
     );
-    assert_eq!(rt; by_traits.as_str(), by_strings.as_str());
+    same(&rt, by_traits.as_str(), by_strings.as_str());
     Ok(())
 }
 
@@ -232,28 +275,33 @@ fn wide_storages_in_other_bases(rt: HostRuntime) -> Result<(), Fail> {
 fn alternate_and_padded_texts(rt: HostRuntime) -> Result<(), Fail> {
     let alloc = rt.alloc();
     let ten = u5::new(10);
-    assert_eq!(rt;
+    same(
+        &rt,
         format!(in alloc; "{ten:#x} {ten:#X} {ten:#o} {ten:#b}")?.as_str(),
-        "0xa 0xA 0o12 0b1010"
+        "0xa 0xA 0o12 0b1010",
     );
-    assert_eq!(rt;
+    same(
+        &rt,
         format!(in alloc; "{ten:4x} {ten:<4x} {ten:04x} {ten:#06x}")?.as_str(),
-        "   a a    000a 0x000a"
+        "   a a    000a 0x000a",
     );
     let sixty = u65::new(60);
-    assert_eq!(rt;
+    same(
+        &rt,
         format!(in alloc; "{sixty} {sixty:?} {sixty:08b} {sixty:5} {sixty:+}")?.as_str(),
-        "60 60 00111100    60 +60"
+        "60 60 00111100    60 +60",
     );
     let less = i7::new(-3);
-    assert_eq!(rt;
+    same(
+        &rt,
         format!(in alloc; "{less:05} {less:#?} {less:#x} {less:>4}")?.as_str(),
-        "-0003 -3 0xfd   -3"
+        "-0003 -3 0xfd   -3",
     );
     let least = Int::<i128, 128>::new(-1);
-    assert_eq!(rt;
+    same(
+        &rt,
         format!(in alloc; "{least:#x}")?.as_str(),
-        "0xffffffffffffffffffffffffffffffff"
+        "0xffffffffffffffffffffffffffffffff",
     );
     Ok(())
 }
@@ -262,10 +310,11 @@ fn alternate_and_padded_texts(rt: HostRuntime) -> Result<(), Fail> {
 fn refusal(rt: HostRuntime) -> Result<(), Fail> {
     let alloc = rt.alloc();
     let text = "Value too large to fit within this integer type";
-    assert_eq!(rt; format!(in alloc; "{}", TryNewError)?.as_str(), text);
-    assert_eq!(rt;
+    same(&rt, format!(in alloc; "{}", TryNewError)?.as_str(), text);
+    same(
+        &rt,
         format!(in alloc; "{:?}", TryNewError)?.as_str(),
-        "TryNewError"
+        "TryNewError",
     );
     Ok(())
 }
