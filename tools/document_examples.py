@@ -11,15 +11,18 @@ import sys
 from pathlib import Path
 
 ROOT = Path(__file__).resolve().parent.parent
-# What the tests of each crate bring in. A table of docs/CALLS.md runs in arbitrary_int, unless its title is named here.
+# The modules of tests that docs/CALLS.md makes, with what each brings in. A table runs in worked_values, unless its title is
+# named here.
 USES = {
-    'arbitrary_int': [
-        'use crate::prelude::*;', 'use crate::{Watched, range_inclusive, try_product, try_sum};', 'use std::io::sink;',
-        'use std::test::Fail;',
+    'worked_values/src/calls.rt': [
+        'use crate::same::same;', 'use arbitrary_int::prelude::*;',
+        'use arbitrary_int::{Watched, range_inclusive, try_product, try_sum};', 'use std::io::sink;', 'use std::test::Fail;',
     ],
-    'bit_fields': ['use crate::{Record, disjoint};', 'use arbitrary_int::prelude::*;'],
+    'bit_fields/src/worked/calls.rt': ['use crate::{Record, disjoint};', 'use arbitrary_int::prelude::*;'],
 }
-ELSEWHERE = {'Fields in a record': 'bit_fields'}
+ELSEWHERE = {'Fields in a record': 'bit_fields/src/worked/calls.rt'}
+# How many examples one test has: what a proof takes grows with the square of a test's length.
+AT_ONCE = 8
 FROM_RUST = ROOT / 'crates/proving/src/from_rust.rt'
 PROVING = ROOT / 'crates/proving'
 
@@ -39,27 +42,35 @@ def tables(page):
         yield title, examples
 
 
-def test(name, known, examples):
-    """A test of each example, with what is known before them."""
-    takes_memory = any('in alloc' in expression for expression, _ in examples)
-    lines = ['', '#[test]', f'fn {name}(rt: HostRuntime){" -> Result<(), Fail>" if takes_memory else ""} {{']
-    lines += ['    let alloc = rt.alloc();'] if takes_memory else []
-    lines += [f'    {line}' for line in known]
-    lines += [f'    assert_eq!(rt; {expression}, {value});' for expression, value in examples]
-    return lines + (['    Ok(())', '}'] if takes_memory else ['}'])
+def tests(name, known, examples, line):
+    """Tests of the examples, so many in each, with what of the known values they name. The line says how an example is asked."""
+    lines = []
+    for start in range(0, len(examples), AT_ONCE):
+        part = examples[start:start + AT_ONCE]
+        words = set(re.findall(r'\w+', ' '.join(sum(part, []))))
+        takes_memory = any('in alloc' in expression for expression, _ in part)
+        number = f'_{start + 1}' if len(examples) > AT_ONCE else ''
+        lines += ['', '#[test]', f'fn {name}{number}(rt: HostRuntime){" -> Result<(), Fail>" if takes_memory else ""} {{']
+        lines += ['    let alloc = rt.alloc();'] if takes_memory else []
+        lines += [f'    let {word} = {value};' for word, value in known if word in words]
+        lines += ['    ' + line.format(*example) for example in part]
+        lines += ['    Ok(())', '}'] if takes_memory else ['}']
+    return lines
 
 
-def calls(crate):
-    """The module of tests that the tables of calls make in a crate."""
-    lines = ['//! The examples of docs/CALLS.md.', '', *USES[crate]]
+def calls(module):
+    """The module of tests that the tables of calls make there."""
+    uses = USES[module]
+    line = 'same(&rt, {}, {});' if 'use crate::same::same;' in uses else 'assert_eq!(rt; {}, {});'
+    lines = ['//! The examples of docs/CALLS.md.', '', *uses]
     for title, examples in tables('docs/CALLS.md'):
-        if ELSEWHERE.get(title, 'arbitrary_int') == crate:
-            lines += test(re.sub(r'\W+', '_', title.lower()), [], examples)
+        if ELSEWHERE.get(title, 'worked_values/src/calls.rt') == module:
+            lines += tests(re.sub(r'\W+', '_', title.lower()), [], examples, line)
     return '\n'.join(lines) + '\n'
 
 
 def from_rust():
-    """The module of tests that the table of lines from Rust makes, of so many lines each."""
+    """The module of tests that the table of lines from Rust makes."""
     title, examples = next(table for table in tables('docs/DIFFERENCES.md') if table[0] == 'In Rust you wrote')
     known = [
         ('n', 'u4::new(9)'), ('a', 'u12::new(1000)'), ('b', 'u12::new(7)'), ('s', 'i12::new(-300)'),
@@ -69,12 +80,7 @@ def from_rust():
         '//! The table "In Rust you wrote" of docs/DIFFERENCES.md.', '', 'use crate::constants::{LIMIT, WIDTH, limit};',
         'use crate::copies::Frame;', 'use arbitrary_int::prelude::*;', 'use arbitrary_int::try_sum;',
     ]
-    at_once = 8
-    for start in range(0, len(examples), at_once):
-        part = examples[start:start + at_once]
-        words = set(re.findall(r'\w+', ' '.join(sum(part, []))))
-        lines += test(f'lines_from_{start + 1}', [f'let {name} = {value};' for name, value in known if name in words], part)
-    return '\n'.join(lines) + '\n'
+    return '\n'.join(lines + tests('lines_from', known, examples, 'assert_eq!(rt; {}, {});')) + '\n'
 
 
 def squeezed(text):
@@ -95,8 +101,8 @@ def refused(page):
 
 def main():
     wrong = []
-    tests = [(ROOT / f'crates/{crate}/src/worked/calls.rt', calls(crate)) for crate in USES]
-    for file, text in [*tests, (FROM_RUST, from_rust())]:
+    modules = [(ROOT / 'crates' / module, calls(module)) for module in USES]
+    for file, text in [*modules, (FROM_RUST, from_rust())]:
         if '--write' in sys.argv[1:]:
             file.write_text(text)
         elif squeezed(file.read_text()) != squeezed(text):

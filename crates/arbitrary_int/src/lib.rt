@@ -15,8 +15,6 @@ pub mod steps;
 pub mod totals;
 pub mod traits;
 pub mod widths;
-#[cfg(test)]
-mod worked;
 
 pub use crate::borsh::BorshDeserialize;
 pub use crate::borsh::BorshSerialize;

@@ -6,5 +6,3 @@ pub mod integer;
 pub mod mates;
 pub mod primitives;
 pub mod shift_amount;
-#[cfg(test)]
-mod tests;

@@ -2,8 +2,8 @@
 
 ghost use Rattle.std.specs.Prelude.{◌<◌, IfOk, IfSome};
 
-use crate::Watched;
-use crate::prelude::*;
+use arbitrary_int::Watched;
+use arbitrary_int::prelude::*;
 use std::io;
 use std::io::{ErrorKind, Read, Write};
 use std::process::Abort;

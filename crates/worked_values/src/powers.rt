@@ -1,6 +1,6 @@
 //! Powers and the multiplications that they cost.
 
-use crate::prelude::*;
+use arbitrary_int::prelude::*;
 
 #[test]
 fn powers_end_at_the_range(rt: HostRuntime) {

@@ -1,8 +1,9 @@
 //! Runs at two widths.
 
-use crate::prelude::*;
-use crate::worked::steps::two;
-use crate::{ByOp, OneOp, Step, Stop, TwoOp, Why, run, run_wide, well_formed};
+use crate::same::same;
+use crate::steps::two;
+use arbitrary_int::prelude::*;
+use arbitrary_int::{ByOp, OneOp, Step, Stop, TwoOp, Why, run, run_wide, well_formed};
 
 /// A left shift of register 0.
 fn shifted(amount: u32) -> [Step; 1] {
@@ -32,12 +33,12 @@ fn a_shift_by_the_narrow_width_is_no_low_bit_step(rt: HostRuntime) {
     let mut wide = [u14::new(1)];
     let mut narrow = [u7::new(0)];
     let mut first = [u7::new(1)];
-    assert!(rt; well_formed(&steps, 1));
-    assert_eq!(rt; run_wide(&steps, &mut wide, &mut narrow), Ok(()));
-    assert_eq!(rt; run(&steps, &mut first), Ok(()));
-    assert_eq!(rt; wide, [u14::new(128)]);
-    assert_eq!(rt; narrow, [u7::new(0)]);
-    assert_eq!(rt; first, [u7::new(1)]);
+    same(&rt, well_formed(&steps, 1), true);
+    same(&rt, run_wide(&steps, &mut wide, &mut narrow), Ok(()));
+    same(&rt, run(&steps, &mut first), Ok(()));
+    same(&rt, wide, [u14::new(128)]);
+    same(&rt, narrow, [u7::new(0)]);
+    same(&rt, first, [u7::new(1)]);
 }
 
 #[test]
@@ -46,12 +47,12 @@ fn a_shift_below_the_narrow_width_is_one(rt: HostRuntime) {
     let mut wide = [u14::new(3)];
     let mut narrow = [i7::new(0)];
     let mut first = [i7::new(3)];
-    assert!(rt; well_formed(&steps, 1));
-    assert_eq!(rt; run_wide(&steps, &mut wide, &mut narrow), Ok(()));
-    assert_eq!(rt; run(&steps, &mut first), Ok(()));
-    assert_eq!(rt; wide, [u14::new(192)]);
-    assert_eq!(rt; narrow, [i7::new(-64)]);
-    assert_eq!(rt; first, narrow);
+    same(&rt, well_formed(&steps, 1), true);
+    same(&rt, run_wide(&steps, &mut wide, &mut narrow), Ok(()));
+    same(&rt, run(&steps, &mut first), Ok(()));
+    same(&rt, wide, [u14::new(192)]);
+    same(&rt, narrow, [i7::new(-64)]);
+    same(&rt, first, narrow);
 }
 
 #[test]
@@ -60,12 +61,12 @@ fn low_bits_without_a_sign(rt: HostRuntime) {
     let mut wide = [u14::new(200), u14::new(300)];
     let mut narrow = [u7::new(0), u7::new(0)];
     let mut first = [u7::new(72), u7::new(44)];
-    assert!(rt; well_formed(&steps, 2));
-    assert_eq!(rt; run_wide(&steps, &mut wide, &mut narrow), Ok(()));
-    assert_eq!(rt; run(&steps, &mut first), Ok(()));
-    assert_eq!(rt; wide, [u14::new(10848), u14::new(16083)]);
-    assert_eq!(rt; narrow, [u7::new(96), u7::new(83)]);
-    assert_eq!(rt; first, narrow);
+    same(&rt, well_formed(&steps, 2), true);
+    same(&rt, run_wide(&steps, &mut wide, &mut narrow), Ok(()));
+    same(&rt, run(&steps, &mut first), Ok(()));
+    same(&rt, wide, [u14::new(10848), u14::new(16083)]);
+    same(&rt, narrow, [u7::new(96), u7::new(83)]);
+    same(&rt, first, narrow);
 }
 
 #[test]
@@ -74,12 +75,12 @@ fn low_bits_with_a_sign(rt: HostRuntime) {
     let mut wide = [u14::new(200), u14::new(300)];
     let mut narrow = [i7::new(0), i7::new(0)];
     let mut first = [i7::new(-56), i7::new(44)];
-    assert!(rt; well_formed(&steps, 2));
-    assert_eq!(rt; run_wide(&steps, &mut wide, &mut narrow), Ok(()));
-    assert_eq!(rt; run(&steps, &mut first), Ok(()));
-    assert_eq!(rt; wide, [u14::new(10848), u14::new(16083)]);
-    assert_eq!(rt; narrow, [i7::new(-32), i7::new(-45)]);
-    assert_eq!(rt; first, narrow);
+    same(&rt, well_formed(&steps, 2), true);
+    same(&rt, run_wide(&steps, &mut wide, &mut narrow), Ok(()));
+    same(&rt, run(&steps, &mut first), Ok(()));
+    same(&rt, wide, [u14::new(10848), u14::new(16083)]);
+    same(&rt, narrow, [i7::new(-32), i7::new(-45)]);
+    same(&rt, first, narrow);
 }
 
 #[test]
@@ -88,21 +89,22 @@ fn the_narrow_registers_are_told_after_a_stop_too(rt: HostRuntime) {
     let mut wide = [u14::new(200), u14::new(16383)];
     let mut narrow = [u7::new(0), u7::new(0)];
     let why = Why::Refused;
-    assert!(rt; well_formed(&steps, 2));
-    assert_eq!(rt;
+    same(&rt, well_formed(&steps, 2), true);
+    same(
+        &rt,
         run_wide(&steps, &mut wide, &mut narrow),
-        Err(Stop { at: 0, why })
+        Err(Stop { at: 0, why }),
     );
-    assert_eq!(rt; wide, [u14::new(200), u14::new(16383)]);
-    assert_eq!(rt; narrow, [u7::new(72), u7::new(127)]);
+    same(&rt, wide, [u14::new(200), u14::new(16383)]);
+    same(&rt, narrow, [u7::new(72), u7::new(127)]);
 }
 
 #[test]
 fn no_steps_on_no_registers_of_two_widths(rt: HostRuntime) {
     let mut wide: [u14; 0] = [];
     let mut narrow: [u7; 0] = [];
-    assert!(rt; well_formed(&[], 0));
-    assert_eq!(rt; run_wide(&[], &mut wide, &mut narrow), Ok(()));
+    same(&rt, well_formed(&[], 0), true);
+    same(&rt, run_wide(&[], &mut wide, &mut narrow), Ok(()));
 }
 
 #[test]
@@ -113,11 +115,11 @@ fn checked_steps_give_the_same_at_a_wider_type(rt: HostRuntime) {
     ];
     let mut narrow = [i7::new(-7), i7::new(7)];
     let mut wide = [i14::new(-7), i14::new(7)];
-    assert!(rt; well_formed(&steps, 2));
-    assert_eq!(rt; run(&steps, &mut narrow), Ok(()));
-    assert_eq!(rt; run(&steps, &mut wide), Ok(()));
-    assert_eq!(rt; narrow, [i7::new(-49), i7::new(56)]);
-    assert_eq!(rt; wide, [i14::new(-49), i14::new(56)]);
+    same(&rt, well_formed(&steps, 2), true);
+    same(&rt, run(&steps, &mut narrow), Ok(()));
+    same(&rt, run(&steps, &mut wide), Ok(()));
+    same(&rt, narrow, [i7::new(-49), i7::new(56)]);
+    same(&rt, wide, [i14::new(-49), i14::new(56)]);
 }
 
 #[test]
@@ -130,9 +132,9 @@ fn a_wider_type_has_room_for_the_step_that_stops(rt: HostRuntime) {
     let mut narrow = [i7::new(-7), i7::new(7)];
     let mut wide = [i14::new(-7), i14::new(7)];
     let why = Why::Refused;
-    assert!(rt; well_formed(&steps, 2));
-    assert_eq!(rt; run(&steps, &mut narrow), Err(Stop { at: 2, why }));
-    assert_eq!(rt; run(&steps, &mut wide), Ok(()));
-    assert_eq!(rt; narrow, [i7::new(-49), i7::new(56)]);
-    assert_eq!(rt; wide, [i14::new(-2744), i14::new(56)]);
+    same(&rt, well_formed(&steps, 2), true);
+    same(&rt, run(&steps, &mut narrow), Err(Stop { at: 2, why }));
+    same(&rt, run(&steps, &mut wide), Ok(()));
+    same(&rt, narrow, [i7::new(-49), i7::new(56)]);
+    same(&rt, wide, [i14::new(-2744), i14::new(56)]);
 }

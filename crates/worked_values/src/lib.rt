@@ -1,0 +1,35 @@
+//! Worked values: each answer was computed apart from the library.
+#![tactic(auto)]
+
+#[cfg(test)]
+mod arithmetic;
+#[cfg(test)]
+mod bits;
+#[cfg(test)]
+mod bytes;
+#[cfg(test)]
+mod calls;
+#[cfg(test)]
+mod ends;
+#[cfg(test)]
+mod first_version;
+#[cfg(test)]
+mod keys;
+#[cfg(test)]
+mod powers;
+#[cfg(test)]
+mod primitives;
+#[cfg(test)]
+mod ranges;
+#[cfg(test)]
+mod same;
+#[cfg(test)]
+mod signs;
+#[cfg(test)]
+mod steps;
+#[cfg(test)]
+mod streams;
+#[cfg(test)]
+mod texts;
+#[cfg(test)]
+mod widths;
