@@ -2,6 +2,7 @@
 
 ghost use Rattle.std.specs.Prelude.{◌<◌, IfOk, IfSome};
 
+use crate::same::same;
 use arbitrary_int::Watched;
 use arbitrary_int::prelude::*;
 use std::io;
@@ -72,49 +73,71 @@ impl Write for Drip {
     }
 }
 
+/// How many calls are made for so many bytes: the one that finds no further byte is the last.
+fn calls(lasts: usize, count: usize) -> usize {
+    if lasts == count {
+        lasts
+    } else {
+        lasts.saturating_add(1)
+    }
+}
+
+/// What is read where the stream lasts for so many of the value's bytes.
+fn is_read<V: FixedWidth>(rt: &impl Abort, value: V, lasts: usize, fault: Option<ErrorKind>)
+    requires { V.valid }
+{
+    let mut bytes = [0; 16];
+    let count = value.to_borsh_bytes(&mut bytes);
+    let mut reader = Watched::new(Drip::new(bytes, lasts, fault));
+    let read = V::deserialize_reader(&mut reader).map_err(|error| error.kind());
+    let wanted = if lasts == count {
+        Ok(value)
+    } else {
+        Err(fault.unwrap_or(ErrorKind::UnexpectedEof))
+    };
+    same(rt, read, wanted);
+    same(rt, reader.failed(), lasts != count && fault.is_some());
+    same(rt, reader.into_inner().calls, calls(lasts, count));
+}
+
+/// What is written where the stream lasts for so many of the value's bytes.
+fn is_written<V: FixedWidth>(rt: &impl Abort, value: V, lasts: usize, fault: Option<ErrorKind>)
+    requires { V.valid }
+{
+    let mut bytes = [0; 16];
+    let count = value.to_borsh_bytes(&mut bytes);
+    let mut writer = Watched::new(Drip::new([0x7E; 16], lasts, fault));
+    let written = value.serialize(&mut writer).map_err(|error| error.kind());
+    let wanted = if lasts == count {
+        Ok(())
+    } else {
+        Err(fault.unwrap_or(ErrorKind::WriteZero))
+    };
+    same(rt, written, wanted);
+    same(rt, writer.failed(), lasts != count);
+    let taken = writer.into_inner();
+    same(rt, taken.calls, calls(lasts, count));
+    for (place, byte) in taken.bytes.iter().enumerate() {
+        let wanted = if place < lasts {
+            bytes.get(place).copied()
+        } else {
+            Some(0x7E)
+        };
+        same(rt, Some(*byte), wanted);
+    }
+}
+
 /// Reads the value from its bytes, and writes it, where the stream ends or fails after each number of bytes up to all.
 fn goes_through_streams<V: FixedWidth>(rt: &impl Abort, value: V, bytes: &[u8])
     requires { V.valid }
 {
     let mut all = [0; 16];
     let count = value.to_borsh_bytes(&mut all);
-    assert_eq!(rt; all.get(..count), Some(bytes));
+    same(rt, all.get(..count), Some(bytes));
     for fault in [None, Some(ErrorKind::Other), Some(ErrorKind::Interrupted)] {
-        for lasts in 0..=bytes.len() {
-            let is_whole = lasts == bytes.len();
-            // the call that finds no further byte is the last
-            let calls = if is_whole {
-                lasts
-            } else {
-                lasts.saturating_add(1)
-            };
-
-            let mut reader = Watched::new(Drip::new(all, lasts, fault));
-            let read = V::deserialize_reader(&mut reader).map_err(|error| error.kind());
-            let wanted = if is_whole {
-                Ok(value)
-            } else {
-                Err(fault.unwrap_or(ErrorKind::UnexpectedEof))
-            };
-            assert_eq!(rt; read, wanted, "read after {lasts} bytes");
-            assert_eq!(rt; reader.failed(), !is_whole && fault.is_some());
-            assert_eq!(rt; reader.into_inner().calls, calls);
-
-            let mut writer = Watched::new(Drip::new([0x7E; 16], lasts, fault));
-            let written = value.serialize(&mut writer).map_err(|error| error.kind());
-            let wanted = if is_whole {
-                Ok(())
-            } else {
-                Err(fault.unwrap_or(ErrorKind::WriteZero))
-            };
-            assert_eq!(rt; written, wanted, "written after {lasts} bytes");
-            assert_eq!(rt; writer.failed(), !is_whole);
-            let taken = writer.into_inner();
-            assert_eq!(rt; taken.calls, calls);
-            for place in 0..16 {
-                let byte = if place < lasts { all[place] } else { 0x7E };
-                assert_eq!(rt; taken.bytes[place], byte);
-            }
+        for lasts in 0..=count {
+            is_read(rt, value, lasts, fault);
+            is_written(rt, value, lasts, fault);
         }
     }
 }

@@ -4,105 +4,76 @@ use crate::same::same;
 use arbitrary_int::prelude::*;
 use std::alloc::{AllocError, Global};
 use std::fmt;
+use std::process::Abort;
 use std::test::Fail;
 
-/// The least and the greatest number, by `{}` and by `{:?}`.
-fn ends<V: Integer>(alloc: Global) -> Result<String, AllocError>
+/// How the least and the greatest number are written, by `{}` and by `{:?}`.
+fn has_ends<V: Integer>(rt: &impl Abort, alloc: Global, text: &str) -> Result<(), AllocError>
     requires { V.valid }
 {
     let (least, greatest) = (V::min_value(), V::max_value());
-    format!(in alloc; "{least} {greatest} {least:?} {greatest:?}")
+    let written = format!(in alloc; "{least} {greatest} {least:?} {greatest:?}")?;
+    same(rt, written.as_str(), text);
+    Ok(())
 }
 
 #[test]
 fn decimals_at_full_width(rt: HostRuntime) -> Result<(), Fail> {
     let alloc = rt.alloc();
-    same(&rt, ends::<UInt<u8, 8>>(alloc)?.as_str(), "0 255 0 255");
-    same(
+    has_ends::<UInt<u8, 8>>(&rt, alloc, "0 255 0 255")?;
+    has_ends::<UInt<u16, 16>>(&rt, alloc, "0 65535 0 65535")?;
+    has_ends::<UInt<u32, 32>>(&rt, alloc, "0 4294967295 0 4294967295")?;
+    has_ends::<UInt<u64, 64>>(&rt, alloc, "0 18446744073709551615 0 18446744073709551615")?;
+    has_ends::<UInt<u128, 128>>(
         &rt,
-        ends::<UInt<u16, 16>>(alloc)?.as_str(),
-        "0 65535 0 65535",
-    );
-    same(
-        &rt,
-        ends::<UInt<u32, 32>>(alloc)?.as_str(),
-        "0 4294967295 0 4294967295",
-    );
-    same(
-        &rt,
-        ends::<UInt<u64, 64>>(alloc)?.as_str(),
-        "0 18446744073709551615 0 18446744073709551615",
-    );
-    same(
-        &rt,
-        ends::<UInt<u128, 128>>(alloc)?.as_str(),
+        alloc,
         "0 340282366920938463463374607431768211455 0 340282366920938463463374607431768211455",
-    );
-    same(
+    )?;
+    has_ends::<Int<i8, 8>>(&rt, alloc, "-128 127 -128 127")?;
+    has_ends::<Int<i16, 16>>(&rt, alloc, "-32768 32767 -32768 32767")?;
+    has_ends::<Int<i32, 32>>(&rt, alloc, "-2147483648 2147483647 -2147483648 2147483647")?;
+    has_ends::<Int<i64, 64>>(
         &rt,
-        ends::<Int<i8, 8>>(alloc)?.as_str(),
-        "-128 127 -128 127",
-    );
-    same(
-        &rt,
-        ends::<Int<i16, 16>>(alloc)?.as_str(),
-        "-32768 32767 -32768 32767",
-    );
-    same(
-        &rt,
-        ends::<Int<i32, 32>>(alloc)?.as_str(),
-        "-2147483648 2147483647 -2147483648 2147483647",
-    );
-    same(
-        &rt,
-        ends::<Int<i64, 64>>(alloc)?.as_str(),
+        alloc,
         "-9223372036854775808 9223372036854775807 -9223372036854775808 9223372036854775807",
-    );
-    same(
+    )?;
+    has_ends::<Int<i128, 128>>(
         &rt,
-        ends::<Int<i128, 128>>(alloc)?.as_str(),
+        alloc,
         "-170141183460469231731687303715884105728 170141183460469231731687303715884105727 -170141183460469231731687303715884105728 170141183460469231731687303715884105727",
-    );
+    )?;
     Ok(())
 }
 
 #[test]
 fn decimals_at_narrower_widths(rt: HostRuntime) -> Result<(), Fail> {
     let alloc = rt.alloc();
-    same(&rt, ends::<u1>(alloc)?.as_str(), "0 1 0 1");
-    same(&rt, ends::<i1>(alloc)?.as_str(), "-1 0 -1 0");
-    same(&rt, ends::<u7>(alloc)?.as_str(), "0 127 0 127");
-    same(&rt, ends::<i7>(alloc)?.as_str(), "-64 63 -64 63");
-    same(&rt, ends::<u14>(alloc)?.as_str(), "0 16383 0 16383");
-    same(&rt, ends::<i14>(alloc)?.as_str(), "-8192 8191 -8192 8191");
-    same(&rt, ends::<u18>(alloc)?.as_str(), "0 262143 0 262143");
-    same(
+    has_ends::<u1>(&rt, alloc, "0 1 0 1")?;
+    has_ends::<i1>(&rt, alloc, "-1 0 -1 0")?;
+    has_ends::<u7>(&rt, alloc, "0 127 0 127")?;
+    has_ends::<i7>(&rt, alloc, "-64 63 -64 63")?;
+    has_ends::<u14>(&rt, alloc, "0 16383 0 16383")?;
+    has_ends::<i14>(&rt, alloc, "-8192 8191 -8192 8191")?;
+    has_ends::<u18>(&rt, alloc, "0 262143 0 262143")?;
+    has_ends::<i18>(&rt, alloc, "-131072 131071 -131072 131071")?;
+    has_ends::<u53>(&rt, alloc, "0 9007199254740991 0 9007199254740991")?;
+    has_ends::<i53>(
         &rt,
-        ends::<i18>(alloc)?.as_str(),
-        "-131072 131071 -131072 131071",
-    );
-    same(
-        &rt,
-        ends::<u53>(alloc)?.as_str(),
-        "0 9007199254740991 0 9007199254740991",
-    );
-    same(
-        &rt,
-        ends::<i53>(alloc)?.as_str(),
+        alloc,
         "-4503599627370496 4503599627370495 -4503599627370496 4503599627370495",
-    );
-    same(
+    )?;
+    has_ends::<u127>(
         &rt,
-        ends::<u127>(alloc)?.as_str(),
+        alloc,
         "0 170141183460469231731687303715884105727 0 170141183460469231731687303715884105727",
-    );
-    same(
+    )?;
+    has_ends::<i127>(
         &rt,
-        ends::<i127>(alloc)?.as_str(),
+        alloc,
         "-85070591730234615865843651857942052864 85070591730234615865843651857942052863 -85070591730234615865843651857942052864 85070591730234615865843651857942052863",
-    );
-    same(&rt, ends::<UInt<u128, 5>>(alloc)?.as_str(), "0 31 0 31");
-    same(&rt, ends::<Int<i32, 4>>(alloc)?.as_str(), "-8 7 -8 7");
+    )?;
+    has_ends::<UInt<u128, 5>>(&rt, alloc, "0 31 0 31")?;
+    has_ends::<Int<i32, 4>>(&rt, alloc, "-8 7 -8 7")?;
     Ok(())
 }
 
@@ -124,150 +95,120 @@ impl<V: Integer> fmt::Display for Based<V> {
     }
 }
 
-/// The text in the four bases, by format strings and by the traits.
-fn bases<V: Integer>(alloc: Global, value: V) -> Result<(String, String), AllocError> {
+/// How a value is written in the four bases, by format strings and by the traits.
+fn has_bases<V: Integer>(
+    rt: &impl Abort,
+    alloc: Global,
+    value: V,
+    text: &str,
+) -> Result<(), AllocError> {
     let by_strings = format!(in alloc; "{value:x} {value:X} {value:o} {value:b}")?;
     let lower = Based { value, base: 16 };
     let upper = Based { value, base: 10 };
     let octal = Based { value, base: 8 };
     let binary = Based { value, base: 2 };
     let by_traits = format!(in alloc; "{lower} {upper} {octal} {binary}")?;
-    Ok((by_strings, by_traits))
+    same(rt, by_strings.as_str(), text);
+    same(rt, by_traits.as_str(), text);
+    Ok(())
 }
 
 #[test]
 fn numbers_from_zero_up_in_other_bases(rt: HostRuntime) -> Result<(), Fail> {
     let alloc = rt.alloc();
-    let (by_strings, by_traits) = bases(alloc, u5::new(10))?;
-    same(&rt, by_strings.as_str(), "a A 12 1010");
-    same(&rt, by_traits.as_str(), by_strings.as_str());
-    let (by_strings, by_traits) = bases(alloc, u7::new(0))?;
-    same(&rt, by_strings.as_str(), "0 0 0 0");
-    same(&rt, by_traits.as_str(), by_strings.as_str());
-    let (by_strings, by_traits) = bases(alloc, UInt::<u8, 8>::max_value())?;
-    same(&rt, by_strings.as_str(), "ff FF 377 11111111");
-    same(&rt, by_traits.as_str(), by_strings.as_str());
-    let (by_strings, by_traits) = bases(alloc, UInt::<u16, 16>::max_value())?;
-    same(
+    has_bases(&rt, alloc, u5::new(10), "a A 12 1010")?;
+    has_bases(&rt, alloc, u7::new(0), "0 0 0 0")?;
+    has_bases(&rt, alloc, UInt::<u8, 8>::max_value(), "ff FF 377 11111111")?;
+    has_bases(
         &rt,
-        by_strings.as_str(),
+        alloc,
+        UInt::<u16, 16>::max_value(),
         "ffff FFFF 177777 1111111111111111",
-    );
-    same(&rt, by_traits.as_str(), by_strings.as_str());
-    let (by_strings, by_traits) = bases(alloc, u31::new(0x1234_5678))?;
-    same(
+    )?;
+    has_bases(
         &rt,
-        by_strings.as_str(),
+        alloc,
+        u31::new(0x1234_5678),
         "12345678 12345678 2215053170 10010001101000101011001111000",
-    );
-    same(&rt, by_traits.as_str(), by_strings.as_str());
-    let (by_strings, by_traits) = bases(alloc, UInt::<u64, 64>::max_value())?;
-    same(
+    )?;
+    has_bases(
         &rt,
-        by_strings.as_str(),
+        alloc,
+        UInt::<u64, 64>::max_value(),
         "ffffffffffffffff FFFFFFFFFFFFFFFF 1777777777777777777777 1111111111111111111111111111111111111111111111111111111111111111",
-    );
-    same(&rt, by_traits.as_str(), by_strings.as_str());
-    let (by_strings, by_traits) = bases(alloc, i14::new(8191))?;
-    same(&rt, by_strings.as_str(), "1fff 1FFF 17777 1111111111111");
-    same(&rt, by_traits.as_str(), by_strings.as_str());
-    let (by_strings, by_traits) = bases(alloc, 171u8)?;
-    same(&rt, by_strings.as_str(), "ab AB 253 10101011");
-    same(&rt, by_traits.as_str(), by_strings.as_str());
+    )?;
+    has_bases(&rt, alloc, i14::new(8191), "1fff 1FFF 17777 1111111111111")?;
+    has_bases(&rt, alloc, 171u8, "ab AB 253 10101011")?;
     Ok(())
 }
 
 #[test]
 fn negative_numbers_in_other_bases(rt: HostRuntime) -> Result<(), Fail> {
     let alloc = rt.alloc();
-    let (by_strings, by_traits) = bases(alloc, i4::new(-1))?;
-    same(&rt, by_strings.as_str(), "ff FF 377 11111111");
-    same(&rt, by_traits.as_str(), by_strings.as_str());
-    let (by_strings, by_traits) = bases(alloc, Int::<i32, 4>::new(-1))?;
-    same(
+    has_bases(&rt, alloc, i4::new(-1), "ff FF 377 11111111")?;
+    has_bases(
         &rt,
-        by_strings.as_str(),
+        alloc,
+        Int::<i32, 4>::new(-1),
         "ffffffff FFFFFFFF 37777777777 11111111111111111111111111111111",
-    );
-    same(&rt, by_traits.as_str(), by_strings.as_str());
-    let (by_strings, by_traits) = bases(alloc, Int::<i8, 8>::min_value())?;
-    same(&rt, by_strings.as_str(), "80 80 200 10000000");
-    same(&rt, by_traits.as_str(), by_strings.as_str());
-    let (by_strings, by_traits) = bases(alloc, i14::new(-3))?;
-    same(
+    )?;
+    has_bases(&rt, alloc, Int::<i8, 8>::min_value(), "80 80 200 10000000")?;
+    has_bases(
         &rt,
-        by_strings.as_str(),
+        alloc,
+        i14::new(-3),
         "fffd FFFD 177775 1111111111111101",
-    );
-    same(&rt, by_traits.as_str(), by_strings.as_str());
-    let (by_strings, by_traits) = bases(alloc, Int::<i64, 64>::new(-2))?;
-    same(
+    )?;
+    has_bases(
         &rt,
-        by_strings.as_str(),
+        alloc,
+        Int::<i64, 64>::new(-2),
         "fffffffffffffffe FFFFFFFFFFFFFFFE 1777777777777777777776 1111111111111111111111111111111111111111111111111111111111111110",
-    );
-    same(&rt, by_traits.as_str(), by_strings.as_str());
-    let (by_strings, by_traits) = bases(alloc, i33::min_value())?;
-    same(
+    )?;
+    has_bases(
         &rt,
-        by_strings.as_str(),
+        alloc,
+        i33::min_value(),
         "ffffffff00000000 FFFFFFFF00000000 1777777777740000000000 1111111111111111111111111111111100000000000000000000000000000000",
-    );
-    same(&rt, by_traits.as_str(), by_strings.as_str());
-    let (by_strings, by_traits) = bases(alloc, -5i16)?;
-    same(
-        &rt,
-        by_strings.as_str(),
-        "fffb FFFB 177773 1111111111111011",
-    );
-    same(&rt, by_traits.as_str(), by_strings.as_str());
+    )?;
+    has_bases(&rt, alloc, -5i16, "fffb FFFB 177773 1111111111111011")?;
     Ok(())
 }
 
 #[test]
 fn wide_storages_in_other_bases(rt: HostRuntime) -> Result<(), Fail> {
     let alloc = rt.alloc();
-    let (by_strings, by_traits) = bases(alloc, u65::new(60))?;
-    same(&rt, by_strings.as_str(), "3c 3C 74 111100");
-    same(&rt, by_traits.as_str(), by_strings.as_str());
-    let (by_strings, by_traits) = bases(alloc, u65::new(0x1_0000_0000_0000_0000))?;
-    same(
+    has_bases(&rt, alloc, u65::new(60), "3c 3C 74 111100")?;
+    has_bases(
         &rt,
-        by_strings.as_str(),
+        alloc,
+        u65::new(0x1_0000_0000_0000_0000),
         "10000000000000000 10000000000000000 2000000000000000000000 10000000000000000000000000000000000000000000000000000000000000000",
-    );
-    same(&rt, by_traits.as_str(), by_strings.as_str());
-    let (by_strings, by_traits) = bases(
+    )?;
+    has_bases(
+        &rt,
         alloc,
         UInt::<u128, 128>::new(0x0123_4567_89ab_cdef_0fed_cba9_8765_4321),
-    )?;
-    same(
-        &rt,
-        by_strings.as_str(),
         "123456789abcdef0fedcba987654321 123456789ABCDEF0FEDCBA987654321 11064254742325715736077556272460731241441 1001000110100010101100111100010011010101111001101111011110000111111101101110010111010100110000111011001010100001100100001",
-    );
-    same(&rt, by_traits.as_str(), by_strings.as_str());
-    let (by_strings, by_traits) = bases(alloc, UInt::<u128, 128>::max_value())?;
-    same(
+    )?;
+    has_bases(
         &rt,
-        by_strings.as_str(),
+        alloc,
+        UInt::<u128, 128>::max_value(),
         "ffffffffffffffffffffffffffffffff FFFFFFFFFFFFFFFFFFFFFFFFFFFFFFFF 3777777777777777777777777777777777777777777 11111111111111111111111111111111111111111111111111111111111111111111111111111111111111111111111111111111111111111111111111111111",
-    );
-    same(&rt, by_traits.as_str(), by_strings.as_str());
-    let (by_strings, by_traits) = bases(alloc, i100::new(-5))?;
-    same(
+    )?;
+    has_bases(
         &rt,
-        by_strings.as_str(),
+        alloc,
+        i100::new(-5),
         "fffffffffffffffffffffffffffffffb FFFFFFFFFFFFFFFFFFFFFFFFFFFFFFFB 3777777777777777777777777777777777777777773 11111111111111111111111111111111111111111111111111111111111111111111111111111111111111111111111111111111111111111111111111111011",
-    );
-    same(&rt, by_traits.as_str(), by_strings.as_str());
-    let (by_strings, by_traits) = bases(alloc, Int::<i128, 128>::min_value())?;
-    same(
+    )?;
+    has_bases(
         &rt,
-        by_strings.as_str(),
+        alloc,
+        Int::<i128, 128>::min_value(),
         "80000000000000000000000000000000 80000000000000000000000000000000 2000000000000000000000000000000000000000000 10000000000000000000000000000000000000000000000000000000000000000000000000000000000000000000000000000000000000000000000000000000",
-    );
-    same(&rt, by_traits.as_str(), by_strings.as_str());
+    )?;
     Ok(())
 }
 
