@@ -1,9 +1,9 @@
 //! What is printed for an input, and the status.
-use crate::serving::{serve, serve_in};
 use arbitrary_int::Watched;
 use linked_list_allocator::LocalHeap;
 use std::alloc::Global;
 use std::test::Fail;
+use step_service::serving::{serve, serve_in};
 use step_text::fault::Fault;
 
 const STOPPED: &[u8] = b"run u7\n100 50 0\nwadd 2 0 1\ncadd 0 0 1\n";

@@ -1,9 +1,9 @@
 //! Readers and writers that take a byte a call, and give out.
-use crate::serving::serve;
 use arbitrary_int::Watched;
 use std::io;
 use std::io::{ErrorKind, Read, Write};
 use std::test::Fail;
+use step_service::serving::serve;
 use step_text::fault::Fault;
 
 /// Gives one byte a call, and fails at one of its calls.

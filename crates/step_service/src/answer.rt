@@ -1,0 +1,232 @@
+//! The answer to an input.
+
+ghost use Rattle.std.specs.Prelude.{◌≡◌, ◌≤◌, ◌<◌, ◌^◌, ◌∷◌, ◌++◌, [], length, map, unsigned_abs, IfOk, IfErr, OnOk};
+ghost use Rattle.std.specs.List.{flat_map, join_with_byte};
+ghost use Rattle.std.specs.Fmt.{signed_decimal};
+ghost use Rattle.step_text.specs.Text.{Left};
+ghost use Rattle.step_text.specs.Kind.{sign_of, width_of};
+ghost use Rattle.step_text.specs.Form.{LinesFault, FormFault};
+ghost use Rattle.step_service.specs.Answer.{after_space, cause_text, ending_text, registers_text, answer_text, wide_answer_text, text_for, IsAnswer, IsAnswerAt};
+
+use crate::decimal::push_decimal;
+use arbitrary_int::traits::{FixedWidth, Integer};
+use arbitrary_int::{Stop, Why, i1, i7, i14, i120, run, run_wide, u1, u7, u14, u120};
+use std::alloc::{AllocError, Allocator};
+use step_text::fault::Fault;
+use step_text::kind::{Kind, RegisterType, WidePair, kind_named};
+use step_text::parsing::{registers, steps};
+use step_text::text::Cursor;
+
+/// The whole answer to an input.
+#[tactic(auto, using(crate::proofs::WholeAnswers::answers))]
+pub fn answer<'a, A: Allocator>(alloc: &'a A, input: &[u8]) -> Result<Vec<u8, &'a A>, Fault>
+    requires { length input.now ≤ 65536 }
+    ensures found { IfOk result (λ text. IsAnswer input.now text.items) }
+    ensures fault { IfErr result (FormFault input.now) }
+{
+    let Some(mut text) = Cursor::new(input) else {
+        return Err(Fault::Line(1));
+    };
+    let Some(kind) = kind_named(&mut text) else {
+        return Err(Fault::Line(1));
+    };
+    if !text.next_line() {
+        return Err(Fault::Line(2));
+    }
+    answer_with(alloc, kind, &mut text)
+}
+
+/// The answer of the lines from the second on, with registers of the type.
+fn answer_with<'a, A: Allocator>(
+    alloc: &'a A,
+    kind: Kind,
+    lines: &mut Cursor,
+) -> Result<Vec<u8, &'a A>, Fault>
+    requires { length lines.old.later ≤ 65536 }
+    ensures found { IfOk result (λ text. IsAnswerAt (sign_of kind) (width_of kind) (text_for kind) lines.old.words lines.old.later text.items) }
+    ensures fault { IfErr result (LinesFault (sign_of kind) (width_of kind) lines.old.words lines.old.later) }
+{
+    match kind {
+        Kind::Run(RegisterType::U1) => answer_at::<u1, A>(alloc, lines),
+        Kind::Run(RegisterType::I1) => answer_at::<i1, A>(alloc, lines),
+        Kind::Run(RegisterType::U7) => answer_at::<u7, A>(alloc, lines),
+        Kind::Run(RegisterType::I7) => answer_at::<i7, A>(alloc, lines),
+        Kind::Run(RegisterType::U14) => answer_at::<u14, A>(alloc, lines),
+        Kind::Run(RegisterType::I14) => answer_at::<i14, A>(alloc, lines),
+        Kind::Run(RegisterType::U120) => answer_at::<u120, A>(alloc, lines),
+        Kind::Run(RegisterType::I120) => answer_at::<i120, A>(alloc, lines),
+        Kind::Wide(WidePair::U14U7) => wide_answer_at::<u14, u7, A>(alloc, lines),
+        Kind::Wide(WidePair::U14I7) => wide_answer_at::<u14, i7, A>(alloc, lines),
+        Kind::Wide(WidePair::I14U7) => wide_answer_at::<i14, u7, A>(alloc, lines),
+        Kind::Wide(WidePair::I120U14) => wide_answer_at::<i120, u14, A>(alloc, lines),
+    }
+}
+
+/// The answer of the lines from the second on, with registers of the type `R`.
+fn answer_at<'a, R: FixedWidth, A: Allocator>(
+    alloc: &'a A,
+    lines: &mut Cursor,
+) -> Result<Vec<u8, &'a A>, Fault>
+    requires width { R.valid }
+    requires narrow { R.BITS ≤ 120 }
+    requires short { length lines.old.later ≤ 65536 }
+    ensures found { IfOk result (λ text. IsAnswerAt R.IS_SIGNED R.BITS answer_text lines.old.words lines.old.later text.items) }
+    ensures fault { IfErr result (LinesFault R.IS_SIGNED R.BITS lines.old.words lines.old.later) }
+{
+    let Some(registers) = registers::<R, A>(alloc, lines)? else {
+        return Err(Fault::Line(2));
+    };
+    let mut registers = registers;
+    let steps = steps(alloc, registers.len(), lines)?;
+    let ending = run(steps.as_slice(), registers.as_mut_slice());
+    Ok(text_of(alloc, registers.as_slice(), ending)?)
+}
+
+/// The answer of the lines from the second on, with registers of the type `W`, whose low bits `N` tells.
+fn wide_answer_at<'a, W: FixedWidth, N: FixedWidth, A: Allocator>(
+    alloc: &'a A,
+    lines: &mut Cursor,
+) -> Result<Vec<u8, &'a A>, Fault>
+    requires wide_width { W.valid }
+    requires wide_fits { W.BITS ≤ 120 }
+    requires narrow_width { N.valid }
+    requires narrow_fits { N.BITS ≤ 120 }
+    requires short { length lines.old.later ≤ 65536 }
+    ensures found { IfOk result (λ text. IsAnswerAt W.IS_SIGNED W.BITS (wide_answer_text N.IS_SIGNED N.BITS) lines.old.words lines.old.later text.items) }
+    ensures fault { IfErr result (LinesFault W.IS_SIGNED W.BITS lines.old.words lines.old.later) }
+{
+    let Some(registers) = registers::<W, A>(alloc, lines)? else {
+        return Err(Fault::Line(2));
+    };
+    let mut wide = registers;
+    let steps = steps(alloc, wide.len(), lines)?;
+    let mut narrow = zeros::<N, A>(alloc, wide.len())?;
+    let ending = run_wide(steps.as_slice(), wide.as_mut_slice(), narrow.as_mut_slice());
+    Ok(wide_text_of(alloc, wide.as_slice(), narrow.as_slice(), ending)?)
+}
+
+/// So many zeros.
+fn zeros<'a, N: FixedWidth, A: Allocator>(
+    alloc: &'a A,
+    count: usize,
+) -> Result<Vec<N, &'a A>, AllocError>
+    requires { N.valid }
+    ensures { IfOk result (λ zeros. length zeros.items ≡ count) }
+{
+    Ok(vec![in alloc; N::zero(); count]?)
+}
+
+/// The wide and the narrow registers in decimal, and how the run ended.
+fn wide_text_of<'a, W: FixedWidth, N: FixedWidth, A: Allocator>(
+    alloc: &'a A,
+    wide: &[W],
+    narrow: &[N],
+    ending: Result<(), Stop>,
+) -> Result<Vec<u8, &'a A>, AllocError>
+    requires wide_fits { W.BITS ≤ 120 }
+    requires narrow_fits { N.BITS ≤ 120 }
+    ensures { IfOk result (λ text. text.items ≡ registers_text (map W.number wide.now) ++ 10 ∷ answer_text (map N.number narrow.now, ending)) }
+{
+    let mut text = Vec::new(alloc);
+    push_registers(&mut text, wide)?;
+    text.push(b'\n')?;
+    push_registers(&mut text, narrow)?;
+    push_ending(&mut text, ending)?;
+    Ok(text)
+}
+
+/// The registers in decimal, and how the run ended.
+fn text_of<'a, R: FixedWidth, A: Allocator>(
+    alloc: &'a A,
+    registers: &[R],
+    ending: Result<(), Stop>,
+) -> Result<Vec<u8, &'a A>, AllocError>
+    requires { R.BITS ≤ 120 }
+    ensures { IfOk result (λ text. text.items ≡ answer_text (map R.number registers.now, ending)) }
+{
+    let mut text = Vec::new(alloc);
+    push_registers(&mut text, registers)?;
+    push_ending(&mut text, ending)?;
+    Ok(text)
+}
+
+/// Appends the numbers with a space between.
+fn push_registers<R: FixedWidth, B: Allocator>(
+    text: &mut Vec<u8, B>,
+    registers: &[R],
+) -> Result<(), AllocError>
+    requires { R.BITS ≤ 120 }
+    ensures { OnOk result (text.new.items ≡ text.old.items ++ join_with_byte 32 (map signed_decimal (map R.number registers.now))) }
+{
+    match registers.split_first() {
+        Some((first, others)) => {
+            push_register(text, *first)?;
+            push_others(text, others)?;
+            Ok(())
+        }
+        None => Ok(()),
+    }
+}
+
+/// Appends the numbers, each after a space.
+fn push_others<R: FixedWidth, B: Allocator>(
+    text: &mut Vec<u8, B>,
+    others: &[R],
+) -> Result<(), AllocError>
+    requires { R.BITS ≤ 120 }
+    ensures { OnOk result (text.new.items ≡ text.old.items ++ flat_map after_space (map R.number others.now)) }
+{
+    for register in others {
+        text.push(b' ')?;
+        push_register(text, *register)?;
+    }
+    Ok(())
+}
+
+fn push_register<R: FixedWidth, B: Allocator>(
+    text: &mut Vec<u8, B>,
+    register: R,
+) -> Result<(), AllocError>
+    requires { R.BITS ≤ 120 }
+    ensures { OnOk result (text.new.items ≡ text.old.items ++ signed_decimal (R.number register)) }
+{
+    push_decimal(text, number_of(register))
+}
+
+/// The number of a register, with the fact that it is a number of its type.
+fn number_of<R: FixedWidth>(register: R) -> i128
+    requires { R.BITS ≤ 120 }
+    ensures number { result ≡ R.number register }
+    ensures small { unsigned_abs result < 2 ^ 120 }
+{
+    i128::from_extended(register.extended())
+}
+
+/// Appends how the run ended.
+fn push_ending<B: Allocator>(
+    text: &mut Vec<u8, B>,
+    ending: Result<(), Stop>,
+) -> Result<(), AllocError>
+    ensures { OnOk result (text.new.items ≡ text.old.items ++ 10 ∷ (ending_text ending ++ 10 ∷ [])) }
+{
+    match ending {
+        Ok(()) => text.extend_from_slice(b"\ndone\n"),
+        Err(Stop { at, why }) => {
+            text.extend_from_slice(b"\nstopped at ")?;
+            push_decimal(text, at as i128)?;
+            text.extend_from_slice(b": ")?;
+            text.extend_from_slice(cause_text(why))?;
+            text.push(b'\n')?;
+            Ok(())
+        }
+    }
+}
+
+fn cause_text(why: Why) -> &'static [u8]
+    ensures { result.now ≡ cause_text why }
+{
+    match why {
+        Why::Refused => b"refused",
+        Why::ZeroDivisor => b"zero divisor",
+    }
+}
