@@ -1,22 +1,10 @@
-//! How the library is used: a device's register, a packet header, a frame of bytes, a sensor, a log, lists of
-//! steps at one width and at two, code for every width, fields in a record, and numbers as text and as keys.
+//! Shows what the examples give, one after the other.
 #![tactic(auto)]
 
-mod can;
-mod first;
-mod frame;
-mod generic;
-mod header;
-mod journal;
-mod keys;
-mod register;
-mod sensor;
-mod steps;
-mod sums;
-mod texts;
-mod timer;
-mod widths;
-
+use examples::{
+    can, first, frame, generic, header, journal, keys, register, sensor, steps, sums, texts, timer,
+    widths,
+};
 use std::io;
 
 fn main(rt: HostRuntime) -> io::Result<()> {

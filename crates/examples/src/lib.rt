@@ -1,0 +1,19 @@
+//! How the library is used: a device's register, a packet header, a frame of bytes, a sensor, a log, lists of
+//! steps at one width and at two, code for every width, fields in a record, and numbers as text and as keys.
+//! The program `tour` shows what each gives.
+#![tactic(auto)]
+
+pub mod can;
+pub mod first;
+pub mod frame;
+pub mod generic;
+pub mod header;
+pub mod journal;
+pub mod keys;
+pub mod register;
+pub mod sensor;
+pub mod steps;
+pub mod sums;
+pub mod texts;
+pub mod timer;
+pub mod widths;
