@@ -10,7 +10,7 @@ use Rattle.arbitrary_int.specs.declared.steps.Why.{Why}
 use Rattle.arbitrary_int.specs.declared.steps.Why.TheVariants.{Refused, ZeroDivisor}
 use Rattle.step_text.specs.Text.{has_items, lf, space}
 use Rattle.step_text.specs.Form.{Form, IsValue, IsStep}
-use Rattle.step_text.specs.Kind.{type_sign, type_width, types_of, sign_of, width_of}
+use Rattle.step_text.specs.Kind.{type_row, types_of, sign_of, width_of}
 use Rattle.step_text.specs.declared.kind.Kind.{Kind}
 use Rattle.step_text.specs.declared.kind.Kind.TheVariants as kinds
 
@@ -37,7 +37,7 @@ wide_answer_text s B run = registers_text run.0 ++ lf ∷ answer_text (map (wrap
 
 abbrev pub text_for : Kind → List ℤ × Result ⊤ Stop → List ℕ
 text_for (kinds.Run type) = answer_text
-text_for (kinds.Wide pair) = wide_answer_text (type_sign (types_of pair).1) (type_width (types_of pair).1)
+text_for (kinds.Wide pair) = wide_answer_text (type_row (types_of pair).1).1 (type_row (types_of pair).1).2
 
 pub record IsAnswer (input text : List ℕ) : Type 0 where
   pub kind : Kind

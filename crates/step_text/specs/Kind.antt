@@ -19,15 +19,6 @@ type_row types.I14 = (codes "i14", true, 14)
 type_row types.U120 = (codes "u120", false, 120)
 type_row types.I120 = (codes "i120", true, 120)
 
-abbrev pub type_name : RegisterType → List ℕ
-type_name type = (type_row type).0
-
-abbrev pub type_sign : RegisterType → Bool
-type_sign type = (type_row type).1
-
-abbrev pub type_width : RegisterType → ℕ
-type_width type = (type_row type).2
-
 -- the wide type of a pair, and the narrow one
 abbrev pub types_of : WidePair → RegisterType × RegisterType
 types_of pairs.U14U7 = (types.U14, types.U7)
@@ -41,24 +32,19 @@ type_of (kinds.Run type) = type
 type_of (kinds.Wide pair) = (types_of pair).0
 
 abbrev pub sign_of : Kind → Bool
-sign_of kind = type_sign (type_of kind)
+sign_of kind = (type_row (type_of kind)).1
 
 abbrev pub width_of : Kind → ℕ
-width_of kind = type_width (type_of kind)
-
-abbrev pub all_types : List RegisterType
-all_types = types.U1 ∷ types.I1 ∷ types.U7 ∷ types.I7 ∷ types.U14 ∷ types.I14 ∷ types.U120 ∷ types.I120 ∷ []
-
-abbrev pub all_pairs : List WidePair
-all_pairs = pairs.U14U7 ∷ pairs.U14I7 ∷ pairs.I14U7 ∷ pairs.I120U14 ∷ []
+width_of kind = (type_row (type_of kind)).2
 
 -- the type that a word names
 unfoldable pub type_named : List ℕ → Option RegisterType
-type_named word = find (λ type. bytes_eq word (type_name type)) all_types
+type_named word = find (λ type. bytes_eq word (type_row type).0) (types.U1 ∷ types.I1 ∷ types.U7 ∷ types.I7 ∷ types.U14 ∷ types.I14 ∷ types.U120 ∷ types.I120 ∷ [])
 
 -- the pair that two words name
 unfoldable pub pair_named : List ℕ → List ℕ → Option WidePair
-pair_named wide narrow = find (λ pair. bytes_eq wide (type_name (types_of pair).0) && bytes_eq narrow (type_name (types_of pair).1)) all_pairs
+pair_named wide narrow = find (λ pair. bytes_eq wide (type_row (types_of pair).0).0 && bytes_eq narrow (type_row (types_of pair).1).0)
+    (pairs.U14U7 ∷ pairs.U14I7 ∷ pairs.I14U7 ∷ pairs.I120U14 ∷ [])
 
 -- what the words of the first line name
 unfoldable pub kind_named : List (List ℕ) → Option Kind
