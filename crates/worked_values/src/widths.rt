@@ -33,7 +33,7 @@ fn a_shift_by_the_narrow_width_is_no_low_bit_step(rt: HostRuntime) {
     let mut wide = [u14::new(1)];
     let mut narrow = [u7::new(0)];
     let mut first = [u7::new(1)];
-    same(&rt, well_formed(&steps, 1), true);
+    assert!(rt; well_formed(&steps, 1));
     same(&rt, run_wide(&steps, &mut wide, &mut narrow), Ok(()));
     same(&rt, run(&steps, &mut first), Ok(()));
     same(&rt, wide, [u14::new(128)]);
@@ -47,7 +47,7 @@ fn a_shift_below_the_narrow_width_is_one(rt: HostRuntime) {
     let mut wide = [u14::new(3)];
     let mut narrow = [i7::new(0)];
     let mut first = [i7::new(3)];
-    same(&rt, well_formed(&steps, 1), true);
+    assert!(rt; well_formed(&steps, 1));
     same(&rt, run_wide(&steps, &mut wide, &mut narrow), Ok(()));
     same(&rt, run(&steps, &mut first), Ok(()));
     same(&rt, wide, [u14::new(192)]);
@@ -61,7 +61,7 @@ fn low_bits_without_a_sign(rt: HostRuntime) {
     let mut wide = [u14::new(200), u14::new(300)];
     let mut narrow = [u7::new(0), u7::new(0)];
     let mut first = [u7::new(72), u7::new(44)];
-    same(&rt, well_formed(&steps, 2), true);
+    assert!(rt; well_formed(&steps, 2));
     same(&rt, run_wide(&steps, &mut wide, &mut narrow), Ok(()));
     same(&rt, run(&steps, &mut first), Ok(()));
     same(&rt, wide, [u14::new(10848), u14::new(16083)]);
@@ -75,7 +75,7 @@ fn low_bits_with_a_sign(rt: HostRuntime) {
     let mut wide = [u14::new(200), u14::new(300)];
     let mut narrow = [i7::new(0), i7::new(0)];
     let mut first = [i7::new(-56), i7::new(44)];
-    same(&rt, well_formed(&steps, 2), true);
+    assert!(rt; well_formed(&steps, 2));
     same(&rt, run_wide(&steps, &mut wide, &mut narrow), Ok(()));
     same(&rt, run(&steps, &mut first), Ok(()));
     same(&rt, wide, [u14::new(10848), u14::new(16083)]);
@@ -89,7 +89,7 @@ fn the_narrow_registers_are_told_after_a_stop_too(rt: HostRuntime) {
     let mut wide = [u14::new(200), u14::new(16383)];
     let mut narrow = [u7::new(0), u7::new(0)];
     let why = Why::Refused;
-    same(&rt, well_formed(&steps, 2), true);
+    assert!(rt; well_formed(&steps, 2));
     same(
         &rt,
         run_wide(&steps, &mut wide, &mut narrow),
@@ -103,7 +103,7 @@ fn the_narrow_registers_are_told_after_a_stop_too(rt: HostRuntime) {
 fn no_steps_on_no_registers_of_two_widths(rt: HostRuntime) {
     let mut wide: [u14; 0] = [];
     let mut narrow: [u7; 0] = [];
-    same(&rt, well_formed(&[], 0), true);
+    assert!(rt; well_formed(&[], 0));
     same(&rt, run_wide(&[], &mut wide, &mut narrow), Ok(()));
 }
 
@@ -115,7 +115,7 @@ fn checked_steps_give_the_same_at_a_wider_type(rt: HostRuntime) {
     ];
     let mut narrow = [i7::new(-7), i7::new(7)];
     let mut wide = [i14::new(-7), i14::new(7)];
-    same(&rt, well_formed(&steps, 2), true);
+    assert!(rt; well_formed(&steps, 2));
     same(&rt, run(&steps, &mut narrow), Ok(()));
     same(&rt, run(&steps, &mut wide), Ok(()));
     same(&rt, narrow, [i7::new(-49), i7::new(56)]);
@@ -132,7 +132,7 @@ fn a_wider_type_has_room_for_the_step_that_stops(rt: HostRuntime) {
     let mut narrow = [i7::new(-7), i7::new(7)];
     let mut wide = [i14::new(-7), i14::new(7)];
     let why = Why::Refused;
-    same(&rt, well_formed(&steps, 2), true);
+    assert!(rt; well_formed(&steps, 2));
     same(&rt, run(&steps, &mut narrow), Err(Stop { at: 2, why }));
     same(&rt, run(&steps, &mut wide), Ok(()));
     same(&rt, narrow, [i7::new(-49), i7::new(56)]);
