@@ -20,6 +20,4 @@ mod small;
 pub mod storage;
 pub mod streams;
 pub mod watched;
-#[cfg(test)]
-mod worked_bits;
 pub mod wrapping;

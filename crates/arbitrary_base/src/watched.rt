@@ -8,9 +8,6 @@ ghost use Rattle.arbitrary_base.specs.Watching.{inner_of, has_failed};
 use std::io;
 use std::io::{Read, Write};
 
-#[cfg(test)]
-mod tests;
-
 /// A reader or a writer, with a flag that rises where one of its calls fails, and never falls.
 ///
 /// The flag is what lets a caller's contract say that a fault was the stream's own.

@@ -1,7 +1,7 @@
 //! Worked values of the calls on bits.
 
-use crate::narrowing::kept_bits;
-use crate::{bitwise, extraction, narrowing, patterns, shifts};
+use arbitrary_base::narrowing::kept_bits;
+use arbitrary_base::{bitwise, extraction, narrowing, patterns, shifts};
 
 #[test]
 fn bitwise_operators(rt: HostRuntime) {

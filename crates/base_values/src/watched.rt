@@ -2,13 +2,15 @@
 
 ghost use Rattle.std.specs.Prelude.{◌≤◌, IfOk};
 
-use super::*;
-use std::io::ErrorKind;
+use arbitrary_base::watched::Watched;
+use std::io;
+use std::io::{ErrorKind, Read, Write};
 
-/// Answers each call with so many bytes at most, or with an error, and counts its calls.
+/// Answers its first call and each later one with so many bytes at most, or with an error, and counts its calls.
 #[derive(Drop)]
 struct Counting {
-    answer: Result<usize, ErrorKind>,
+    first: Result<usize, ErrorKind>,
+    later: Result<usize, ErrorKind>,
     calls: usize,
 }
 
@@ -16,8 +18,13 @@ impl Counting {
     fn answered(&mut self, asked: usize) -> io::Result<usize>
         ensures { IfOk result (λ n. n ≤ asked) }
     {
+        let answer = if self.calls == 0 {
+            self.first
+        } else {
+            self.later
+        };
         self.calls = self.calls.saturating_add(1);
-        match self.answer {
+        match answer {
             Ok(most) => Ok(most.min(asked)),
             Err(kind) => Err(io::Error::from(kind)),
         }
@@ -40,9 +47,13 @@ impl Write for Counting {
     }
 }
 
-/// One that has answered no call yet.
+/// One that has answered no call yet, and answers all alike.
 fn watched(answer: Result<usize, ErrorKind>) -> Watched<Counting> {
-    Watched::new(Counting { answer, calls: 0 })
+    Watched::new(Counting {
+        first: answer,
+        later: answer,
+        calls: 0,
+    })
 }
 
 const KINDS: [ErrorKind; 42] = [
@@ -131,13 +142,16 @@ fn each_call_asks_the_inner_one_once(rt: HostRuntime) {
 
 #[test]
 fn the_flag_stays_up_when_later_calls_succeed(rt: HostRuntime) {
-    let mut broken = watched(Err(ErrorKind::Interrupted));
+    let mut broken = Watched::new(Counting {
+        first: Err(ErrorKind::Interrupted),
+        later: Ok(1),
+        calls: 0,
+    });
     let refused = broken.read(&mut [0]);
     assert!(rt; refused.is_err());
-    broken.inner.answer = Ok(1);
     let (read, written) = (broken.read(&mut [0]), broken.write(&[0]));
     assert_eq!(rt; read.ok(), Some(1));
     assert_eq!(rt; written.ok(), Some(1));
     assert!(rt; broken.failed());
-    assert_eq!(rt; broken.inner.calls, 3);
+    assert_eq!(rt; broken.into_inner().calls, 3);
 }
