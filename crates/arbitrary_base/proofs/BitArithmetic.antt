@@ -12,7 +12,7 @@ use Rattle.arbitrary_base.proofs.Congruence.{pow_le}
 use Rattle.arbitrary_base.proofs.Wrap.{wrap-of_in_range}
 use Rattle.arbitrary_base.proofs.Sum.{wrap-zero}
 use Rattle.arbitrary_base.proofs.Primitive.{unsigned-in_range}
-use Rattle.arbitrary_base.proofs.BitNumber.{length-bits, length-and, length-not, length-or, length-xor, num-and, num-bits_small, num-lt_of, num-not, num-or, num-xor}
+use Rattle.arbitrary_base.proofs.BitNumber.{length-bits, same_length, length-and, length-not, length-or, length-xor, num-and, num-bits_small, num-lt_of, num-not, num-or, num-xor}
 use Rattle.arbitrary_base.proofs.BitValue.{bits-negsuc, val-bits_in_range, val-num}
 
 -- how many bits a number of the type has that is not below zero
@@ -42,9 +42,6 @@ val-plain : (s : Bool) (B n : ℕ) (l : List Bool) → 1 ≤ B → length l ≡ 
 val-plain s B n l h e d g =
     val-num s B l e ∙ ap (λ (m : ℕ). wrap s B (pos m)) d ∙ wrap-of_in_range s B (pos n) h (in_range-reach s B n g)
 
-pub alike : (B : ℕ) (x y : ℤ) → length (bits B x) ≡ length (bits B y)
-alike B x y = length-bits B x ∙ sym (length-bits B y)
-
 num-and_left : (l m : List Bool) → num (bits_and l m) ≤ num l
 num-and_left [] m = omega arith
 num-and_left (a ∷ l) [] = omega arith
@@ -72,12 +69,12 @@ not_below_zero false B x d f = f.low
 
 pub and-left : (s : Bool) (B : ℕ) (x y z : ℤ) → 1 ≤ B → InRange s B x → z ≡ val s (bits_and (bits B x) (bits B y)) → pos 0 ≤ℤ x → (pos 0 ≤ℤ z) × (z ≤ℤ x)
 and-left s B x y z h f e p =
-    between s B x z (bits_and (bits B x) (bits B y)) h (length-and (bits B x) (bits B y) (alike B x y) ∙ length-bits B x)
+    between s B x z (bits_and (bits B x) (bits B y)) h (length-and (bits B x) (bits B y) (same_length B x y) ∙ length-bits B x)
     (omega (arith, num-and_left (bits B x) (bits B y), num-plain s B x f p)) f p e
 
 pub and-right : (s : Bool) (B : ℕ) (x y z : ℤ) → 1 ≤ B → InRange s B y → z ≡ val s (bits_and (bits B x) (bits B y)) → pos 0 ≤ℤ y → (pos 0 ≤ℤ z) × (z ≤ℤ y)
 and-right s B x y z h f e p =
-    between s B y z (bits_and (bits B x) (bits B y)) h (length-and (bits B x) (bits B y) (alike B x y) ∙ length-bits B x)
+    between s B y z (bits_and (bits B x) (bits B y)) h (length-and (bits B x) (bits B y) (same_length B x y) ∙ length-bits B x)
     (omega (arith, num-and_right (bits B x) (bits B y), num-plain s B y f p)) f p e
 
 pub and-plain : (s : Bool) (B : ℕ) (x y z : ℤ) → 1 ≤ B → InRange s B x → InRange s B y → z ≡ val s (bits_and (bits B x) (bits B y)) → pos 0 ≤ℤ x → pos 0 ≤ℤ y
@@ -87,20 +84,20 @@ and-plain s B x y z h f g e p q =
     let l = num-and_left (bits B x) (bits B y) in
     let i = num-plain s B x f p in
     let b = below-reach s B x f p in
-    e ∙ val-plain s B _ _ h (length-and (bits B x) (bits B y) (alike B x y) ∙ length-bits B x) n (omega arith)
+    e ∙ val-plain s B _ _ h (length-and (bits B x) (bits B y) (same_length B x y) ∙ length-bits B x) n (omega arith)
 
 pub or-plain : (s : Bool) (B : ℕ) (x y z : ℤ) → 1 ≤ B → InRange s B x → InRange s B y → z ≡ val s (bits_or (bits B x) (bits B y)) → pos 0 ≤ℤ x → pos 0 ≤ℤ y
     → z ≡ pos (bit_or (unsigned_abs x) (unsigned_abs y))
 or-plain s B x y z h f g e p q =
-    e ∙ val-plain s B _ _ h (length-or (bits B x) (bits B y) (alike B x y) ∙ length-bits B x)
-    (num-or (bits B x) (bits B y) (alike B x y) ∙ ap₂ bit_or (num-plain s B x f p) (num-plain s B y g q))
+    e ∙ val-plain s B _ _ h (length-or (bits B x) (bits B y) (same_length B x y) ∙ length-bits B x)
+    (num-or (bits B x) (bits B y) (same_length B x y) ∙ ap₂ bit_or (num-plain s B x f p) (num-plain s B y g q))
     (or_lt (reach s B) _ _ (below-reach s B x f p) (below-reach s B y g q))
 
 pub xor-plain : (s : Bool) (B : ℕ) (x y z : ℤ) → 1 ≤ B → InRange s B x → InRange s B y → z ≡ val s (bits_xor (bits B x) (bits B y)) → pos 0 ≤ℤ x → pos 0 ≤ℤ y
     → z ≡ pos (bit_xor (unsigned_abs x) (unsigned_abs y))
 xor-plain s B x y z h f g e p q =
-    e ∙ val-plain s B _ _ h (length-xor (bits B x) (bits B y) (alike B x y) ∙ length-bits B x)
-    (num-xor (bits B x) (bits B y) (alike B x y) ∙ ap₂ bit_xor (num-plain s B x f p) (num-plain s B y g q))
+    e ∙ val-plain s B _ _ h (length-xor (bits B x) (bits B y) (same_length B x y) ∙ length-bits B x)
+    (num-xor (bits B x) (bits B y) (same_length B x y) ∙ ap₂ bit_xor (num-plain s B x f p) (num-plain s B y g q))
     (xor_lt (reach s B) _ _ (below-reach s B x f p) (below-reach s B y g q))
 
 num-xor_same : (l : List Bool) → num (bits_xor l l) ≡ 0

@@ -109,5 +109,3 @@ front-fits b B x = let e = prefix_len-le-length (beq b) (bits B x) in let n = le
 
 pub tail-fits : (b : Bool) (B : ℕ) (x : ℤ) → tail b (bits B x) ≤ B
 tail-fits b B x = let e = tail-le b (bits B x) in let n = length-bits B x in omega arith
-
-pub ruleset counted = (ones-fit, front-fits, tail-fits)

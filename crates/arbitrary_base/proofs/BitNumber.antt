@@ -13,6 +13,9 @@ unfolding bits
 length-bits zero x = refl
 length-bits (suc k) x = ap suc (length-bits k (int_div_euclid x (pos 2)))
 
+pub same_length : (B : ℕ) (x y : ℤ) → length (bits B x) ≡ length (bits B y)
+same_length B x y = length-bits B x ∙ sym (length-bits B y)
+
 digit-odd : (n : ℕ) → digit (eqb (n % 2) 1) ≡ n % 2
 digit-odd n = grind arith
 

@@ -8,7 +8,7 @@ use Rattle.std.specs.Int.{reverse_bits_onto}
 use Rattle.std.specs.Int.Bits.{bit_and, bit_or, bit_xor, and_mask, or_shifted, or_shifted_r, xor_add_and}
 use Rattle.std.specs.Int.Count.{ones as count_ones, count_trailing_zeros, count_leading_zeros}
 use Rattle.arbitrary_base.specs.BitList.{bits, num, bits_and, bits_or, bits_xor, bits_not, rotl, rotr, ones, front, tail}
-use Rattle.arbitrary_base.proofs.BitNumber.{length-bits, length-not, num-bits_small, bits-num_of, num-lt_of, same_num, num-not, num-and, num-or, num-xor, num-append, num-zeros}
+use Rattle.arbitrary_base.proofs.BitNumber.{length-bits, same_length, length-not, num-bits_small, bits-num_of, num-lt_of, same_num, num-not, num-and, num-or, num-xor, num-append, num-zeros}
 use Rattle.arbitrary_base.proofs.BitShift.{num-reverse_onto, num-reverse_zeros, num-rotl, num-rotr, shl-mod}
 use Rattle.arbitrary_base.proofs.BitCount.{ones-num, trailing-num, leading-num, leading-wide, front-append, front-not, tail-not}
 
@@ -28,16 +28,13 @@ shifted w p k m b h e = and-ones w (p * 2 ^ k % 2 ^ 128) m e ∙ narrow (p * 2 ^
 pub and_pattern : (w p q : ℕ) → p < 2 ^ w → q < 2 ^ w → bit_and p q ≡ num (bits_and (bits w (pos p)) (bits w (pos q)))
 and_pattern w p q h k = sym (num-and (bits w (pos p)) (bits w (pos q)) ∙ ap₂ bit_and (num-bits_small w p h) (num-bits_small w q k))
 
-same_length : (w p q : ℕ) → length (bits w (pos p)) ≡ length (bits w (pos q))
-same_length w p q = length-bits w (pos p) ∙ sym (length-bits w (pos q))
-
 pub or_pattern : (w p q : ℕ) → p < 2 ^ w → q < 2 ^ w → bit_or p q ≡ num (bits_or (bits w (pos p)) (bits w (pos q)))
 or_pattern w p q h k =
-    sym (num-or (bits w (pos p)) (bits w (pos q)) (same_length w p q) ∙ ap₂ bit_or (num-bits_small w p h) (num-bits_small w q k))
+    sym (num-or (bits w (pos p)) (bits w (pos q)) (same_length w (pos p) (pos q)) ∙ ap₂ bit_or (num-bits_small w p h) (num-bits_small w q k))
 
 pub xor_pattern : (w p q : ℕ) → p < 2 ^ w → q < 2 ^ w → bit_xor p q ≡ num (bits_xor (bits w (pos p)) (bits w (pos q)))
 xor_pattern w p q h k =
-    sym (num-xor (bits w (pos p)) (bits w (pos q)) (same_length w p q) ∙ ap₂ bit_xor (num-bits_small w p h) (num-bits_small w q k))
+    sym (num-xor (bits w (pos p)) (bits w (pos q)) (same_length w (pos p) (pos q)) ∙ ap₂ bit_xor (num-bits_small w p h) (num-bits_small w q k))
 
 num-not_of : (w p : ℕ) → p < 2 ^ w → num (bits_not (bits w (pos p))) ≡ 2 ^ w - 1 - p
 num-not_of w p h =

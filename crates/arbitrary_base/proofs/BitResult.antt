@@ -3,14 +3,14 @@ use Rattle.std.specs.Prelude.{◌≡◌, ℕ, ℤ, Bool, List, pos, length, reve
 use Rattle.std.proofs.Common.{arith, refl, ap, sym, ◌∙◌, length-drop}
 use Rattle.std.proofs.lemmas.List.{length-reverse, take-append-le}
 use Rattle.arbitrary_base.specs.Residue.{residue, wrap}
-use Rattle.arbitrary_base.specs.BitList.{bits, num, val, bits_and, bits_or, bits_xor, bits_not, shl, shr, rotl, rotr, ones, items}
+use Rattle.arbitrary_base.specs.BitList.{bits, num, val, bits_and, bits_or, bits_xor, bits_not, shl, shr, rotl, rotr, items}
 use Rattle.arbitrary_base.proofs.Congruence.{Congruent-sym, Congruent-trans, Congruent-mul_left, Congruent-narrower}
 use Rattle.arbitrary_base.proofs.Wrap.{residue-congruent, wrap-same}
 use Rattle.arbitrary_base.proofs.Primitive.{mod-congruent}
 use Rattle.arbitrary_base.proofs.Sum.{wrap-wrap}
 use Rattle.arbitrary_base.proofs.BitNumber.{length-bits, length-and, length-or, length-xor, length-not, num-take, num-drop}
 use Rattle.arbitrary_base.proofs.BitShift.{length-rotl, length-rotr, length-shr, length-items}
-use Rattle.arbitrary_base.proofs.BitCount.{ones-not}
+use Rattle.arbitrary_base.proofs.BitCount.{ones-fit, front-fits, tail-fits}
 use Rattle.arbitrary_base.proofs.BitValue.{num-bits_residue, bits-residue, bits-val, val-num}
 use Rattle.arbitrary_base.proofs.BitSign.{val-shl}
 
@@ -79,10 +79,7 @@ shl-narrow s B W k x y z f e h g l =
 
 -- ---- counts
 
-pub ones-le : (B : ℕ) (x : ℤ) → ones (bits B x) ≤ B
-ones-le B x = let e = ones-not (bits B x) in let n = length-bits B x in omega arith
-
-pub ruleset count_laws = (bits-residue, ones-le)
+pub ruleset count_laws = (bits-residue, ones-fit, front-fits, tail-fits)
 
 -- ---- parts
 

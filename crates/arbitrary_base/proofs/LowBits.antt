@@ -3,10 +3,10 @@ use Rattle.std.proofs.Common.{◌≡◌, ℕ, zero, suc, ◌+◌, ◌-◌, ◌%�
 use Rattle.std.specs.Bool.{beq}
 use Rattle.std.proofs.lemmas.List.{length-replicate, take-map}
 use Rattle.std.proofs.Math.Seq.{take-append-add}
-use Rattle.arbitrary_base.specs.Residue.{Congruent, wrap}
+use Rattle.arbitrary_base.specs.Residue.{wrap}
 use Rattle.arbitrary_base.specs.BitList.{bits, num, val, bits_and, bits_or, bits_xor, bits_not, shl}
-use Rattle.arbitrary_base.proofs.Congruence.{Congruent-sym, Congruent-add, Congruent-sub, Congruent-mul, Congruent-narrower}
-use Rattle.arbitrary_base.proofs.Wrap.{wrap-congruent, wrap-same}
+use Rattle.arbitrary_base.proofs.Congruence.{Congruent-add, Congruent-sub, Congruent-mul, Congruent-narrower}
+use Rattle.arbitrary_base.proofs.Wrap.{wrap-congruent, congruent-wrap, wrap-same}
 use Rattle.arbitrary_base.proofs.Primitive.{mod-congruent}
 use Rattle.arbitrary_base.proofs.Narrow.{residue-mod}
 use Rattle.arbitrary_base.proofs.BitNumber.{length-bits, length-and, length-or, length-xor, length-not, num-take, same_num}
@@ -19,18 +19,14 @@ use Rattle.arbitrary_base.proofs.BitValue.{num-bits_residue, bits-wrap, val-num}
 pub wrap-wide : (s t : Bool) (A B : ℕ) (x : ℤ) → 1 ≤ A → A ≤ B → wrap s A (wrap t B x) ≡ wrap s A x
 wrap-wide s t A B x h g = wrap-same s A (wrap t B x) x h (Congruent-narrower A B _ x g (wrap-congruent t B x))
 
--- a number and what is left of it
-left_of : (s : Bool) (A : ℕ) (x : ℤ) → Congruent A x (wrap s A x)
-left_of s A x = Congruent-sym A (wrap s A x) x (wrap-congruent s A x)
-
 pub low-sum : (s t : Bool) (A B : ℕ) (x y : ℤ) → 1 ≤ A → A ≤ B → wrap s A (wrap t B (x +ℤ y)) ≡ wrap s A (wrap s A x +ℤ wrap s A y)
-low-sum s t A B x y h g = wrap-wide s t A B (x +ℤ y) h g ∙ wrap-same s A _ _ h (Congruent-add A x _ y _ (left_of s A x) (left_of s A y))
+low-sum s t A B x y h g = wrap-wide s t A B (x +ℤ y) h g ∙ wrap-same s A _ _ h (Congruent-add A x _ y _ (congruent-wrap s A x) (congruent-wrap s A y))
 
 pub low-difference : (s t : Bool) (A B : ℕ) (x y : ℤ) → 1 ≤ A → A ≤ B → wrap s A (wrap t B (x -ℤ y)) ≡ wrap s A (wrap s A x -ℤ wrap s A y)
-low-difference s t A B x y h g = wrap-wide s t A B (x -ℤ y) h g ∙ wrap-same s A _ _ h (Congruent-sub A x _ y _ (left_of s A x) (left_of s A y))
+low-difference s t A B x y h g = wrap-wide s t A B (x -ℤ y) h g ∙ wrap-same s A _ _ h (Congruent-sub A x _ y _ (congruent-wrap s A x) (congruent-wrap s A y))
 
 pub low-product : (s t : Bool) (A B : ℕ) (x y : ℤ) → 1 ≤ A → A ≤ B → wrap s A (wrap t B (x *ℤ y)) ≡ wrap s A (wrap s A x *ℤ wrap s A y)
-low-product s t A B x y h g = wrap-wide s t A B (x *ℤ y) h g ∙ wrap-same s A _ _ h (Congruent-mul A x _ y _ (left_of s A x) (left_of s A y))
+low-product s t A B x y h g = wrap-wide s t A B (x *ℤ y) h g ∙ wrap-same s A _ _ h (Congruent-mul A x _ y _ (congruent-wrap s A x) (congruent-wrap s A y))
 
 -- ---- bits, by the first items of lists
 

@@ -1,15 +1,31 @@
 -- Why the code of `narrowing` is right.
-use Rattle.std.specs.Prelude.{◌≡◌, ℕ, ℤ, Bool, true, false, pos, neg_ℤ, ◌+ℤ◌, ◌-ℤ◌, ◌+◌, ◌-◌, ◌%◌, ◌^◌, ◌≤◌, ◌<◌, unsigned_abs}
-use Rattle.std.proofs.Common.{arith, ap, sym, subst, ◌∙◌, mod-lt}
+use Rattle.std.specs.Prelude.{◌≡◌, ℕ, ℤ, Bool, true, false, ◌&&◌, pos, neg_ℤ, int_le, ◌+ℤ◌, ◌-ℤ◌, ◌+◌, ◌-◌, ◌%◌, ◌^◌, ◌≤◌, ◌<◌, unsigned_abs}
+use Rattle.std.proofs.Common.{arith, refl, ap, sym, subst, ◌∙◌, mod-lt, lit≤}
 use Rattle.std.proofs.lemmas.Int.{ints}
 use Rattle.std.proofs.lemmas.Nat.{pow_pos}
 use Rattle.std.proofs.Math.Pow.{mod-mod-pow}
-use Rattle.arbitrary_base.specs.Range.{lo, InRange}
+use Rattle.arbitrary_base.specs.Range.{lo, hi, InRange, in_range}
 use Rattle.arbitrary_base.specs.Residue.{Congruent, residue, wrap}
 use Rattle.arbitrary_base.proofs.Congruence.{Congruent-from_apart, Congruent-sym, Congruent-trans, Congruent-narrower, pow_le}
 use Rattle.arbitrary_base.proofs.Wrap.{wrap-congruent, residue-lt, residue-congruent, congruent-same, wrap-unique, wrap-same, wrap-in_range, wrap-of_in_range}
 use Rattle.arbitrary_base.proofs.Primitive.{unsigned-in_range, mod-congruent}
-use Rattle.std.proofs.Common.{lit≤}
+
+-- the test tells whether a number is in range
+pub in_range-true : (s : Bool) (B : ℕ) (x : ℤ) → InRange s B x → in_range s B x ≡ true
+unfolding in_range
+in_range-true s B x f =
+    let a : int_le (lo s B) x ≡ true = grind (arith, ints) in
+    let b : int_le x (hi s B) ≡ true = grind (arith, ints) in
+    rw (a, b) refl
+
+pub in_range-false : (s : Bool) (B : ℕ) (x : ℤ) → (InRange s B x → ⊥) → in_range s B x ≡ false
+unfolding in_range
+in_range-false s B x f = by_tests (int_le (lo s B) x) (int_le x (hi s B)) refl refl
+  where
+    by_tests : (t u : Bool) → int_le (lo s B) x ≡ t → int_le x (hi s B) ≡ u → (t && u) ≡ false
+    by_tests true true p q = absurd (f (record { low = grind (arith, ints); high = grind (arith, ints) }))
+    by_tests true false p q = refl
+    by_tests false u p q = refl
 
 -- a wider type has each number
 pub InRange-wider : (s : Bool) (A B : ℕ) (x : ℤ) → 1 ≤ A → A ≤ B → InRange s A x → InRange s B x

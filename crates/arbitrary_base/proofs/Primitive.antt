@@ -3,7 +3,7 @@ use Rattle.std.specs.Prelude.{◌≡◌, ◌↔◌, ℕ, ℤ, Bool, true, false,
 use Rattle.std.specs.Int.{Width, w8, w16, w32, w64, w128, int_wrap, cast_signed, cast_unsigned, int_wrapping_add, int_wrapping_sub, int_wrapping_mul}
 use Rattle.std.specs.Bool.{FalseIff}
 use Rattle.std.specs.Option.{SomeIff}
-use Rattle.std.proofs.Common.{arith, refl, ap, sym, ◌∙◌, mod-lt, inl, inr, ⊎_elim, to_z-of_z}
+use Rattle.std.proofs.Common.{arith, refl, ap, sym, ◌∙◌, mod-lt, to_z-of_z}
 use Rattle.std.proofs.Math.Nat.{div-add-mod', mod-eq_of_lt}
 use Rattle.std.proofs.lemmas.Int.{ints, wrapping_add_is, wrapping_sub_is, wrapping_mul_is, SFits-int_wrap}
 use Rattle.std.proofs.lemmas.Nat.{pow_pos}

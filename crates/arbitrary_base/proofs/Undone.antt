@@ -10,11 +10,10 @@ use Rattle.arbitrary_base.specs.Residue.{wrap}
 use Rattle.arbitrary_base.specs.BitList.{bits, val, bits_xor, rotl, rotr}
 use Rattle.arbitrary_base.proofs.Congruence.{Congruent-refl, Congruent-add}
 use Rattle.arbitrary_base.proofs.Wrap.{wrap-congruent, wrap-of_in_range, wrap-same}
-use Rattle.arbitrary_base.proofs.BitNumber.{length-bits, length-xor}
+use Rattle.arbitrary_base.proofs.BitNumber.{length-bits, same_length, length-xor}
 use Rattle.arbitrary_base.proofs.BitShift.{length-rotl, length-rotr, rotr-rotl}
 use Rattle.arbitrary_base.proofs.BitValue.{bits-val, val-bits_in_range}
 use Rattle.arbitrary_base.proofs.Wrapped.{wrapped-congruent}
-use Rattle.arbitrary_base.proofs.BitArithmetic.{alike}
 
 -- a sum that wrapped, and what was added, taken off again; and the other way
 pub sub-undoes : (s : Bool) (B : ℕ) (x b r y : ℤ) → 1 ≤ B → InRange s B y → x ≡ wrap s B (y +ℤ b) → r ≡ wrap s B (x -ℤ b) → r ≡ y
@@ -66,8 +65,8 @@ xor-xor (a ∷ l) (b ∷ m) e = ap₂ (λ (c : Bool) (n : List Bool). c ∷ n) (
 pub xor-undoes : (s : Bool) (B : ℕ) (x b z y : ℤ) → 1 ≤ B → InRange s B y → x ≡ val s (bits_xor (bits B y) (bits B b)) → z ≡ val s (bits_xor (bits B x) (bits B b)) → z ≡ y
 xor-undoes s B x b z y h f e d =
     let l : bits B x ≡ bits_xor (bits B y) (bits B b) =
-    ap (bits B) e ∙ bits-val s B (bits_xor (bits B y) (bits B b)) (length-xor (bits B y) (bits B b) (alike B y b) ∙ length-bits B y) in
-    d ∙ ap (λ (m : List Bool). val s (bits_xor m (bits B b))) l ∙ ap (val s) (xor-xor (bits B y) (bits B b) (alike B y b)) ∙ val-bits_in_range s B y h f
+    ap (bits B) e ∙ bits-val s B (bits_xor (bits B y) (bits B b)) (length-xor (bits B y) (bits B b) (same_length B y b) ∙ length-bits B y) in
+    d ∙ ap (λ (m : List Bool). val s (bits_xor m (bits B b))) l ∙ ap (val s) (xor-xor (bits B y) (bits B b) (same_length B y b)) ∙ val-bits_in_range s B y h f
 
 -- to a type of the other sign, and back
 pub wrap-wrap : (s t : Bool) (B : ℕ) (x : ℤ) → 1 ≤ B → InRange s B x → wrap s B (wrap t B x) ≡ x

@@ -36,6 +36,9 @@ wrap-congruent s B x =
     let e = a.2 in
     Congruent-from_apart B _ x (a.0, a.1, omega (arith, ints))
 
+pub congruent-wrap : (s : Bool) (B : ℕ) (x : ℤ) → Congruent B x (wrap s B x)
+congruent-wrap s B x = Congruent-sym B (wrap s B x) x (wrap-congruent s B x)
+
 -- two numbers of the type that are congruent are the same
 pub congruent-same : (s : Bool) (B : ℕ) (x y : ℤ) → 1 ≤ B → InRange s B x → InRange s B y → Congruent B x y → x ≡ y
 congruent-same s B x y h f g c =

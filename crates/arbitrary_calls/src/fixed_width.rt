@@ -1,20 +1,17 @@
 //! What every integer of fixed width can do, each call written once for both types.
 
-ghost use Rattle.std.specs.Prelude.{◌≡◌, ◌≢◌, ◌↔◌, ◌≤◌, ◌+◌, ◌-◌, ◌*◌, ◌/◌, ◌%◌, ◌^◌, ◌≤ℤ◌, ◌<ℤ◌, ◌+ℤ◌, ◌-ℤ◌, ◌*ℤ◌, ℤ, pos, unsigned_abs, IsTrue, IsNone, IfSome, false, true, int_div, reverse};
+ghost use Rattle.std.specs.Prelude.{◌≡◌, ◌≢◌, ◌↔◌, ◌≤◌, ◌+◌, ◌-◌, ◌*◌, ◌%◌, ◌^◌, ◌≤ℤ◌, ◌<ℤ◌, ◌+ℤ◌, ◌-ℤ◌, ◌*ℤ◌, ℤ, pos, unsigned_abs, IsTrue, IsNone, IfSome, false, true, int_div, reverse};
 ghost use Rattle.arbitrary_base.specs.Range.{InRange, lo, hi};
 ghost use Rattle.arbitrary_base.specs.Residue.{Congruent, wrap};
 ghost use Rattle.arbitrary_base.specs.Saturation.{clamp};
 ghost use Rattle.arbitrary_base.specs.Exact.{ExactOrNone, QuotientOrNone};
-ghost use Rattle.arbitrary_base.specs.Field.{IsField};
 ghost use Rattle.arbitrary_base.specs.Power.{power, binary_digits};
-ghost use Rattle.arbitrary_base.specs.BitList.{bits, val, bits_and, bits_or, bits_xor, bits_not, fill, front, items, ones, rotl, rotr, shl, shr, tail};
+ghost use Rattle.arbitrary_base.specs.BitList.{bits, val, bits_and, bits_or, bits_xor, bits_not, fill, front, ones, rotl, rotr, shl, shr, tail};
 
 use crate::patterned::Patterned;
 use arbitrary_base::narrowing::cut;
 use arbitrary_base::storage::Storage;
-use arbitrary_base::{
-    checked, extraction, overflowing, patterns, power, saturating, shifts, wrapping,
-};
+use arbitrary_base::{checked, overflowing, patterns, power, saturating, shifts, wrapping};
 use arbitrary_traits::integer::Integer;
 
 /// An integer of `BITS` bits that is kept in a primitive: `UInt` and `Int`.
@@ -363,7 +360,7 @@ pub trait FixedWidth: Integer + Patterned {
     }
 
     /// How many of the bits are one.
-    #[tactic(auto, using(arbitrary_base::proofs::BitCount::counted, arbitrary_base::proofs::BitResult::count_laws))]
+    #[tactic(auto, using(arbitrary_base::proofs::BitResult::count_laws))]
     final fn count_ones(self) -> u32
         ensures value { result ≡ ones (bits Self.BITS (Self.number self)) }
         ensures bound { result ≤ Self.BITS }
@@ -372,7 +369,7 @@ pub trait FixedWidth: Integer + Patterned {
     }
 
     /// How many of the bits are zero.
-    #[tactic(auto, using(arbitrary_base::proofs::BitCount::counted, arbitrary_base::proofs::BitResult::count_laws))]
+    #[tactic(auto, using(arbitrary_base::proofs::BitResult::count_laws))]
     final fn count_zeros(self) -> u32
         ensures value { result ≡ Self.BITS - ones (bits Self.BITS (Self.number self)) }
         ensures bound { result ≤ Self.BITS }
@@ -400,7 +397,7 @@ pub trait FixedWidth: Integer + Patterned {
     }
 
     /// How many bits at the low end are one before the first that is zero, or all of them.
-    #[tactic(auto, using(arbitrary_base::proofs::BitCount::counted, arbitrary_base::proofs::BitResult::count_laws))]
+    #[tactic(auto, using(arbitrary_base::proofs::BitResult::count_laws))]
     final fn trailing_ones(self) -> u32
         ensures value { result ≡ front true (bits Self.BITS (Self.number self)) }
         ensures bound { result ≤ Self.BITS }
@@ -409,126 +406,11 @@ pub trait FixedWidth: Integer + Patterned {
     }
 
     /// How many bits at the low end are zero before the first that is one, or all of them.
-    #[tactic(auto, using(arbitrary_base::proofs::BitCount::counted, arbitrary_base::proofs::BitResult::count_laws))]
+    #[tactic(auto, using(arbitrary_base::proofs::BitResult::count_laws))]
     final fn trailing_zeros(self) -> u32
         ensures value { result ≡ front false (bits Self.BITS (Self.number self)) }
         ensures bound { result ≤ Self.BITS }
     {
         patterns::trailing_zeros(self.pattern(), Self::BITS)
-    }
-
-    /// The value of the `BITS` bits of `value` from place `start_bit` on, all among its 8. The width is valid.
-    #[tactic(auto, using(arbitrary_base::proofs::Extracted::fields))]
-    final fn extract_u8(value: u8, start_bit: usize) -> Self
-        requires width { Self.valid }
-        requires within { start_bit + Self.BITS ≤ 8 }
-        ensures value { Self.number result ≡ val Self.IS_SIGNED (items start_bit Self.BITS (bits 8 (pos value))) }
-        ensures plain { Self.IS_SIGNED ≡ false → Self.number result ≡ pos (value / 2 ^ start_bit % 2 ^ Self.BITS) }
-        ensures congruent { Congruent Self.BITS (Self.number result) (pos (value / 2 ^ start_bit)) }
-    {
-        Self::from_kept(extraction::extract(value, start_bit, Self::BITS))
-    }
-
-    /// The value of the `BITS` bits of `value` from place `start_bit` on, all among its 16. The width is valid.
-    #[tactic(auto, using(arbitrary_base::proofs::Extracted::fields))]
-    final fn extract_u16(value: u16, start_bit: usize) -> Self
-        requires width { Self.valid }
-        requires within { start_bit + Self.BITS ≤ 16 }
-        ensures value { Self.number result ≡ val Self.IS_SIGNED (items start_bit Self.BITS (bits 16 (pos value))) }
-        ensures plain { Self.IS_SIGNED ≡ false → Self.number result ≡ pos (value / 2 ^ start_bit % 2 ^ Self.BITS) }
-        ensures congruent { Congruent Self.BITS (Self.number result) (pos (value / 2 ^ start_bit)) }
-    {
-        Self::from_kept(extraction::extract(value, start_bit, Self::BITS))
-    }
-
-    /// The value of the `BITS` bits of `value` from place `start_bit` on, all among its 32. The width is valid.
-    #[tactic(auto, using(arbitrary_base::proofs::Extracted::fields))]
-    final fn extract_u32(value: u32, start_bit: usize) -> Self
-        requires width { Self.valid }
-        requires within { start_bit + Self.BITS ≤ 32 }
-        ensures value { Self.number result ≡ val Self.IS_SIGNED (items start_bit Self.BITS (bits 32 (pos value))) }
-        ensures plain { Self.IS_SIGNED ≡ false → Self.number result ≡ pos (value / 2 ^ start_bit % 2 ^ Self.BITS) }
-        ensures congruent { Congruent Self.BITS (Self.number result) (pos (value / 2 ^ start_bit)) }
-    {
-        Self::from_kept(extraction::extract(value, start_bit, Self::BITS))
-    }
-
-    /// The value of the `BITS` bits of `value` from place `start_bit` on, all among its 64. The width is valid.
-    #[tactic(auto, using(arbitrary_base::proofs::Extracted::fields))]
-    final fn extract_u64(value: u64, start_bit: usize) -> Self
-        requires width { Self.valid }
-        requires within { start_bit + Self.BITS ≤ 64 }
-        ensures value { Self.number result ≡ val Self.IS_SIGNED (items start_bit Self.BITS (bits 64 (pos value))) }
-        ensures plain { Self.IS_SIGNED ≡ false → Self.number result ≡ pos (value / 2 ^ start_bit % 2 ^ Self.BITS) }
-        ensures congruent { Congruent Self.BITS (Self.number result) (pos (value / 2 ^ start_bit)) }
-    {
-        Self::from_kept(extraction::extract(value, start_bit, Self::BITS))
-    }
-
-    /// The value of the `BITS` bits of `value` from place `start_bit` on, all among its 128. The width is valid.
-    #[tactic(auto, using(arbitrary_base::proofs::Extracted::fields))]
-    final fn extract_u128(value: u128, start_bit: usize) -> Self
-        requires width { Self.valid }
-        requires within { start_bit + Self.BITS ≤ 128 }
-        ensures value { Self.number result ≡ val Self.IS_SIGNED (items start_bit Self.BITS (bits 128 (pos value))) }
-        ensures plain { Self.IS_SIGNED ≡ false → Self.number result ≡ pos (value / 2 ^ start_bit % 2 ^ Self.BITS) }
-        ensures congruent { Congruent Self.BITS (Self.number result) (pos (value / 2 ^ start_bit)) }
-    {
-        Self::from_kept(extraction::extract(value, start_bit, Self::BITS))
-    }
-
-    /// The value of the `BITS` bits of `value` from place `start_bit` on, all among its 8. The width is valid.
-    #[tactic(auto, using(arbitrary_base::proofs::Extracted::fields, arbitrary_base::proofs::Primitive::signed_laws))]
-    final fn extract_i8(value: i8, start_bit: usize) -> Self
-        requires width { Self.valid }
-        requires within { start_bit + Self.BITS ≤ 8 }
-        ensures value { Self.number result ≡ val Self.IS_SIGNED (items start_bit Self.BITS (bits 8 value)) }
-        ensures field { IsField start_bit Self.BITS value (Self.number result) }
-    {
-        Self::from_kept(extraction::extract(value, start_bit, Self::BITS))
-    }
-
-    /// The value of the `BITS` bits of `value` from place `start_bit` on, all among its 16. The width is valid.
-    #[tactic(auto, using(arbitrary_base::proofs::Extracted::fields, arbitrary_base::proofs::Primitive::signed_laws))]
-    final fn extract_i16(value: i16, start_bit: usize) -> Self
-        requires width { Self.valid }
-        requires within { start_bit + Self.BITS ≤ 16 }
-        ensures value { Self.number result ≡ val Self.IS_SIGNED (items start_bit Self.BITS (bits 16 value)) }
-        ensures field { IsField start_bit Self.BITS value (Self.number result) }
-    {
-        Self::from_kept(extraction::extract(value, start_bit, Self::BITS))
-    }
-
-    /// The value of the `BITS` bits of `value` from place `start_bit` on, all among its 32. The width is valid.
-    #[tactic(auto, using(arbitrary_base::proofs::Extracted::fields, arbitrary_base::proofs::Primitive::signed_laws))]
-    final fn extract_i32(value: i32, start_bit: usize) -> Self
-        requires width { Self.valid }
-        requires within { start_bit + Self.BITS ≤ 32 }
-        ensures value { Self.number result ≡ val Self.IS_SIGNED (items start_bit Self.BITS (bits 32 value)) }
-        ensures field { IsField start_bit Self.BITS value (Self.number result) }
-    {
-        Self::from_kept(extraction::extract(value, start_bit, Self::BITS))
-    }
-
-    /// The value of the `BITS` bits of `value` from place `start_bit` on, all among its 64. The width is valid.
-    #[tactic(auto, using(arbitrary_base::proofs::Extracted::fields, arbitrary_base::proofs::Primitive::signed_laws))]
-    final fn extract_i64(value: i64, start_bit: usize) -> Self
-        requires width { Self.valid }
-        requires within { start_bit + Self.BITS ≤ 64 }
-        ensures value { Self.number result ≡ val Self.IS_SIGNED (items start_bit Self.BITS (bits 64 value)) }
-        ensures field { IsField start_bit Self.BITS value (Self.number result) }
-    {
-        Self::from_kept(extraction::extract(value, start_bit, Self::BITS))
-    }
-
-    /// The value of the `BITS` bits of `value` from place `start_bit` on, all among its 128. The width is valid.
-    #[tactic(auto, using(arbitrary_base::proofs::Extracted::fields, arbitrary_base::proofs::Primitive::signed_laws))]
-    final fn extract_i128(value: i128, start_bit: usize) -> Self
-        requires width { Self.valid }
-        requires within { start_bit + Self.BITS ≤ 128 }
-        ensures value { Self.number result ≡ val Self.IS_SIGNED (items start_bit Self.BITS (bits 128 value)) }
-        ensures field { IsField start_bit Self.BITS value (Self.number result) }
-    {
-        Self::from_kept(extraction::extract(value, start_bit, Self::BITS))
     }
 }

@@ -4,10 +4,9 @@ use Rattle.std.specs.Ordering.{int_eq}
 use Rattle.std.proofs.Common.{refl, ap, sym, subst, ◌∙◌}
 use Rattle.std.proofs.lemmas.Bool.Decides.{Decides-int_eq, same_from_decides}
 use Rattle.arbitrary_base.specs.Range.{InRange}
-use Rattle.arbitrary_base.specs.Residue.{Congruent, residue, wrap}
+use Rattle.arbitrary_base.specs.Residue.{residue, wrap}
 use Rattle.arbitrary_base.specs.BitList.{bits, num, val}
-use Rattle.arbitrary_base.proofs.Congruence.{Congruent-sym}
-use Rattle.arbitrary_base.proofs.Wrap.{residue-lt, wrap-congruent, wrap-in_range, wrap-same}
+use Rattle.arbitrary_base.proofs.Wrap.{residue-lt, congruent-wrap, wrap-congruent, wrap-in_range, wrap-same}
 use Rattle.arbitrary_base.proofs.Primitive.{unsigned-in_range}
 use Rattle.arbitrary_base.proofs.Pattern.{pattern-kept, number-kept, number-of_residue}
 use Rattle.arbitrary_base.proofs.BitValue.{bits-residue, val-num}
@@ -17,10 +16,7 @@ pub pattern-range : (t : Bool) (B : ℕ) (x p : ℤ) → t ≡ false → pos (re
 pattern-range t B x p e f =
     subst (λ (z : ℤ). InRange t B z) f (subst (λ (u : Bool). InRange u B (pos (residue B x))) (sym e) (unsigned-in_range B _ (residue-lt B x)))
 
-pub pattern-congruent : (s : Bool) (B : ℕ) (p : ℤ) → Congruent B p (wrap s B p)
-pattern-congruent s B p = Congruent-sym B _ p (wrap-congruent s B p)
-
-pub ruleset kept = (pattern-kept, number-kept, pattern-range, pattern-congruent, wrap-congruent, wrap-in_range)
+pub ruleset kept = (pattern-kept, number-kept, pattern-range, congruent-wrap, wrap-congruent, wrap-in_range)
 
 -- what is left of p, which is left of x at the other sign, is left of x
 pub wrapped-twice : (s t : Bool) (B : ℕ) (x p r : ℤ) → 1 ≤ B → p ≡ wrap t B x → r ≡ wrap s B p → r ≡ wrap s B x

@@ -1,12 +1,13 @@
 -- Why the bits of a storage of at most 64 bits are one word, and where they are the number itself.
 use Rattle.std.specs.Prelude.{◌≡◌, ℕ, ℤ, Bool, true, false, pos, negsuc, ◌≤◌, ◌<◌, ◌≤ℤ◌, ◌^◌, unsigned_abs}
-use Rattle.std.proofs.Common.{arith, lt_of_lt_of_le, subst}
+use Rattle.std.proofs.Common.{arith, lt_of_lt_of_le}
 use Rattle.std.proofs.lemmas.Int.{ints}
 use Rattle.arbitrary_base.specs.Range.{InRange}
 use Rattle.arbitrary_base.specs.Residue.{residue}
 use Rattle.arbitrary_base.proofs.Narrow.{below_residue}
 use Rattle.arbitrary_base.proofs.Congruence.{pow_half, pow_le}
 use Rattle.arbitrary_base.proofs.Primitive.{residue-pos}
+use Rattle.arbitrary_base.proofs.BitArithmetic.{not_below_zero}
 
 pub pattern-lt_word : (W p : ℕ) (x : ℤ) → p ≡ residue W x → W ≤ 64 → p < 2 ^ 64
 pattern-lt_word W p x e h = lt_of_lt_of_le (below_residue W p x e) (pow_le W 64 h)
@@ -21,9 +22,6 @@ residue-natural s W (pos n) h f l = residue-pos W n (natural-lt s W n h f)
 residue-natural s W (negsuc n) h f l = absurd (omega (arith, ints))
 
 -- a type that has no sign has no number below 0
-pub unsigned-natural : (s : Bool) (B : ℕ) (x : ℤ) → s ≡ false → InRange s B x → pos 0 ≤ℤ x
-unsigned-natural s B x e f = let low = subst (λ (t : Bool). InRange t B x) e f in low.low
-
-pub ruleset naturals = (unsigned-natural)
+pub ruleset naturals = (not_below_zero)
 
 pub ruleset words = (pattern-lt_word, residue-natural)

@@ -1,6 +1,6 @@
 //! Signed integers of any width, in two's complement.
 
-ghost use Rattle.std.specs.Prelude.{◌≡◌, ◌↔◌, ◌<◌, ◌≤◌, ◌-ℤ◌, ◌≤ℤ◌, ◌<ℤ◌, ◌^◌, pos, neg_ℤ, IsTrue, IfOk, MatchResult, ⊤};
+ghost use Rattle.std.specs.Prelude.{◌≡◌, ◌↔◌, ◌<◌, ◌≤◌, ◌-ℤ◌, ◌<ℤ◌, ◌^◌, pos, neg_ℤ, IsTrue, IfOk, MatchResult, ⊤};
 ghost use Rattle.arbitrary_base.specs.Range.{InRange, IsValidWidth, hi};
 ghost use Rattle.arbitrary_base.specs.Residue.{residue, wrap, Congruent};
 ghost use Rattle.arbitrary_base.specs.Saturation.{clamp};

@@ -97,10 +97,6 @@ low-run s t A B (step ∷ steps) regs h g l =
     rw (RunOf-ok t B step steps regs new wide, RunOf-ok s A step steps (map (wrap s A) regs) (map (wrap s A) new) narrow)
     (later-low s A 1 (RunOf t B steps new) (RunOf s A steps (map (wrap s A) new)) rest)
 
-pub low-run_narrow : (s t : Bool) (A B : ℕ) (steps : List Step) (regs : List ℤ) → 1 ≤ A → A ≤ B → OnlyLowBits A steps
-    → RunOf s A steps (map (wrap s A) regs) ≡ (map (wrap s A) (RunOf t B steps regs).0, Ok tt)
-low-run_narrow s t A B steps regs h g l = (low-run s t A B steps regs h g l).narrow_is
-
 -- on no registers there are no steps
 pub no-steps : (steps : List Step) → WellFormed steps 0 → steps ≡ []
 no-steps [] w = refl

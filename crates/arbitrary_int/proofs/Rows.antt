@@ -4,17 +4,9 @@ use Rattle.std.proofs.Common.{refl, ap, sym, subst, ◌∙◌, arith, lit≤}
 use Rattle.std.proofs.lemmas.Int.{ints}
 use Rattle.arbitrary_base.specs.Range.{InRange}
 use Rattle.arbitrary_base.specs.Residue.{Congruent, wrap}
-use Rattle.arbitrary_base.proofs.Congruence.{Congruent-add, Congruent-refl, Congruent-from_apart, Apart-from_congruent, span, pow_le}
+use Rattle.arbitrary_base.proofs.Congruence.{Congruent-add, Congruent-sub, Congruent-refl, span, pow_le}
 use Rattle.arbitrary_base.proofs.Wrap.{wrap-congruent, wrap-same, wrap-of_in_range}
 use Rattle.arbitrary_int.specs.Row.{row, natural, numbers, left}
-
-Congruent-sub : (B : ℕ) (x x' y y' : ℤ) → Congruent B x x' → Congruent B y y' → Congruent B (x -ℤ y) (x' -ℤ y')
-Congruent-sub B x x' y y' c d =
-    let a = Apart-from_congruent B x x' c in
-    let b = Apart-from_congruent B y y' d in
-    let e = a.2 in
-    let f = b.2 in
-    Congruent-from_apart B (x -ℤ y) (x' -ℤ y') (a.0 + b.1, a.1 + b.0, omega (arith, ints))
 
 -- a wrapped sum or difference with what is left of a number
 pub moved_up : (s : Bool) (B : ℕ) (x y m z : ℤ) → 1 ≤ B → InRange s B (x +ℤ y) → m ≡ wrap s B y → z ≡ wrap s B (x +ℤ m) → z ≡ x +ℤ y

@@ -1,15 +1,15 @@
 -- Why a step is right: from the contract of each call to the meaning of its operation.
-use Rattle.std.specs.Prelude.{◌≡◌, ◌≢◌, ◌↔◌, ℕ, ℤ, Bool, true, false, pos, ◌<◌, ◌≤◌, List, length, map, get_or, set, Option, Some, None, Result, Ok, Err, ok_or, int_le, int_div, nat_eq, nat_lt, MatchResult, IsNone, IfSome, ◌&&◌}
+use Rattle.std.specs.Prelude.{◌≡◌, ◌≢◌, ◌↔◌, ℕ, ℤ, Bool, true, false, pos, ◌<◌, ◌≤◌, List, length, map, get_or, set, Option, Some, None, Result, Ok, Err, ok_or, int_div, nat_eq, nat_lt, MatchResult, IsNone, IfSome}
 use Rattle.std.specs.Ordering.{int_eq}
 use Rattle.std.specs.Result.{result_map_both}
 use Rattle.std.proofs.Common.{arith, refl, ap, sym, ◌∙◌, subst, lit≤, lit<}
 use Rattle.std.proofs.lemmas.Int.{ints}
 use Rattle.std.proofs.lemmas.List.{get_or-map, map-set}
-use Rattle.arbitrary_base.specs.Range.{lo, hi, InRange, in_range}
+use Rattle.arbitrary_base.specs.Range.{InRange}
 use Rattle.arbitrary_base.specs.Residue.{residue, Congruent}
 use Rattle.arbitrary_base.specs.Exact.{number_of_type, ExactOrNone, QuotientOrNone}
 use Rattle.arbitrary_base.proofs.Wrap.{congruent-same, residue-congruent}
-use Rattle.arbitrary_base.proofs.Narrow.{InRange-wider}
+use Rattle.arbitrary_base.proofs.Narrow.{InRange-wider, in_range-true, in_range-false}
 use Rattle.arbitrary_base.proofs.Primitive.{residue-pos}
 use Rattle.arbitrary_base.proofs.Sum.{zero-in_range}
 use Rattle.arbitrary_int.specs.Step.{unless_zero, if_below, two_meaning, one_meaning, by_meaning}
@@ -20,22 +20,6 @@ use Rattle.arbitrary_int.specs.declared.steps.Why.{Why}
 use Rattle.arbitrary_int.specs.declared.steps.Why.TheVariants.{Refused}
 
 -- ---- answers that may be refused
-
-pub in_range-true : (s : Bool) (B : ℕ) (x : ℤ) → InRange s B x → in_range s B x ≡ true
-unfolding in_range
-in_range-true s B x f =
-    let a : int_le (lo s B) x ≡ true = grind (arith, ints) in
-    let b : int_le x (hi s B) ≡ true = grind (arith, ints) in
-    rw (a, b) refl
-
-in_range-false : (s : Bool) (B : ℕ) (x : ℤ) → (InRange s B x → ⊥) → in_range s B x ≡ false
-unfolding in_range
-in_range-false s B x f = by_tests (int_le (lo s B) x) (int_le x (hi s B)) refl refl
-  where
-    by_tests : (t u : Bool) → int_le (lo s B) x ≡ t → int_le x (hi s B) ≡ u → (t && u) ≡ false
-    by_tests true true p q = absurd (f (record { low = grind (arith, ints); high = grind (arith, ints) }))
-    by_tests true false p q = refl
-    by_tests false u p q = refl
 
 exact-some : (s : Bool) (B : ℕ) (x : ℤ) → InRange s B x → ok_or (number_of_type s B x) Refused ≡ Ok x
 exact-some s B x f = rw (in_range-true s B x f) refl

@@ -8,7 +8,7 @@ use Rattle.std.proofs.lemmas.List.{get_or_default}
 use Rattle.std.proofs.lemmas.List.Elements.{All-head, All-tail}
 use Rattle.arbitrary_base.specs.Range.{lo, hi, in_range}
 use Rattle.arbitrary_base.specs.Exact.{number_of_type}
-use Rattle.arbitrary_int.proofs.StepLemmas.{in_range-true}
+use Rattle.arbitrary_base.proofs.Narrow.{in_range-true}
 use Rattle.arbitrary_int.proofs.RunLemmas.{RunOf-ok, RunOf-err, run-stop, run-end}
 use Rattle.arbitrary_int.specs.Step.{unless_zero, answer_of, target_of, meaning}
 use Rattle.arbitrary_int.specs.Run.{later, RunOf}

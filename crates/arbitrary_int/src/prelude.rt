@@ -6,6 +6,7 @@ pub use crate::byte_orders::ByteOrders;
 pub use crate::stepping::Stepping;
 pub use arbitrary_base::error::TryNewError;
 pub use arbitrary_base::storage::BuiltinInteger;
+pub use arbitrary_calls::extraction::Extraction;
 pub use arbitrary_calls::fixed_width::FixedWidth;
 pub use arbitrary_core::aliases::signed::i1;
 pub use arbitrary_core::aliases::signed::i2;

@@ -3,6 +3,7 @@
 pub use arbitrary_base::storage::{
     BuiltinInteger, PatternOf, SignedOf, SignedStorage, Storage, UnsignedStorage,
 };
+pub use arbitrary_calls::extraction::Extraction;
 pub use arbitrary_calls::fixed_width::FixedWidth;
 pub use arbitrary_traits::integer::{Integer, SignedInteger, UnsignedInteger};
 pub use arbitrary_traits::mates::{SignedMate, UnsignedMate};

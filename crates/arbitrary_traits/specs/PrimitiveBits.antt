@@ -9,14 +9,11 @@ use Rattle.arbitrary_base.specs.Residue.{residue}
 use Rattle.arbitrary_base.specs.BitList.{bits, num, val, bits_and, bits_or, bits_xor, bits_not}
 use Rattle.arbitrary_base.proofs.Primitive.{bits_some, cast_unsigned-residue, residue-pos, signed-fits, signed-from_small, unsigned-in_range}
 use Rattle.arbitrary_base.proofs.Wrap.{wrap-of_in_range}
-use Rattle.arbitrary_base.proofs.BitNumber.{length-and, length-bits, length-not, length-or, length-xor, num-and, num-lt_of, num-not, num-or, num-xor}
+use Rattle.arbitrary_base.proofs.BitNumber.{length-and, length-bits, same_length, length-not, length-or, length-xor, num-and, num-lt_of, num-not, num-or, num-xor}
 use Rattle.arbitrary_base.proofs.BitValue.{num-bits_residue, val-num}
 use Rattle.arbitrary_traits.specs.Primitive.{lt-of_in_range}
 
 -- ---- residues, bit by bit
-
-same_length : (B : ℕ) (x y : ℤ) → length (bits B x) ≡ length (bits B y)
-same_length B x y = length-bits B x ∙ sym (length-bits B y)
 
 and-residue : (B : ℕ) (x y : ℤ) → bit_and (residue B x) (residue B y) ≡ num (bits_and (bits B x) (bits B y))
 and-residue B x y = sym (num-and (bits B x) (bits B y) ∙ ap₂ bit_and (num-bits_residue B x) (num-bits_residue B y))

@@ -7,7 +7,7 @@ ghost use Rattle.arbitrary_int.specs.BitList.{bits as bits_of, val};
 ghost use Rattle.arbitrary_int.specs.Range.{InRange};
 ghost use Rattle.arbitrary_int.specs.Residue.{residue};
 
-use arbitrary_int::traits::FixedWidth;
+use arbitrary_int::traits::{Extraction, FixedWidth};
 
 #[cfg(test)]
 mod worked;

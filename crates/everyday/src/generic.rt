@@ -1,7 +1,7 @@
 //! Code that is generic in the type.
 
 ghost use Rattle.std.specs.Prelude.{◌≡◌, ◌↔◌, ◌≤◌, ◌+ℤ◌, ◌≤ℤ◌, ◌<ℤ◌, pos, true, IfSome, IsTrue};
-ghost use Rattle.arbitrary_int.specs.Range.{InRange, lo, hi};
+ghost use Rattle.arbitrary_int.specs.Range.{InRange, hi};
 ghost use Rattle.arbitrary_int.specs.Residue.{Congruent};
 
 use arbitrary_int::prelude::*;

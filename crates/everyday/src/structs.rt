@@ -3,7 +3,7 @@
 //! A type that holds such an integer is given by value once. What to write for a second time stands in
 //! the functions below: a copy by `let` first, a method that takes `&self`, the fields, or a `match`.
 
-ghost use Rattle.std.specs.Prelude.{◌≡◌, ◌≤ℤ◌, ◌+ℤ◌, pos};
+ghost use Rattle.std.specs.Prelude.{◌≡◌, ◌≤ℤ◌};
 
 use arbitrary_int::prelude::*;
 

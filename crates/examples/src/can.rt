@@ -9,7 +9,7 @@
 //! | 8 to 15  | PDU specific       | `u8`  |
 //! | 0 to 7   | source address     | `u8`  |
 
-ghost use Rattle.std.specs.Prelude.{◌≡◌, pos, false};
+ghost use Rattle.std.specs.Prelude.{◌≡◌, false};
 ghost use Rattle.arbitrary_int.specs.BitField.{field_bits};
 ghost use Rattle.arbitrary_int.specs.BitList.{val};
 
@@ -32,49 +32,49 @@ pub struct Identifier {
 
 impl Identifier {
     /// The fields of the identifier in the low 29 bits.
-    pub fn read(record: &Record) -> Identifier
-        ensures priority { result.priority ≡ val false (field_bits record.now.bits 26 3) }
-        ensures extended_data_page { result.extended_data_page ≡ val false (field_bits record.now.bits 25 1) }
-        ensures data_page { result.data_page ≡ val false (field_bits record.now.bits 24 1) }
-        ensures format { result.format ≡ val false (field_bits record.now.bits 16 8) }
-        ensures specific { result.specific ≡ val false (field_bits record.now.bits 8 8) }
-        ensures source { result.source ≡ val false (field_bits record.now.bits 0 8) }
+    pub fn read(word: &Record) -> Identifier
+        ensures priority { result.priority ≡ val false (field_bits word.now.bits 26 3) }
+        ensures extended_data_page { result.extended_data_page ≡ val false (field_bits word.now.bits 25 1) }
+        ensures data_page { result.data_page ≡ val false (field_bits word.now.bits 24 1) }
+        ensures format { result.format ≡ val false (field_bits word.now.bits 16 8) }
+        ensures specific { result.specific ≡ val false (field_bits word.now.bits 8 8) }
+        ensures source { result.source ≡ val false (field_bits word.now.bits 0 8) }
     {
         Identifier {
-            priority: record.get(26),
-            extended_data_page: record.get(25),
-            data_page: record.get(24),
-            format: record.get(16),
-            specific: record.get(8),
-            source: record.get(0),
+            priority: word.get(26),
+            extended_data_page: word.get(25),
+            data_page: word.get(24),
+            format: word.get(16),
+            specific: word.get(8),
+            source: word.get(0),
         }
     }
 
     /// Writes the fields into the low 29 bits. The other bits stay.
-    pub fn write(self, record: &mut Record)
-        ensures priority { val false (field_bits record.new.bits 26 3) ≡ self.priority }
-        ensures extended_data_page { val false (field_bits record.new.bits 25 1) ≡ self.extended_data_page }
-        ensures data_page { val false (field_bits record.new.bits 24 1) ≡ self.data_page }
-        ensures format { val false (field_bits record.new.bits 16 8) ≡ self.format }
-        ensures specific { val false (field_bits record.new.bits 8 8) ≡ self.specific }
-        ensures source { val false (field_bits record.new.bits 0 8) ≡ self.source }
-        ensures others { field_bits record.new.bits 29 99 ≡ field_bits record.old.bits 29 99 }
+    pub fn write(self, word: &mut Record)
+        ensures priority { val false (field_bits word.new.bits 26 3) ≡ self.priority }
+        ensures extended_data_page { val false (field_bits word.new.bits 25 1) ≡ self.extended_data_page }
+        ensures data_page { val false (field_bits word.new.bits 24 1) ≡ self.data_page }
+        ensures format { val false (field_bits word.new.bits 16 8) ≡ self.format }
+        ensures specific { val false (field_bits word.new.bits 8 8) ≡ self.specific }
+        ensures source { val false (field_bits word.new.bits 0 8) ≡ self.source }
+        ensures others { field_bits word.new.bits 29 99 ≡ field_bits word.old.bits 29 99 }
     {
-        record.put(26, self.priority);
-        record.put(25, self.extended_data_page);
-        record.put(24, self.data_page);
-        record.put(16, self.format);
-        record.put(8, self.specific);
-        record.put(0, self.source);
+        word.put(26, self.priority);
+        word.put(25, self.extended_data_page);
+        word.put(24, self.data_page);
+        word.put(16, self.format);
+        word.put(8, self.specific);
+        word.put(0, self.source);
     }
 }
 
 /// What is read back is what was written.
-pub fn written_and_read(identifier: Identifier, record: &mut Record) -> Identifier
+pub fn written_and_read(identifier: Identifier, word: &mut Record) -> Identifier
     ensures { result ≡ identifier }
 {
-    identifier.write(record);
-    Identifier::read(record)
+    identifier.write(word);
+    Identifier::read(word)
 }
 
 /// Prints the fields of an identifier, and the identifier with the least priority and another source.

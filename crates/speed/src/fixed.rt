@@ -1,6 +1,7 @@
 //! The calls on integers of fixed width.
 
 use crate::rounds::{Call, Nothing, Operands, repeat};
+use arbitrary_calls::extraction::Extraction;
 use arbitrary_calls::fixed_width::FixedWidth;
 use arbitrary_core::aliases::signed::{i7, i14};
 use arbitrary_core::aliases::unsigned::{u7, u14};

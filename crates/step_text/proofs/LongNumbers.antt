@@ -1,7 +1,7 @@
 -- Numbers that are read some digits at a time, with a minus sign or without one.
 use Rattle.std.proofs.Common.{◌≡◌, ℕ, ◌+◌, ◌-◌, ◌*◌, ◌^◌, ◌<◌, ◌≤◌, List, [], ◌∷◌, length, take, drop, take_all, length-drop, Some, ℤ, pos, neg_ℤ, refl, sym, ap, ◌∙◌, arith, add-one, one-add, mul_assoc}
 use Rattle.std.proofs.Math.Nat.{pow-suc, pow-le-pow_right}
-use Rattle.std.specs.List.{position_or_len, before_first}
+use Rattle.std.specs.List.{before_first}
 use Rattle.step_text.specs.Text.{ends_word}
 use Rattle.step_text.specs.Numeral.{Reads, integer_in, number_below}
 use Rattle.step_text.proofs.Digits.{not_digits}
@@ -33,10 +33,6 @@ slice_from text at = take_all (length text - at) (drop at text) (omega (arith, l
 
 pub minus_word : (text digits : List ℕ) → text ≡ 45 ∷ digits → before_first ends_word text ≡ 45 ∷ before_first ends_word digits
 minus_word text digits e = rw (e, one-add) refl
-
-pub minus_rest : (text digits rest : List ℕ) → text ≡ 45 ∷ digits → rest ≡ drop (position_or_len ends_word digits) digits
-    → rest ≡ drop (position_or_len ends_word text) text
-minus_rest text digits rest e follows = follows ∙ rw (e, one-add) refl
 
 pub below_zero-named : (text digits : List ℕ) (n : ℕ) → text ≡ 45 ∷ digits → number_below (2 ^ 120) (before_first ends_word digits) ≡ Some n
     → integer_in (before_first ends_word text) ≡ Some (neg_ℤ (pos n))

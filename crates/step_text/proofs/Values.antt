@@ -1,10 +1,11 @@
 -- The number that a word writes, with a minus sign or without one, and whether a type has it.
-use Rattle.std.proofs.Common.{◌≡◌, ◌≢◌, ℕ, zero, suc, ◌<◌, ◌≤◌, ◌^◌, ◌-◌, ◌&&◌, Bool, true, false, cond, List, [], ◌∷◌, ◌++◌, ltb, Option, Some, None, option_map, option_and_then, MatchOption, ℤ, pos, neg_ℤ, int_le, unsigned_abs, refl, sym, ap, ◌∙◌, subst, inl, inr, arith, Bor}
+use Rattle.std.proofs.Common.{◌≡◌, ◌≢◌, ℕ, zero, suc, ◌<◌, ◌≤◌, ◌^◌, ◌-◌, Bool, true, false, cond, List, [], ◌∷◌, ◌++◌, ltb, Option, Some, None, option_map, option_and_then, MatchOption, ℤ, pos, neg_ℤ, unsigned_abs, refl, sym, ap, ◌∙◌, subst, inl, inr, arith, Bor}
 use Rattle.std.proofs.lemmas.Bool.{cases_eq, ne_eqb, ltb-false}
 use Rattle.std.proofs.lemmas.Int.{ints}
 use Rattle.std.proofs.Math.Pow.{pow_mono}
-use Rattle.arbitrary_int.specs.Range.{lo, hi, InRange, in_range}
+use Rattle.arbitrary_int.specs.Range.{InRange}
 use Rattle.arbitrary_int.specs.Residue.{residue, wrap}
+use Rattle.arbitrary_int.proofs.Narrow.{in_range-true, in_range-false}
 use Rattle.arbitrary_int.proofs.Wrap.{residue-congruent, wrap-in_range, wrap-of_in_range, wrap-same}
 use Rattle.arbitrary_int.specs.Exact.{number_of_type}
 use Rattle.step_text.specs.Numeral.{number_in, integer_in, number_below, value_named, IsFar}
@@ -66,22 +67,6 @@ size-neg zero = refl
 size-neg (suc m) = refl
 
 -- ---- the numbers of a type
-
-in_range-true : (s : Bool) (B : ℕ) (x : ℤ) → InRange s B x → in_range s B x ≡ true
-unfolding in_range
-in_range-true s B x f =
-    let a : int_le (lo s B) x ≡ true = grind (arith, ints) in
-    let b : int_le x (hi s B) ≡ true = grind (arith, ints) in
-    rw (a, b) refl
-
-in_range-false : (s : Bool) (B : ℕ) (x : ℤ) → (InRange s B x → ⊥) → in_range s B x ≡ false
-unfolding in_range
-in_range-false s B x f = by (int_le (lo s B) x) (int_le x (hi s B)) refl refl
-  where
-    by : (t u : Bool) → int_le (lo s B) x ≡ t → int_le x (hi s B) ≡ u → (t && u) ≡ false
-    by true true p q = absurd (f (record { low = grind (arith, ints); high = grind (arith, ints) }))
-    by true false p q = refl
-    by false u p q = refl
 
 module _ (s : Bool) (B : ℕ) (some : 1 ≤ B) (narrow : B ≤ 120) where
   in_wide : (x : ℤ) → InRange s B x → (unsigned_abs x < 2 ^ 120) × InRange true 128 x

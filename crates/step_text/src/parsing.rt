@@ -1,6 +1,6 @@
 //! The registers and the steps from their lines.
 
-ghost use Rattle.std.specs.Prelude.{◌≡◌, ◌≤◌, length, map, filter, IfOk, IfErr, OnOk, MatchOption};
+ghost use Rattle.std.specs.Prelude.{◌≡◌, ◌≤◌, length, map, filter, IfOk, IfErr, MatchOption};
 ghost use Rattle.std.specs.List.{AllZip};
 ghost use Rattle.arbitrary_int.specs.Run.{WellFormed};
 ghost use Rattle.step_text.specs.Text.{Left, has_items};

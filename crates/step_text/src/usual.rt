@@ -2,7 +2,7 @@
 //! number of one digit, and nothing else before the LF. Such a line is read at once. An answer of
 //! `None` says nothing of a line, so whoever asks goes on with its words.
 
-ghost use Rattle.std.specs.Prelude.{◌≡◌, ◌≤◌, ◌<◌, ◌+◌, ◌^◌, ◌∷◌, [], drop, take, Some, IfSome};
+ghost use Rattle.std.specs.Prelude.{◌≡◌, ◌≤◌, ◌<◌, ◌+◌, ◌^◌, ◌∷◌, drop, take, Some, IfSome};
 ghost use Rattle.std.specs.Int.{w32, to_be_bytes};
 ghost use Rattle.arbitrary_int.specs.Step.{StepWithin};
 ghost use Rattle.std.specs.List.{position_or_len, before_first};

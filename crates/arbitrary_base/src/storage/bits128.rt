@@ -29,7 +29,7 @@ impl BuiltinInteger for u128 {
 
 #[tactic(auto, using(crate::proofs::Primitive::unsigned_laws))]
 impl Storage for u128 {
-    ghost use Rattle.std.specs.Prelude.{ℕ, ℤ, false, pos, unsigned_abs, refl};
+    ghost use Rattle.std.specs.Prelude.{false, pos, unsigned_abs, refl};
     ghost use Rattle.std.proofs.Common.{lit≤};
     ghost use Rattle.arbitrary_base.specs.Order.{nat_cmp-pos};
 
@@ -132,7 +132,7 @@ impl BuiltinInteger for i128 {
 
 #[tactic(auto, using(crate::proofs::Primitive::signed_laws))]
 impl Storage for i128 {
-    ghost use Rattle.std.specs.Prelude.{ℕ, ℤ, true, refl};
+    ghost use Rattle.std.specs.Prelude.{true, refl};
     ghost use Rattle.std.proofs.Common.{lit≤};
 
     ghost WIDTH = { 128 };

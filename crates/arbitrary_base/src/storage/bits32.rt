@@ -28,7 +28,7 @@ impl BuiltinInteger for u32 {
 
 #[tactic(auto, using(crate::proofs::Primitive::unsigned_laws))]
 impl Storage for u32 {
-    ghost use Rattle.std.specs.Prelude.{ℕ, ℤ, false, pos, unsigned_abs, refl};
+    ghost use Rattle.std.specs.Prelude.{false, pos, unsigned_abs, refl};
     ghost use Rattle.std.proofs.Common.{lit≤};
     ghost use Rattle.arbitrary_base.specs.Order.{nat_cmp-pos};
 
@@ -119,7 +119,7 @@ impl BuiltinInteger for i32 {
 
 #[tactic(auto, using(crate::proofs::Primitive::signed_laws))]
 impl Storage for i32 {
-    ghost use Rattle.std.specs.Prelude.{ℕ, ℤ, true, refl};
+    ghost use Rattle.std.specs.Prelude.{true, refl};
     ghost use Rattle.std.proofs.Common.{lit≤};
 
     ghost WIDTH = { 32 };

@@ -1,5 +1,5 @@
 use Rattle.std.proofs.Common.{arith, ◌-◌, length, drop, length-take, length-drop}
-use Rattle.step_service.proofs.Streams.{written_more}
+use Rattle.arbitrary_int.proofs.StreamSteps.{written_more}
 use Rattle.step_service.proofs.stream.write_all.Goals as goal
 
 pub loop-at-preserved : goal.loop-at-preserved

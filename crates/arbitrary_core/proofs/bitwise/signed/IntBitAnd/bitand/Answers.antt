@@ -1,7 +1,7 @@
 use Rattle.std.proofs.Common.{◌∙◌}
 use Rattle.arbitrary_base.specs.BitList.{bits_and}
-use Rattle.arbitrary_base.proofs.BitArithmetic.{alike, and-plain, and-left, and-right}
-use Rattle.arbitrary_base.proofs.BitNumber.{length-bits, length-and}
+use Rattle.arbitrary_base.proofs.BitArithmetic.{and-plain, and-left, and-right}
+use Rattle.arbitrary_base.proofs.BitNumber.{length-bits, same_length, length-and}
 use Rattle.arbitrary_core.proofs.Patterns.{bits-kept, number-of_list}
 use Rattle.arbitrary_core.proofs.bitwise.signed.IntBitAnd.bitand.Goals as goal
 
@@ -12,7 +12,7 @@ returns g c =
     let y = c.to_bits-2.ensures.self_range in
     let p = bits-kept g.row.BITS c.args.self _ c.to_bits.ensures.value in
     let q = bits-kept g.row.BITS c.args.rhs _ c.to_bits-2.ensures.value in
-    let n = length-and _ _ (alike g.row.BITS c.args.self c.args.rhs) ∙ length-bits g.row.BITS c.args.self in
+    let n = length-and _ _ (same_length g.row.BITS c.args.self c.args.rhs) ∙ length-bits g.row.BITS c.args.self in
     let e = number-of_list g.T.Storage.SIGNED g.T.Unsigned.Storage.SIGNED g.row.BITS _ _ _ _ w n (λ i. bits_and (p i) (q i)) c.and.ensures.value c.from_bits.ensures.number in
     record {
       bits = e;

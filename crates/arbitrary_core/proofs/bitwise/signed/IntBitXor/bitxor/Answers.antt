@@ -1,7 +1,7 @@
 use Rattle.std.proofs.Common.{◌∙◌}
 use Rattle.arbitrary_base.specs.BitList.{bits_xor}
-use Rattle.arbitrary_base.proofs.BitArithmetic.{alike, xor-plain, xor-same}
-use Rattle.arbitrary_base.proofs.BitNumber.{length-bits, length-xor}
+use Rattle.arbitrary_base.proofs.BitArithmetic.{xor-plain, xor-same}
+use Rattle.arbitrary_base.proofs.BitNumber.{length-bits, same_length, length-xor}
 use Rattle.arbitrary_base.proofs.Undone.{xor-undoes}
 use Rattle.arbitrary_core.proofs.Patterns.{bits-kept, number-of_list}
 use Rattle.arbitrary_core.proofs.bitwise.signed.IntBitXor.bitxor.Goals as goal
@@ -13,7 +13,7 @@ returns g c =
     let y = c.to_bits-2.ensures.self_range in
     let p = bits-kept g.row.BITS c.args.self _ c.to_bits.ensures.value in
     let q = bits-kept g.row.BITS c.args.rhs _ c.to_bits-2.ensures.value in
-    let n = length-xor _ _ (alike g.row.BITS c.args.self c.args.rhs) ∙ length-bits g.row.BITS c.args.self in
+    let n = length-xor _ _ (same_length g.row.BITS c.args.self c.args.rhs) ∙ length-bits g.row.BITS c.args.self in
     let e = number-of_list g.T.Storage.SIGNED g.T.Unsigned.Storage.SIGNED g.row.BITS _ _ _ _ w n (λ i. bits_xor (p i) (q i)) c.xor.ensures.value c.from_bits.ensures.number in
     record {
       bits = e;
