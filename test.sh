@@ -1,7 +1,7 @@
 #!/usr/bin/env bash
 # Checks the short names, the examples of the documents, the count of the definitions and bitrun.sh, then proves, tests and runs
-# everything from nothing, and tries each edit that must be refused. Last it runs the program on damaged and on random inputs, as
-# both compilers have just built it, and with each growth of memory refused in turn.
+# everything from nothing, and sees each wrong body refused. Last it runs the program on damaged and on random inputs, as both
+# compilers have just built it, and with each growth of memory refused in turn.
 set -euo pipefail
 unset CDPATH
 cd -- "$(dirname -- "$0")"
@@ -10,8 +10,11 @@ python3 tools/document_examples.py
 python3 tools/believed.py
 python3 tools/bitrun_cases.py
 log="$(mktemp)"
-trap 'rm -f "$log"' EXIT
+python3 tools/wrong_bodies.py --beside "$log" &
+bodies=$!
+trap 'kill "$bodies" 2> /dev/null || true; rm -f "$log"' EXIT
 rt ci | tee "$log"
+wait "$bodies"
 programs=(crates/bitrun/out/bitrun crates/bitrun/out/bitrun.by-rattle)
 python3 tools/endings.py "${programs[@]}"
 python3 tools/fuzz.py "${programs[@]}"

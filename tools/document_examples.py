@@ -11,10 +11,10 @@ import sys
 from pathlib import Path
 
 ROOT = Path(__file__).resolve().parent.parent
-# The modules of tests that docs/CALLS.md makes, with what each brings in. A table runs in worked_values, unless its title is
+# The modules of tests that docs/CALLS.md makes, with what each brings in. A table runs in call_examples, unless its title is
 # named here.
 USES = {
-    'worked_values/src/calls.rt': [
+    'call_examples/src/calls.rt': [
         'use crate::same::same;', 'use arbitrary_int::prelude::*;',
         'use arbitrary_int::{Watched, range_inclusive, try_product, try_sum};', 'use std::io::sink;', 'use std::test::Fail;',
     ],
@@ -64,7 +64,7 @@ def calls(module):
     line = 'same(&rt, {}, {});' if 'use crate::same::same;' in uses else 'assert_eq!(rt; {}, {});'
     lines = ['//! The examples of docs/CALLS.md.', '', *uses]
     for title, examples in tables('docs/CALLS.md'):
-        if ELSEWHERE.get(title, 'worked_values/src/calls.rt') == module:
+        if ELSEWHERE.get(title, 'call_examples/src/calls.rt') == module:
             lines += tests(re.sub(r'\W+', '_', title.lower()), [], examples, line)
     return '\n'.join(lines) + '\n'
 

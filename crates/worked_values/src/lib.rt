@@ -6,15 +6,9 @@ mod arithmetic;
 #[cfg(test)]
 mod bits;
 #[cfg(test)]
-mod bytes;
-#[cfg(test)]
-mod calls;
-#[cfg(test)]
 mod ends;
 #[cfg(test)]
 mod first_version;
-#[cfg(test)]
-mod keys;
 #[cfg(test)]
 mod powers;
 #[cfg(test)]
@@ -27,9 +21,5 @@ mod same;
 mod signs;
 #[cfg(test)]
 mod steps;
-#[cfg(test)]
-mod streams;
-#[cfg(test)]
-mod texts;
 #[cfg(test)]
 mod widths;

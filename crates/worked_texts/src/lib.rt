@@ -1,0 +1,13 @@
+//! Worked values of texts, bytes, streams and keys: each answer was computed apart from the library.
+#![tactic(auto)]
+
+#[cfg(test)]
+mod bytes;
+#[cfg(test)]
+mod keys;
+#[cfg(test)]
+mod same;
+#[cfg(test)]
+mod streams;
+#[cfg(test)]
+mod texts;
