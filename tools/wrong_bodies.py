@@ -53,7 +53,7 @@ class WrongBody:
         file = after = old = ''
         for line in path.read_text().splitlines():
             word, _, rest = line.partition(':')
-            rest = rest.removeprefix(' ')
+            rest = rest[1:]
             if word == 'function':
                 self.function = rest
             elif word == 'file':
