@@ -3,7 +3,7 @@
 
 ghost use Rattle.std.specs.Prelude.{◌≡◌, ◌*ℤ◌, true, map, length, Ok};
 ghost use Rattle.arbitrary_int.specs.Residue.{wrap};
-ghost use Rattle.arbitrary_int.specs.Run.{WellFormed};
+ghost use Rattle.arbitrary_int.specs.Run.{RunOf, WellFormed};
 ghost use Rattle.arbitrary_int.specs.Widths.{OnlyCheckedArithmetic, RangeWithin};
 
 use arbitrary_int::prelude::*;
@@ -27,7 +27,8 @@ pub fn low_product(a: u14, b: u14) -> i7
 }
 
 /// Runs sums, differences, products and quotients on registers of one type, and again on the same numbers at
-/// a wider type. Where the first run has no stop, the second has none either, and leaves the same numbers.
+/// a wider type. The first run ends as the steps say. Where it has no stop, the second has none either, and
+/// leaves the same numbers.
 pub fn moved<A: FixedWidth, B: FixedWidth>(
     steps: &[Step],
     registers: &mut [A],
@@ -37,6 +38,7 @@ pub fn moved<A: FixedWidth, B: FixedWidth>(
     requires arithmetic { OnlyCheckedArithmetic steps.now }
     requires range { RangeWithin A.IS_SIGNED A.BITS B.IS_SIGNED B.BITS }
     requires alike { map A.number registers.old ≡ map B.number wider.old }
+    ensures ending { result.0 ≡ (RunOf A.IS_SIGNED A.BITS steps.now (map A.number registers.old)).1 }
     ensures same_ending { result.0 ≡ Ok tt → result.1 ≡ Ok tt }
     ensures same_registers { result.0 ≡ Ok tt → map B.number wider.new ≡ map A.number registers.new }
 {
