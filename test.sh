@@ -1,7 +1,7 @@
 #!/usr/bin/env bash
 # Checks the short names, the examples of the documents, the count of the definitions and bitrun.sh, then proves, tests and runs
-# everything from nothing. Beside that it sees each wrong body refused, and runs the program with each growth of memory refused in turn.
-# Last it runs the program on damaged and on random inputs, as both compilers have just built it.
+# everything from nothing, and tries each edit that must be refused. Beside that it runs the program with each growth of memory refused
+# in turn. Last it runs the program on damaged and on random inputs, as both compilers have just built it.
 set -euo pipefail
 unset CDPATH
 cd -- "$(dirname -- "$0")"
@@ -10,13 +10,10 @@ python3 tools/document_examples.py
 python3 tools/believed.py
 python3 tools/bitrun_cases.py
 log="$(mktemp)"
-python3 tools/wrong_bodies.py --beside "$log" &
-bodies=$!
 nice python3 tools/refused_memory.py &
 memory=$!
-trap 'kill "$bodies" "$memory" 2> /dev/null || true; rm -f "$log"' EXIT
+trap 'kill "$memory" 2> /dev/null || true; rm -f "$log"' EXIT
 rt ci | tee "$log"
-wait "$bodies"
 wait "$memory"
 programs=(crates/bitrun/out/bitrun crates/bitrun/out/bitrun.by-rattle)
 python3 tools/endings.py "${programs[@]}"
