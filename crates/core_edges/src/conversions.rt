@@ -1,7 +1,8 @@
 //! A conversion keeps the number: `from_` takes what the target has, and `widen` goes to more bits, up to
 //! those of the storage.
 
-use arbitrary_int::prelude::*;
+use arbitrary_core::aliases::unsigned::{u5, u20};
+use arbitrary_traits::integer::Integer;
 
 /// The greatest number that a byte has.
 pub fn greatest_byte() -> u8 {

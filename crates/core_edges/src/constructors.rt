@@ -1,6 +1,9 @@
 //! A constructor takes the numbers in range, of a width that the storage has room for.
 
-use arbitrary_int::prelude::*;
+use arbitrary_core::aliases::signed::{i3, i7};
+use arbitrary_core::aliases::unsigned::{u7, u15, u31, u63, u127};
+use arbitrary_core::unsigned::UInt;
+use arbitrary_traits::integer::Integer;
 
 /// The greatest number of 7 bits.
 pub fn greatest_u7() -> u7 {

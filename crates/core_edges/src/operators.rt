@@ -1,6 +1,7 @@
 //! `+ - * /` and unary minus: the exact result is in range, and a divisor is not zero.
 
-use arbitrary_int::prelude::*;
+use arbitrary_core::aliases::signed::{i7, i17};
+use arbitrary_core::aliases::unsigned::u7;
 
 /// A sum.
 pub fn unsigned_sum() -> u7 {

@@ -1,6 +1,7 @@
 //! `<<` and `>>` go by 0 to `BITS - 1` places, of any integer type.
 
-use arbitrary_int::prelude::*;
+use arbitrary_core::aliases::signed::{i9, i53};
+use arbitrary_core::aliases::unsigned::{u9, u53};
 
 /// By most places.
 pub fn by_most() -> i53 {

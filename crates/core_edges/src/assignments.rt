@@ -1,6 +1,7 @@
 //! `+= -= *= /=` ask what `+ - * /` ask.
 
-use arbitrary_int::prelude::*;
+use arbitrary_core::aliases::signed::i9;
+use arbitrary_core::aliases::unsigned::u9;
 
 /// A sum.
 pub fn unsigned_sum() -> u9 {
