@@ -1,16 +1,17 @@
 //! The answer to an input.
 
-ghost use Rattle.std.specs.Prelude.{◌≡◌, ◌≤◌, ◌<◌, ◌^◌, ◌∷◌, ◌++◌, [], length, map, unsigned_abs, IfOk, IfErr, OnOk};
-ghost use Rattle.std.specs.List.{flat_map, join_with_byte};
+ghost use Rattle.std.specs.Prelude.{◌≡◌, ◌≤◌, ◌<◌, ◌^◌, ◌∷◌, ◌++◌, [], length, map, filter, unsigned_abs, IfOk, IfErr, OnOk};
+ghost use Rattle.std.specs.List.{AllZip, flat_map, join_with_byte};
 ghost use Rattle.std.specs.Fmt.{signed_decimal};
-ghost use Rattle.step_text.specs.Text.{Left};
+ghost use Rattle.arbitrary_int.specs.Run.{RunOf, WellFormed};
+ghost use Rattle.step_text.specs.Text.{Left, has_items};
 ghost use Rattle.step_text.specs.Kind.{sign_of, width_of};
-ghost use Rattle.step_text.specs.Form.{LinesFault, FormFault};
+ghost use Rattle.step_text.specs.Form.{IsStep, IsValue, LinesFault, FormFault};
 ghost use Rattle.step_service.specs.Answer.{after_space, cause_text, ending_text, registers_text, answer_text, wide_answer_text, text_for, IsAnswer, IsAnswerAt};
 
 use crate::decimal::push_decimal;
 use arbitrary_int::traits::{FixedWidth, Integer};
-use arbitrary_int::{Stop, Why, i1, i7, i14, i120, run, run_wide, u1, u7, u14, u120};
+use arbitrary_int::{Step, Stop, Why, i1, i7, i14, i120, run, run_wide, u1, u7, u14, u120};
 use std::alloc::{AllocError, Allocator};
 use step_text::fault::Fault;
 use step_text::kind::{Kind, RegisterType, WidePair, kind_named};
@@ -73,13 +74,8 @@ fn answer_at<'a, R: FixedWidth, A: Allocator>(
     ensures found { IfOk result (λ text. IsAnswerAt R.IS_SIGNED R.BITS answer_text lines.old.words lines.old.later text.items) }
     ensures fault { IfErr result (LinesFault R.IS_SIGNED R.BITS lines.old.words lines.old.later) }
 {
-    let Some(registers) = registers::<R, A>(alloc, lines)? else {
-        return Err(Fault::Line(2));
-    };
-    let mut registers = registers;
-    let steps = steps(alloc, registers.len(), lines)?;
-    let ending = run(steps.as_slice(), registers.as_mut_slice());
-    Ok(text_of(alloc, registers.as_slice(), ending)?)
+    let (mut registers, steps) = registers_and_steps::<R, A>(alloc, lines)?;
+    Ok(run_text(alloc, steps.as_slice(), registers.as_mut_slice())?)
 }
 
 /// The answer of the lines from the second on, with registers of the type `W`, whose low bits `N` tells.
@@ -95,59 +91,92 @@ fn wide_answer_at<'a, W: FixedWidth, N: FixedWidth, A: Allocator>(
     ensures found { IfOk result (λ text. IsAnswerAt W.IS_SIGNED W.BITS (wide_answer_text N.IS_SIGNED N.BITS) lines.old.words lines.old.later text.items) }
     ensures fault { IfErr result (LinesFault W.IS_SIGNED W.BITS lines.old.words lines.old.later) }
 {
-    let Some(registers) = registers::<W, A>(alloc, lines)? else {
+    let (mut wide, steps) = registers_and_steps::<W, A>(alloc, lines)?;
+    Ok(wide_run_text::<W, N, A>(alloc, steps.as_slice(), wide.as_mut_slice())?)
+}
+
+/// The registers that the second line holds, and the steps that the later ones name.
+fn registers_and_steps<'a, R: FixedWidth, A: Allocator>(
+    alloc: &'a A,
+    lines: &mut Cursor,
+) -> Result<(Vec<R, &'a A>, Vec<Step, &'a A>), Fault>
+    requires width { R.valid }
+    requires narrow { R.BITS ≤ 120 }
+    requires short { length lines.old.later ≤ 65536 }
+    ensures registers { IfOk result (λ read. AllZip (IsValue R.IS_SIGNED R.BITS) lines.old.words (map R.number read.0.items)) }
+    ensures steps { IfOk result (λ read. AllZip (IsStep (length read.0.items)) (filter has_items lines.old.later) read.1.items) }
+    ensures within { IfOk result (λ read. WellFormed read.1.items (length read.0.items)) }
+    ensures fault { IfErr result (LinesFault R.IS_SIGNED R.BITS lines.old.words lines.old.later) }
+{
+    let Some(registers) = registers::<R, A>(alloc, lines)? else {
         return Err(Fault::Line(2));
     };
-    let mut wide = registers;
-    let steps = steps(alloc, wide.len(), lines)?;
-    let mut narrow = zeros::<N, A>(alloc, wide.len())?;
-    let ending = run_wide(steps.as_slice(), wide.as_mut_slice(), narrow.as_mut_slice());
-    Ok(wide_text_of(alloc, wide.as_slice(), narrow.as_slice(), ending)?)
+    let steps = steps(alloc, registers.len(), lines)?;
+    Ok((registers, steps))
 }
 
-/// So many zeros.
-fn zeros<'a, N: FixedWidth, A: Allocator>(
+/// Runs the steps. The registers in decimal, and how the run ended.
+fn run_text<'a, R: FixedWidth, A: Allocator>(
     alloc: &'a A,
-    count: usize,
-) -> Result<Vec<N, &'a A>, AllocError>
-    requires { N.valid }
-    ensures { IfOk result (λ zeros. length zeros.items ≡ count) }
+    steps: &[Step],
+    registers: &mut [R],
+) -> Result<Vec<u8, &'a A>, AllocError>
+    requires within { WellFormed steps.now (length registers.old) }
+    requires narrow { R.BITS ≤ 120 }
+    ensures { IfOk result (λ text. text.items ≡ answer_text (RunOf R.IS_SIGNED R.BITS steps.now (map R.number registers.old))) }
 {
-    Ok(vec![in alloc; N::zero(); count]?)
+    let ending = run(steps, registers);
+    let mut text = Vec::new(alloc);
+    push_answer(&mut text, registers, ending)?;
+    Ok(text)
 }
 
-/// The wide and the narrow registers in decimal, and how the run ended.
-fn wide_text_of<'a, W: FixedWidth, N: FixedWidth, A: Allocator>(
+/// Runs the steps on the wide registers. These and their low bits in decimal, and how the run ended.
+fn wide_run_text<'a, W: FixedWidth, N: FixedWidth, A: Allocator>(
     alloc: &'a A,
+    steps: &[Step],
+    wide: &mut [W],
+) -> Result<Vec<u8, &'a A>, AllocError>
+    requires within { WellFormed steps.now (length wide.old) }
+    requires wide_fits { W.BITS ≤ 120 }
+    requires narrow_width { N.valid }
+    requires narrow_fits { N.BITS ≤ 120 }
+    ensures { IfOk result (λ text. text.items ≡ wide_answer_text N.IS_SIGNED N.BITS (RunOf W.IS_SIGNED W.BITS steps.now (map W.number wide.old))) }
+{
+    let mut narrow = vec![in alloc; N::zero(); wide.len()]?;
+    let ending = run_wide(steps, wide, narrow.as_mut_slice());
+    let mut text = Vec::new(alloc);
+    push_wide_answer(&mut text, wide, narrow.as_slice(), ending)?;
+    Ok(text)
+}
+
+/// Appends the wide and the narrow registers in decimal, and how the run ended.
+fn push_wide_answer<W: FixedWidth, N: FixedWidth, B: Allocator>(
+    text: &mut Vec<u8, B>,
     wide: &[W],
     narrow: &[N],
     ending: Result<(), Stop>,
-) -> Result<Vec<u8, &'a A>, AllocError>
+) -> Result<(), AllocError>
     requires wide_fits { W.BITS ≤ 120 }
     requires narrow_fits { N.BITS ≤ 120 }
-    ensures { IfOk result (λ text. text.items ≡ registers_text (map W.number wide.now) ++ 10 ∷ answer_text (map N.number narrow.now, ending)) }
+    ensures { OnOk result (text.new.items ≡ text.old.items ++ (registers_text (map W.number wide.now) ++ 10 ∷ answer_text (map N.number narrow.now, ending))) }
 {
-    let mut text = Vec::new(alloc);
-    push_registers(&mut text, wide)?;
+    push_registers(text, wide)?;
     text.push(b'\n')?;
-    push_registers(&mut text, narrow)?;
-    push_ending(&mut text, ending)?;
-    Ok(text)
+    push_answer(text, narrow, ending)
 }
 
-/// The registers in decimal, and how the run ended.
-fn text_of<'a, R: FixedWidth, A: Allocator>(
-    alloc: &'a A,
+/// Appends the registers in decimal, and how the run ended.
+fn push_answer<R: FixedWidth, B: Allocator>(
+    text: &mut Vec<u8, B>,
     registers: &[R],
     ending: Result<(), Stop>,
-) -> Result<Vec<u8, &'a A>, AllocError>
+) -> Result<(), AllocError>
     requires { R.BITS ≤ 120 }
-    ensures { IfOk result (λ text. text.items ≡ answer_text (map R.number registers.now, ending)) }
+    ensures { OnOk result (text.new.items ≡ text.old.items ++ answer_text (map R.number registers.now, ending)) }
 {
-    let mut text = Vec::new(alloc);
-    push_registers(&mut text, registers)?;
-    push_ending(&mut text, ending)?;
-    Ok(text)
+    push_registers(text, registers)?;
+    push_ending(text, ending)
 }
 
 /// Appends the numbers with a space between.

@@ -1,7 +1,7 @@
 use Rattle.std.proofs.Common.{◌≡◌, ◌∙◌, length}
 use Rattle.std.proofs.lemmas.Result.{err_from_is_err_and}
 use Rattle.step_text.proofs.Forms.{fault_of_steps}
-use Rattle.step_service.proofs.answer.answer_at.Goals as goal
+use Rattle.step_service.proofs.answer.registers_and_steps.Goals as goal
 
 pub returns-in_err-steps-clause-fault : goal.returns-in_err-steps-clause-fault
 returns-in_err-steps-clause-fault g c =
