@@ -3,7 +3,7 @@
 //! A type that holds such an integer is given by value once. What to write for a second time stands in
 //! the functions below: a copy by `let` first, a method that takes `&self`, the fields, or a `match`.
 
-ghost use Rattle.std.specs.Prelude.{◌≡◌, ◌≤ℤ◌};
+ghost use Rattle.std.specs.Prelude.{◌≡◌, ◌+ℤ◌, ◌<ℤ◌, pos};
 
 use arbitrary_int::prelude::*;
 
@@ -12,7 +12,8 @@ use arbitrary_int::prelude::*;
 /// Counts up to 127. The test goes by the number: `value` says that it is in range, a comparison of what
 /// stands behind the reference does not.
 pub fn count(x: &mut u7)
-    ensures { x.old ≤ℤ x.new }
+    ensures below { x.old <ℤ pos 127 → x.new ≡ x.old +ℤ pos 1 }
+    ensures last { x.old ≡ pos 127 → x.new ≡ x.old }
 {
     if x.value() < 127 {
         *x += u7::new(1);
@@ -27,7 +28,9 @@ pub struct Timer {
 
 impl Timer {
     pub fn tick(&mut self)
-        ensures { self.old.count ≤ℤ self.new.count }
+        ensures below { self.old.count <ℤ pos 127 → self.new.count ≡ self.old.count +ℤ pos 1 }
+        ensures last { self.old.count ≡ pos 127 → self.new.count ≡ self.old.count }
+        ensures step { self.new.step ≡ self.old.step }
     {
         if self.count.value() < 127 {
             self.count += u7::new(1);

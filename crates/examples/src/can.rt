@@ -15,7 +15,6 @@ ghost use Rattle.arbitrary_int.specs.BitList.{val};
 
 use arbitrary_int::prelude::*;
 use bit_fields::Record;
-use std::io;
 
 /// What an identifier says.
 #[derive(Clone, Copy, Debug, PartialEq, Eq)]
@@ -75,22 +74,4 @@ pub fn written_and_read(identifier: Identifier, word: &mut Record) -> Identifier
 {
     identifier.write(word);
     Identifier::read(word)
-}
-
-/// Prints the fields of an identifier, and the identifier with the least priority and another source.
-pub fn show(rt: &impl Print) -> io::Result<()> {
-    let mut record = Record { bits: 0x18FE_F100 };
-    let identifier = Identifier::read(&record);
-    println!(rt;
-        "{} {} {} {} {} {}",
-        identifier.priority,
-        identifier.extended_data_page,
-        identifier.data_page,
-        identifier.format,
-        identifier.specific,
-        identifier.source
-    )?;
-    record.put(26, u3::new(7));
-    record.put(0, UInt::<u8, 8>::new(0x21));
-    println!(rt; "{:x}", record.bits)
 }

@@ -1,7 +1,6 @@
-//! The first example of the README.
+//! The first calls of a newcomer: a field of a word, a sum that wraps, and a sum that stays in range.
 
 use arbitrary_int::prelude::*;
-use std::io;
 
 /// The mode of a timer: bits 4 and 5 of its control register.
 pub fn mode(register: u32) -> u2 {
@@ -16,14 +15,4 @@ pub fn next(count: u14) -> u14 {
 /// The sum of two samples, or the nearest number that 12 bits can say.
 pub fn mixed(a: i12, b: i12) -> i12 {
     a.saturating_add(b)
-}
-
-/// Prints what each gives.
-pub fn show(rt: &impl Print) -> io::Result<()> {
-    println!(rt;
-        "{} {} {}",
-        mode(0x2f),
-        next(u14::new(16383)),
-        mixed(i12::new(2047), i12::new(1))
-    )
 }

@@ -15,7 +15,6 @@ ghost use Rattle.arbitrary_int.specs.Field.{field};
 ghost use Rattle.examples.specs.Network.{network_number};
 
 use arbitrary_int::prelude::*;
-use std::io;
 
 /// What a frame says.
 #[derive(Clone, Copy, Debug, PartialEq, Eq)]
@@ -63,19 +62,4 @@ pub fn sent_and_received(frame: Frame) -> Frame
     ensures { result ≡ frame }
 {
     Frame::decode(frame.encode())
-}
-
-/// Prints a frame's fields, and the bytes of another.
-pub fn show(rt: &impl Print) -> io::Result<()> {
-    let frame = Frame::decode([0x5A, 0xC3, 0x7F, 0xF8, 0x01]);
-    println!(rt;
-        "{} {} {} {}",
-        frame.identifier, frame.length, frame.first, frame.second
-    )?;
-    let other = Frame {
-        first: i12::new(-1),
-        ..frame
-    };
-    let bytes = other.encode();
-    println!(rt; "{:x} {:x} {:x}", bytes[0], bytes[1], bytes[2])
 }

@@ -4,7 +4,6 @@ ghost use Rattle.std.specs.Prelude.{◌≡◌, ◌↔◌, ◌+ℤ◌, ◌%◌, p
 ghost use Rattle.arbitrary_int.specs.BitList.{bits, ones};
 
 use arbitrary_int::prelude::*;
-use std::io;
 
 /// The mean of two numbers, rounded down. Their sum may be out of range.
 // The numbers are read as `u128`, which holds those of every width.
@@ -20,15 +19,4 @@ pub fn parity<V: FixedWidth>(value: V) -> bool
     ensures { IsTrue result ↔ (ones (bits V.BITS (V.number value)) % 2 ≡ 1) }
 {
     value.count_ones() % 2 == 1
-}
-
-/// Prints both for several types.
-pub fn show(rt: &impl Print) -> io::Result<()> {
-    println!(rt; "{} {}", mean(u7::new(127), u7::new(126)), mean(255u8, 0u8))?;
-    println!(rt;
-        "{} {} {}",
-        u10::BITS,
-        parity(u10::new(0b111)),
-        parity(i10::new(-1))
-    )
 }

@@ -5,10 +5,8 @@ ghost use Rattle.std.specs.Ordering.{int_eq};
 ghost use Rattle.std.specs.HashMap.{get};
 
 use arbitrary_int::prelude::*;
-use indexmap::IndexMap;
 use std::alloc::{AllocFailed, Global};
 use std::collections::HashMap;
-use std::io;
 
 /// Gives a line its priority.
 pub fn set_priority(
@@ -31,22 +29,4 @@ pub fn priority(priorities: &HashMap<u5, u7>, line: u5) -> u7
         Some(priority) => *priority,
         None => u7::new(0),
     }
-}
-
-/// Prints the priorities of two lines, and corrections by step, in the order in which they were made.
-pub fn show(rt: &impl Print, alloc: Global) -> io::Result<()> {
-    let mut priorities = HashMap::new(alloc);
-    set_priority(&mut priorities, u5::new(11), u7::new(9))?;
-    println!(rt;
-        "{} {}",
-        priority(&priorities, u5::new(11)),
-        priority(&priorities, u5::new(12))
-    )?;
-    let mut corrections = IndexMap::new(alloc);
-    corrections.insert(i3::new(3), 25u8)?;
-    corrections.insert(i3::new(-4), 40u8)?;
-    for (step, times) in corrections.iter() {
-        println!(rt; "{step}: {times}")?;
-    }
-    Ok(())
 }

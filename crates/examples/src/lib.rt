@@ -1,6 +1,6 @@
 //! How the library is used: a device's register, a packet header, a frame of bytes, a sensor, a log, lists of
 //! steps at one width and at two, code for every width, fields in a record, and numbers as text and as keys.
-//! The program `tour` shows what each gives.
+//! The program `tour` prints what each gives.
 #![tactic(auto)]
 
 pub mod can;

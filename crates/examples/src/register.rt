@@ -13,7 +13,6 @@ ghost use Rattle.std.specs.Prelude.{◌≡◌, ◌+ℤ◌, ◌*ℤ◌, pos};
 ghost use Rattle.arbitrary_int.specs.Field.{field};
 
 use arbitrary_int::prelude::*;
-use std::io;
 
 /// What the register says.
 #[derive(Clone, Copy, Debug, PartialEq, Eq)]
@@ -75,15 +74,4 @@ pub fn started(register: u32, reload: u14) -> u32
         ..Control::read(register)
     };
     control.word()
-}
-
-/// Prints a register's fields, and the register once the timer is started.
-pub fn show(rt: &impl Print) -> io::Result<()> {
-    let register = 0x0003_E82A;
-    let control = Control::read(register);
-    println!(rt;
-        "{} {} {} {}",
-        control.enable, control.prescaler, control.mode, control.reload
-    )?;
-    println!(rt; "{:x}", started(register, u14::new(500)))
 }

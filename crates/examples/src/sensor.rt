@@ -9,7 +9,6 @@ ghost use Rattle.arbitrary_int.specs.Total.{PartialsFit};
 
 use arbitrary_int::prelude::*;
 use arbitrary_int::try_sum;
-use std::io;
 
 /// The sample in the low 12 bits of what the sensor sends. Bit 11 is its sign.
 pub fn sample(raw: u16) -> i12
@@ -53,22 +52,4 @@ pub fn sum(samples: &[i12]) -> Option<i12>
     ensures { MatchOption result (¬ (PartialsFit true 12 (λ a b. a +ℤ b) (pos 0) samples.now)) (λ x. PartialsFit true 12 (λ a b. a +ℤ b) (pos 0) samples.now × (x ≡ fold (λ a b. a +ℤ b) (pos 0) samples.now)) }
 {
     try_sum(samples.iter().copied())
-}
-
-/// Prints what becomes of a few samples.
-pub fn show(rt: &impl Print) -> io::Result<()> {
-    let high = sample(0x07FF);
-    let low = sample(0xF800);
-    println!(rt; "{high} {low} {}", second_sample(0x00FF_E000))?;
-    println!(rt;
-        "{} {}",
-        amplified(high, i12::new(2)),
-        amplified(low, i12::new(-1))
-    )?;
-    println!(rt; "{} {}", difference(low, high), millivolts(low))?;
-    println!(rt;
-        "{:?} {:?}",
-        sum(&[high, low, high]),
-        sum(&[high, high, low])
-    )
 }

@@ -5,7 +5,6 @@ ghost use Rattle.arbitrary_int.specs.Residue.{wrap};
 
 use arbitrary_int::u7;
 use num_traits::WrappingAdd;
-use std::io;
 
 /// The sum, wrapped, at any type of integers.
 pub fn wrapped_sum<T: WrappingAdd>(a: T, b: T) -> T
@@ -19,13 +18,4 @@ pub fn next_message(number: u7) -> u7
     ensures { result ≡ wrap false 7 (number +ℤ pos 1) }
 {
     wrapped_sum(number, u7::new(1))
-}
-
-/// Prints a message's number, and a byte's sum.
-pub fn show(rt: &impl Print) -> io::Result<()> {
-    println!(rt;
-        "{} {}",
-        next_message(u7::new(127)),
-        wrapped_sum(200u8, 100u8)
-    )
 }

@@ -8,7 +8,6 @@ ghost use Rattle.arbitrary_int.specs.BitList.{val};
 use crate::register::Control;
 use arbitrary_int::prelude::*;
 use bit_fields::Record;
-use std::io;
 
 /// The register's fields.
 pub fn read(register: &Record) -> Control
@@ -57,11 +56,4 @@ pub fn start(register: &mut Record, reload: u14)
 {
     register.put(0, u1::new(1));
     register.put(8, reload);
-}
-
-/// Prints the register once the timer is started, and its mode.
-pub fn show(rt: &impl Print) -> io::Result<()> {
-    let mut register = Record { bits: 0xFF03_E86A };
-    start(&mut register, u14::new(500));
-    println!(rt; "{:x} {}", register.bits, read(&register).mode)
 }

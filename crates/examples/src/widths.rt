@@ -8,7 +8,6 @@ ghost use Rattle.arbitrary_int.specs.Widths.{OnlyCheckedArithmetic, RangeWithin}
 
 use arbitrary_int::prelude::*;
 use arbitrary_int::{Step, Stop, TwoOp, run, run_wide};
-use std::io;
 
 /// The low 7 bits of a product of 14 bits. They are the product of the factors' own low 7 bits.
 pub fn low_product(a: u14, b: u14) -> i7
@@ -43,28 +42,4 @@ pub fn moved<A: FixedWidth, B: FixedWidth>(
     ensures same_registers { result.0 ≡ Ok tt → map B.number wider.new ≡ map A.number registers.new }
 {
     (run(steps, registers), run(steps, wider))
-}
-
-/// Prints a product's low bits, and registers of 7 and of 14 bits after the same steps.
-pub fn show(rt: &impl Print) -> io::Result<()> {
-    println!(rt; "{}", low_product(u14::new(200), u14::new(300)))?;
-    let steps = [
-        Step::Two {
-            op: TwoOp::CheckedMul,
-            to: 0,
-            left: 0,
-            right: 1,
-        },
-        Step::Two {
-            op: TwoOp::CheckedSub,
-            to: 1,
-            left: 1,
-            right: 0,
-        },
-    ];
-    let mut registers = [i7::new(-7), i7::new(7)];
-    let mut wider = [i14::new(-7), i14::new(7)];
-    let _endings = moved(&steps, &mut registers, &mut wider);
-    let (left, right) = (&registers[..], &wider[..]);
-    println!(rt; "{} {} {} {}", left[0], left[1], right[0], right[1])
 }

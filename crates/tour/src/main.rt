@@ -1,11 +1,22 @@
-//! Shows what the examples give, one after the other.
+//! Shows what the examples give, one after the other: each module prints what the module of its name gives.
 #![tactic(auto)]
 
-use examples::{
-    can, first, frame, generic, header, journal, keys, register, sensor, steps, sums, texts, timer,
-    widths,
-};
 use std::io;
+
+mod can;
+mod first;
+mod frame;
+mod generic;
+mod header;
+mod journal;
+mod keys;
+mod register;
+mod sensor;
+mod steps;
+mod sums;
+mod texts;
+mod timer;
+mod widths;
 
 fn main(rt: HostRuntime) -> io::Result<()> {
     first::show(&rt)?;
