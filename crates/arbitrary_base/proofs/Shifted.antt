@@ -46,31 +46,26 @@ pub shr-high : (s : Bool) (B k : ℕ) (x z : ℤ) → 1 ≤ B → k < B → InRa
 shr-high s B k x z h g f e =
     subst (λ (y : ℤ). x <ℤ (y *ℤ pos (2 ^ k) +ℤ pos (2 ^ k))) (sym (e ∙ val-shr s B k x h (omega arith) f)) (int_shr-high k x)
 
+-- a number below 2^B that is shifted by k is below 2^C, where C and k make B
+shifted-below : (B C k n : ℕ) → B ≡ C + k → n < 2 ^ B → int_shr (pos n) k <ℤ pos (2 ^ C)
+shifted-below B C k n e l = let d = shr_lt C k (subst (λ (m : ℕ). n < 2 ^ m) e l) in omega (arith, ints)
+
 int_shr-range : (s : Bool) (B k : ℕ) (x : ℤ) → k < B → InRange s B x → InRange s (B - k) (int_shr x k)
 int_shr-range false B k (negsuc n) g f = let l = f.low in absurd (omega (arith, ints))
 int_shr-range false B k (pos n) g f =
     let t = f.high in
     let p = pow_pos B in
-    let q = pow_pos (B - k) in
-    let e : B ≡ (B - k) + k = omega arith in
-    let l : n < 2 ^ ((B - k) + k) = subst (λ (m : ℕ). n < 2 ^ m) e (omega (arith, ints)) in
-    let d = shr_lt (B - k) k l in
+    let d = shifted-below B (B - k) k n (omega arith) (omega (arith, ints)) in
     record { low = omega (arith, ints); high = omega (arith, ints) }
 int_shr-range true B k (pos n) g f =
     let t = f.high in
     let p = pow_pos (B - 1) in
-    let q = pow_pos (B - k - 1) in
-    let e : B - 1 ≡ (B - k - 1) + k = omega arith in
-    let l : n < 2 ^ ((B - k - 1) + k) = subst (λ (m : ℕ). n < 2 ^ m) e (omega (arith, ints)) in
-    let d = shr_lt (B - k - 1) k l in
+    let d = shifted-below (B - 1) (B - k - 1) k n (omega arith) (omega (arith, ints)) in
     record { low = omega (arith, ints); high = omega (arith, ints) }
 int_shr-range true B k (negsuc n) g f =
     let t = f.low in
     let p = pow_pos (B - 1) in
-    let q = pow_pos (B - k - 1) in
-    let e : B - 1 ≡ (B - k - 1) + k = omega arith in
-    let l : n < 2 ^ ((B - k - 1) + k) = subst (λ (m : ℕ). n < 2 ^ m) e (omega (arith, ints)) in
-    let d = shr_lt (B - k - 1) k l in
+    let d = shifted-below (B - 1) (B - k - 1) k n (omega arith) (omega (arith, ints)) in
     record { low = omega (arith, ints); high = omega (arith, ints) }
 
 pub shr-range : (s : Bool) (B k : ℕ) (x z : ℤ) → 1 ≤ B → k < B → InRange s B x → z ≡ val s (shr (bits B x) k (fill s (bits B x))) → InRange s (B - k) z

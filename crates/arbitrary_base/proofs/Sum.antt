@@ -102,30 +102,25 @@ sub-refuses s B x y w h e t i =
     let q : w ≡ x -ℤ y = e ∙ wrap-of_in_range s B (x -ℤ y) h i in
     t ((λ a. omega (arith, ints)), (λ a. omega (arith, ints)))
 
+-- tests that hold in the same cases do not differ
+same_tests : (b z : Bool) → beq b z ≡ false → (b ≡ true → z ≡ true) → (z ≡ true → b ≡ true) → ⊥
+same_tests true true t m n = cc
+same_tests true false t m n = let k = m refl in cc
+same_tests false true t m n = let k = n refl in cc
+same_tests false false t m n = cc
+
 -- the same, by the tests that the code makes
 pub add-refuses_test : (s : Bool) (B : ℕ) (x y w : ℤ) (b z : Bool) → 1 ≤ B → w ≡ wrap s B (x +ℤ y)
     → b ≡ int_lt w x → z ≡ int_lt y (pos 0) → beq b z ≡ false → InRange s B (x +ℤ y) → ⊥
 add-refuses_test s B x y w b z h e p q t i =
     let r : w ≡ x +ℤ y = e ∙ wrap-of_in_range s B (x +ℤ y) h i in
-    same-tests b z t (λ m. grind (arith, ints)) (λ m. grind (arith, ints))
-  where
-    same-tests : (b z : Bool) → beq b z ≡ false → (b ≡ true → z ≡ true) → (z ≡ true → b ≡ true) → ⊥
-    same-tests true true t m n = cc
-    same-tests true false t m n = let k = m refl in cc
-    same-tests false true t m n = let k = n refl in cc
-    same-tests false false t m n = cc
+    same_tests b z t (λ m. grind (arith, ints)) (λ m. grind (arith, ints))
 
 pub sub-refuses_test : (s : Bool) (B : ℕ) (x y w : ℤ) (b z : Bool) → 1 ≤ B → w ≡ wrap s B (x -ℤ y)
     → b ≡ int_lt x w → z ≡ int_lt y (pos 0) → beq b z ≡ false → InRange s B (x -ℤ y) → ⊥
 sub-refuses_test s B x y w b z h e p q t i =
     let r : w ≡ x -ℤ y = e ∙ wrap-of_in_range s B (x -ℤ y) h i in
-    same-tests b z t (λ m. grind (arith, ints)) (λ m. grind (arith, ints))
-  where
-    same-tests : (b z : Bool) → beq b z ≡ false → (b ≡ true → z ≡ true) → (z ≡ true → b ≡ true) → ⊥
-    same-tests true true t m n = cc
-    same-tests true false t m n = let k = m refl in cc
-    same-tests false true t m n = let k = n refl in cc
-    same-tests false false t m n = cc
+    same_tests b z t (λ m. grind (arith, ints)) (λ m. grind (arith, ints))
 
 pub range_test : (s : Bool) (B : ℕ) (x w : ℤ) (b : Bool) → 1 ≤ B → w ≡ wrap s B x → b ≡ int_eq w x → IsTrue b ↔ InRange s B x
 range_test s B x w b h e p =

@@ -1,5 +1,3 @@
-use Rattle.std.proofs.Common.{◌∙◌, ap}
-use Rattle.arbitrary_base.specs.Saturation.{clamp}
 use Rattle.arbitrary_base.proofs.Narrow.{InRange-wider}
 use Rattle.arbitrary_base.proofs.Clamp.{clamp-InRange}
 use Rattle.arbitrary_base.proofs.Squaring.{count-bound, far-end}
@@ -11,11 +9,10 @@ exact_power-requires-clause-range g c = InRange-wider _ _ _ _ c.requires.width c
 
 pub returns-clause-value : goal.returns-clause-value
 returns-clause-value g c =
-    let n = g.T.Storage.number in
     let s = g.T.Storage.SIGNED in
     elim c.match-exact_power.branch [
-      | in-Some w ↦ ap n w.power-is ∙ w.clamped-power.ensures ∙ ap (clamp s c.args.bits) w.in-Some.ensures.value
-      | in-None w ↦ ap n w.power-is ∙ far-end s _ _ _ _ _ c.requires.width c.requires.storage w.in-None.ensures.value w.is_power_below_zero.ensures w.end-power.ensures
+      | in-Some w ↦ let clamped = w.clamped-power.ensures in let exact = w.in-Some.ensures.value in rw w.power-is (cc)
+      | in-None w ↦ rw w.power-is (far-end s _ _ _ _ _ c.requires.width c.requires.storage w.in-None.ensures.value w.is_power_below_zero.ensures w.end-power.ensures)
     ]
 
 pub returns-clause-range : goal.returns-clause-range

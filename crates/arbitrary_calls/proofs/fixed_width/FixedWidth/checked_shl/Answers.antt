@@ -17,6 +17,5 @@ pub returns-then-amount-BITS-clause-congruent : goal.returns-then-amount-BITS-cl
 returns-then-amount-BITS-clause-congruent g c =
     let t = g.met.Self.FixedWidth.sign_law in
     let l : c.args.amount < g.Self.Integer.BITS = omega arith in
-    let r = subst (λ (s : Bool). InRange s g.Self.Integer.BITS (g.Self.Integer.number c.args.self)) t c.kept.ensures.range in
     let e : g.Self.Integer.number c.from_kept.result ≡ val g.Self.Integer.IS_SIGNED (shl (bits g.Self.Integer.BITS (g.Self.Integer.number c.args.self)) c.args.amount) = cc in
     shl-congruent _ _ _ _ _ c.kept.ensures.some l e
