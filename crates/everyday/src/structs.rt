@@ -71,7 +71,9 @@ pub fn by_reference(timer: Timer) -> (u7, u7, u3)
 
 /// The fields, before the whole is given away.
 pub fn fields_first(timer: Timer) -> (u7, u3, u3)
-    ensures { result.0 ≡ timer.count }
+    ensures count { result.0 ≡ timer.count }
+    ensures step { result.1 ≡ timer.step }
+    ensures whole { result.2 ≡ timer.step }
 {
     let Timer { count, step } = timer;
     (count, step, timer.steps())
@@ -119,6 +121,9 @@ pub fn pair_taken_apart(pair: (u5, u5)) -> (u5, u5, u5, u5)
 }
 
 /// The numbers themselves may be used any number of times.
-pub fn number_twice(x: u11) -> (u11, u11) {
+pub fn number_twice(x: u11) -> (u11, u11)
+    ensures first { result.0 ≡ x }
+    ensures second { result.1 ≡ x }
+{
     (x, x)
 }
