@@ -65,7 +65,10 @@ pub fn borrow(a: u4, b: u4) -> bool
     a.overflowing_sub(b).1
 }
 
-pub fn next(x: u4) -> u4 {
+pub fn next(x: u4) -> u4
+    ensures below { x <ℤ pos 15 → result ≡ x +ℤ pos 1 }
+    ensures last { x ≡ pos 15 → result ≡ pos 0 }
+{
     if x < u4::max_value() {
         x + u4::new(1)
     } else {
@@ -73,7 +76,10 @@ pub fn next(x: u4) -> u4 {
     }
 }
 
-pub fn next_by_number(x: u4) -> u4 {
+pub fn next_by_number(x: u4) -> u4
+    ensures below { x <ℤ pos 15 → result ≡ x +ℤ pos 1 }
+    ensures last { x ≡ pos 15 → result ≡ pos 0 }
+{
     if x.value() < 15 {
         x + u4::new(1)
     } else {
@@ -81,7 +87,10 @@ pub fn next_by_number(x: u4) -> u4 {
     }
 }
 
-pub fn less_three(x: u4) -> u4 {
+pub fn less_three(x: u4) -> u4
+    ensures above { pos 3 <ℤ x → result ≡ x -ℤ pos 3 }
+    ensures others { x ≤ℤ pos 3 → result ≡ x }
+{
     if x > u4::new(3) { x - u4::new(3) } else { x }
 }
 
@@ -116,7 +125,9 @@ pub fn difference(a: u12, b: u12) -> i13
     i13::from_(a) - i13::from_(b)
 }
 
-pub fn halves(a: i12, b: i12) -> i12 {
+pub fn halves(a: i12, b: i12) -> i12
+    ensures { (pos 2 *ℤ result) ≤ℤ (a +ℤ b) }
+{
     (a >> 1) + (b >> 1)
 }
 
@@ -132,7 +143,10 @@ pub fn quotient(a: u12) -> u12
     a / u12::new(10)
 }
 
-pub fn absolute(x: i12) -> i12 {
+pub fn absolute(x: i12) -> i12
+    ensures positive { pos 0 ≤ℤ x → result ≡ x }
+    ensures negative { neg_ℤ (pos 2048) <ℤ x → x <ℤ pos 0 → result ≡ neg_ℤ x }
+{
     if x.is_negative() && x != i12::min_value() {
         -x
     } else {

@@ -1,7 +1,8 @@
 //! Fields, masks, shifts, rotations and counts.
 
-ghost use Rattle.std.specs.Prelude.{◌≡◌, ◌↔◌, ◌/◌, ◌%◌, ◌+ℤ◌, ◌-ℤ◌, ◌*ℤ◌, ◌≤ℤ◌, ◌<ℤ◌, pos, neg_ℤ, unsigned_abs, int_div, IsTrue};
+ghost use Rattle.std.specs.Prelude.{◌≡◌, ◌↔◌, ◌/◌, ◌%◌, ◌+ℤ◌, ◌-ℤ◌, ◌*ℤ◌, ◌≤ℤ◌, ◌<ℤ◌, pos, neg_ℤ, unsigned_abs, int_div, false, IsTrue};
 ghost use Rattle.std.specs.Int.Bits.{bit_or};
+ghost use Rattle.arbitrary_int.specs.BitList.{bits, ones, tail};
 ghost use Rattle.arbitrary_int.specs.Field.{field};
 
 use arbitrary_int::prelude::*;
@@ -117,11 +118,15 @@ pub fn reversed_twice(x: u12) -> u12
     x.reverse_bits().reverse_bits()
 }
 
-pub fn count_fits(x: u12) -> u4 {
+pub fn count_fits(x: u12) -> u4
+    ensures { result ≡ pos (ones (bits 12 x)) }
+{
     u4::new(x.count_ones() as u8)
 }
 
-pub fn zeros_fit(x: u12) -> u4 {
+pub fn zeros_fit(x: u12) -> u4
+    ensures { result ≡ pos (tail false (bits 12 x)) }
+{
     u4::new(x.leading_zeros() as u8)
 }
 

@@ -1,6 +1,7 @@
 //! Indices, masks and casts.
 
-ghost use Rattle.std.specs.Prelude.{◌≡◌, ◌/◌, ◌%◌, ◌<◌, ◌+ℤ◌, ◌-ℤ◌, ◌*ℤ◌, ◌≤ℤ◌, ◌<ℤ◌, pos, neg_ℤ, IsTrue};
+ghost use Rattle.std.specs.Prelude.{◌≡◌, ◌/◌, ◌%◌, ◌^◌, ◌<◌, ◌+ℤ◌, ◌-ℤ◌, ◌*ℤ◌, ◌≤ℤ◌, ◌<ℤ◌, pos, neg_ℤ, int_div, IsTrue};
+ghost use Rattle.arbitrary_int.specs.Residue.{Congruent};
 
 use arbitrary_int::prelude::*;
 
@@ -34,7 +35,9 @@ pub fn new_of_shift(x: u8) -> u4
     u4::new(x >> 4)
 }
 
-pub fn new_of_odd_mask(x: u32) -> u29 {
+pub fn new_of_odd_mask(x: u32) -> u29
+    ensures { result ≡ pos (x % 2 ^ 29) }
+{
     u29::new(x & 0x1FFF_FFFF)
 }
 
@@ -75,7 +78,9 @@ pub fn from_small(x: u4) -> u8
     u8::from_(x)
 }
 
-pub fn from_adds(x: u4) -> u8 {
+pub fn from_adds(x: u4) -> u8
+    ensures { pos result ≡ x +ℤ pos 240 }
+{
     u8::from_(x) + 240
 }
 
@@ -104,19 +109,27 @@ pub fn tried(x: u8) -> bool
     u4::try_new(x).is_ok()
 }
 
-pub fn millivolts_as(x: i12) -> i32 {
+pub fn millivolts_as(x: i12) -> i32
+    ensures { result ≡ int_div (x *ℤ pos 2500) (pos 2048) }
+{
     x.as_i32() * 2500 / 2048
 }
 
-pub fn millivolts_from(x: i12) -> i32 {
+pub fn millivolts_from(x: i12) -> i32
+    ensures { result ≡ int_div (x *ℤ pos 2500) (pos 2048) }
+{
     i32::from_(x) * 2500 / 2048
 }
 
-pub fn millivolts_value(x: i12) -> i32 {
+pub fn millivolts_value(x: i12) -> i32
+    ensures { result ≡ int_div (x *ℤ pos 2500) (pos 2048) }
+{
     i32::from(x.value()) * 2500 / 2048
 }
 
-pub fn left_justified(x: i16) -> i12 {
+pub fn left_justified(x: i16) -> i12
+    ensures { (pos 16 *ℤ result) ≤ℤ x }
+{
     i12::new(x >> 4)
 }
 
@@ -126,7 +139,9 @@ pub fn left_justified_extract(x: i16) -> i12
     i12::extract_i16(x, 4)
 }
 
-pub fn from_bits_of_mask(x: u16) -> i12 {
+pub fn from_bits_of_mask(x: u16) -> i12
+    ensures { Congruent 12 result (pos (x % 4096)) }
+{
     i12::from_bits(x & 0xFFF)
 }
 
