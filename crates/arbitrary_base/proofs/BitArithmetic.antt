@@ -30,7 +30,7 @@ in_range-reach false B n h = unsigned-in_range B n h
 in_range-reach true B n h = let o = pow_pos (B - 1) in record { low = omega (arith, ints); high = omega (arith, ints) }
 
 -- in range and not below zero, the bits spell the number itself
-num-plain : (s : Bool) (B : ℕ) (x : ℤ) → InRange s B x → pos 0 ≤ℤ x → num (bits B x) ≡ unsigned_abs x
+pub num-plain : (s : Bool) (B : ℕ) (x : ℤ) → InRange s B x → pos 0 ≤ℤ x → num (bits B x) ≡ unsigned_abs x
 num-plain s B (negsuc n) f p = absurd (omega (arith, ints))
 num-plain s B (pos n) f p = num-bits_small B n (lt_of_lt_of_le (below-reach s B (pos n) f p) (pow_le (reach s B) B (reach-le s B)))
   where

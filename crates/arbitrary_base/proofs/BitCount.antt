@@ -10,7 +10,7 @@ use Rattle.arbitrary_base.specs.BitList.{bits, digit, num, bits_not, ones, front
 use Rattle.arbitrary_base.proofs.BitNumber.{length-bits, num-lt_of, num-append, cons-mod, cons-div}
 use Rattle.arbitrary_base.proofs.BitShift.{reverse-cons}
 
-ones-cons : (b : Bool) (l : List Bool) → ones (b ∷ l) ≡ digit b + ones l
+pub ones-cons : (b : Bool) (l : List Bool) → ones (b ∷ l) ≡ digit b + ones l
 ones-cons b l = sum_by-cons digit b l
 
 pub ones-num : (l : List Bool) → set_digits (num l) ≡ ones l

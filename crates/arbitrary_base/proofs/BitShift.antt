@@ -38,7 +38,7 @@ items-items s t A B l h =
     ∙ ap (take A) (drop-take t (B - t) (drop s l) ∙ ap (take (B - t)) (drop-drop t s l))
     ∙ take-take A (B - t) (drop (s + t) l) (omega arith)
 
-replicate-not : (k : ℕ) (f : Bool) → bits_not (replicate k f) ≡ replicate k (not f)
+pub replicate-not : (k : ℕ) (f : Bool) → bits_not (replicate k f) ≡ replicate k (not f)
 replicate-not zero f = refl
 replicate-not (suc k) f = ap (λ (l : List Bool). not f ∷ l) (replicate-not k f)
 

@@ -38,7 +38,7 @@ residue-same B x y h c =
     (Congruent-trans B _ x _ (residue-congruent B x) (Congruent-trans B x y _ c (Congruent-sym B _ y (residue-congruent B y)))))
 
 -- congruent numbers have the same bits
-bits-congruent : (B : ℕ) (x y : ℤ) → Congruent B x y → bits B x ≡ bits B y
+pub bits-congruent : (B : ℕ) (x y : ℤ) → Congruent B x y → bits B x ≡ bits B y
 unfolding bits
 bits-congruent zero x y c = refl
 bits-congruent (suc k) x y c =

@@ -30,3 +30,12 @@ pub mod Size
 pub mod SmallNumber
 pub mod ByteNumber
 pub mod StreamSteps
+pub mod Pointwise
+pub mod Operation
+pub mod Rotations
+pub mod BitwiseLaws
+pub mod RingLaws
+pub mod ShiftLaws
+pub mod RotationLaws
+pub mod CountLaws
+pub mod MixedLaws

@@ -35,7 +35,7 @@ rotr-undoes s B k x z y h g f e d =
     let t : k ≤ length (bits B y) = omega (arith, length-bits B y) in
     d ∙ ap (λ (m : List Bool). val s (rotr m k)) l ∙ ap (val s) (rotr-rotl (bits B y) k t) ∙ val-bits_in_range s B y h f
 
-rotl-rotr : (l : List Bool) (k : ℕ) → k ≤ length l → rotl (rotr l k) k ≡ l
+pub rotl-rotr : (l : List Bool) (k : ℕ) → k ≤ length l → rotl (rotr l k) k ≡ l
 rotl-rotr l k h =
     let n : length (rotr l k) - k ≡ length (drop k l) = omega (arith, length-rotr l k, length-drop k l) in
     rw (n, take_at (drop k l) (take k l) (length (drop k l)) refl, drop_at (drop k l) (take k l) (length (drop k l)) refl) (take-append-drop k l)

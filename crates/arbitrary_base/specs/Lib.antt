@@ -4,6 +4,7 @@ pub mod Field
 pub mod Saturation
 pub mod Exact
 pub mod BitList
+pub mod Operation
 pub mod BitField
 pub mod Power
 pub mod Order

@@ -6,6 +6,7 @@ ghost use Rattle.arbitrary_base.specs.Residue.{Congruent, wrap};
 ghost use Rattle.arbitrary_base.specs.Saturation.{clamp};
 ghost use Rattle.arbitrary_base.specs.Exact.{ExactOrNone, QuotientOrNone};
 ghost use Rattle.arbitrary_base.specs.Power.{power, binary_digits};
+ghost use Rattle.arbitrary_base.specs.Operation.{reversed, rotated_left, rotated_right, shifted_left, shifted_right, wrapped_difference, wrapped_product, wrapped_sum};
 ghost use Rattle.arbitrary_base.specs.BitList.{bits, val, bits_and, bits_or, bits_xor, bits_not, fill, front, ones, rotl, rotr, shl, shr, tail};
 
 use crate::patterned::Patterned;
@@ -58,6 +59,7 @@ pub trait FixedWidth: Integer + Patterned {
 
     /// The sum, wrapped.
     final fn wrapping_add(self, rhs: Self) -> Self
+        ensures operation { Self.number result ≡ wrapped_sum Self.IS_SIGNED Self.BITS (Self.number self) (Self.number rhs) }
         ensures value { Self.number result ≡ wrap Self.IS_SIGNED Self.BITS (Self.number self +ℤ Self.number rhs) }
         ensures kept { InRange Self.IS_SIGNED Self.BITS (Self.number self +ℤ Self.number rhs) → Self.number result ≡ Self.number self +ℤ Self.number rhs }
         ensures congruent { Congruent Self.BITS (Self.number result) (Self.number self +ℤ Self.number rhs) }
@@ -102,6 +104,7 @@ pub trait FixedWidth: Integer + Patterned {
 
     /// The difference, wrapped.
     final fn wrapping_sub(self, rhs: Self) -> Self
+        ensures operation { Self.number result ≡ wrapped_difference Self.IS_SIGNED Self.BITS (Self.number self) (Self.number rhs) }
         ensures value { Self.number result ≡ wrap Self.IS_SIGNED Self.BITS (Self.number self -ℤ Self.number rhs) }
         ensures kept { InRange Self.IS_SIGNED Self.BITS (Self.number self -ℤ Self.number rhs) → Self.number result ≡ Self.number self -ℤ Self.number rhs }
         ensures congruent { Congruent Self.BITS (Self.number result) (Self.number self -ℤ Self.number rhs) }
@@ -146,6 +149,7 @@ pub trait FixedWidth: Integer + Patterned {
 
     /// The product, wrapped.
     final fn wrapping_mul(self, rhs: Self) -> Self
+        ensures operation { Self.number result ≡ wrapped_product Self.IS_SIGNED Self.BITS (Self.number self) (Self.number rhs) }
         ensures value { Self.number result ≡ wrap Self.IS_SIGNED Self.BITS (Self.number self *ℤ Self.number rhs) }
         ensures kept { InRange Self.IS_SIGNED Self.BITS (Self.number self *ℤ Self.number rhs) → Self.number result ≡ Self.number self *ℤ Self.number rhs }
         ensures congruent { Congruent Self.BITS (Self.number result) (Self.number self *ℤ Self.number rhs) }
@@ -258,6 +262,7 @@ pub trait FixedWidth: Integer + Patterned {
 
     /// The bits moved `amount` modulo `BITS` places toward the high end: zeros come in below, and what passes the end is lost.
     final fn wrapping_shl(self, amount: u32) -> Self
+        ensures operation { Self.number result ≡ shifted_left Self.IS_SIGNED Self.BITS (Self.number self) (amount % Self.BITS) }
         ensures value { Self.number result ≡ val Self.IS_SIGNED (shl (bits Self.BITS (Self.number self)) (amount % Self.BITS)) }
         ensures plain { Self.IS_SIGNED ≡ false → Self.number result ≡ pos (unsigned_abs (Self.number self) * 2 ^ (amount % Self.BITS) % 2 ^ Self.BITS) }
         ensures congruent { Congruent Self.BITS (Self.number result) (Self.number self *ℤ pos (2 ^ (amount % Self.BITS))) }
@@ -269,6 +274,7 @@ pub trait FixedWidth: Integer + Patterned {
     /// or more.
     final fn checked_shl(self, amount: u32) -> Option<Self>
         ensures refused { IsNone result ↔ (Self.BITS ≤ amount) }
+        ensures operation { IfSome result (λ r. Self.number r ≡ shifted_left Self.IS_SIGNED Self.BITS (Self.number self) amount) }
         ensures value { IfSome result (λ r. Self.number r ≡ val Self.IS_SIGNED (shl (bits Self.BITS (Self.number self)) amount)) }
         ensures plain { Self.IS_SIGNED ≡ false → IfSome result (λ r. Self.number r ≡ pos (unsigned_abs (Self.number self) * 2 ^ amount % 2 ^ Self.BITS)) }
         ensures congruent { IfSome result (λ r. Congruent Self.BITS (Self.number r) (Self.number self *ℤ pos (2 ^ amount))) }
@@ -282,6 +288,7 @@ pub trait FixedWidth: Integer + Patterned {
 
     /// `wrapping_shl`, and whether `amount` is `BITS` or more.
     final fn overflowing_shl(self, amount: u32) -> (Self, bool)
+        ensures operation { Self.number result.0 ≡ shifted_left Self.IS_SIGNED Self.BITS (Self.number self) (amount % Self.BITS) }
         ensures value { Self.number result.0 ≡ val Self.IS_SIGNED (shl (bits Self.BITS (Self.number self)) (amount % Self.BITS)) }
         ensures overflow { IsTrue result.1 ↔ (Self.BITS ≤ amount) }
         ensures plain { Self.IS_SIGNED ≡ false → Self.number result.0 ≡ pos (unsigned_abs (Self.number self) * 2 ^ (amount % Self.BITS) % 2 ^ Self.BITS) }
@@ -292,6 +299,7 @@ pub trait FixedWidth: Integer + Patterned {
 
     /// The bits moved `amount` modulo `BITS` places toward the low end: copies of the sign come in above, or zeros where the type has none.
     final fn wrapping_shr(self, amount: u32) -> Self
+        ensures operation { Self.number result ≡ shifted_right Self.IS_SIGNED Self.BITS (Self.number self) (amount % Self.BITS) }
         ensures value { Self.number result ≡ val Self.IS_SIGNED (shr (bits Self.BITS (Self.number self)) (amount % Self.BITS) (fill Self.IS_SIGNED (bits Self.BITS (Self.number self)))) }
         ensures quotient { Self.IS_SIGNED ≡ false → Self.number result ≡ int_div (Self.number self) (pos (2 ^ (amount % Self.BITS))) }
         ensures low { (Self.number result *ℤ pos (2 ^ (amount % Self.BITS))) ≤ℤ Self.number self }
@@ -305,6 +313,7 @@ pub trait FixedWidth: Integer + Patterned {
     /// or more.
     final fn checked_shr(self, amount: u32) -> Option<Self>
         ensures refused { IsNone result ↔ (Self.BITS ≤ amount) }
+        ensures operation { IfSome result (λ r. Self.number r ≡ shifted_right Self.IS_SIGNED Self.BITS (Self.number self) amount) }
         ensures value { IfSome result (λ r. Self.number r ≡ val Self.IS_SIGNED (shr (bits Self.BITS (Self.number self)) amount (fill Self.IS_SIGNED (bits Self.BITS (Self.number self))))) }
         ensures quotient { Self.IS_SIGNED ≡ false → IfSome result (λ r. Self.number r ≡ int_div (Self.number self) (pos (2 ^ amount))) }
         ensures low { IfSome result (λ r. (Self.number r *ℤ pos (2 ^ amount)) ≤ℤ Self.number self) }
@@ -320,6 +329,7 @@ pub trait FixedWidth: Integer + Patterned {
 
     /// `wrapping_shr`, and whether `amount` is `BITS` or more.
     final fn overflowing_shr(self, amount: u32) -> (Self, bool)
+        ensures operation { Self.number result.0 ≡ shifted_right Self.IS_SIGNED Self.BITS (Self.number self) (amount % Self.BITS) }
         ensures value { Self.number result.0 ≡ val Self.IS_SIGNED (shr (bits Self.BITS (Self.number self)) (amount % Self.BITS) (fill Self.IS_SIGNED (bits Self.BITS (Self.number self)))) }
         ensures overflow { IsTrue result.1 ↔ (Self.BITS ≤ amount) }
         ensures quotient { Self.IS_SIGNED ≡ false → Self.number result.0 ≡ int_div (Self.number self) (pos (2 ^ (amount % Self.BITS))) }
@@ -333,6 +343,7 @@ pub trait FixedWidth: Integer + Patterned {
     /// The bits moved `amount` modulo `BITS` places toward the high end. What passes the end comes back
     /// below.
     final fn rotate_left(self, amount: u32) -> Self
+        ensures operation { Self.number result ≡ rotated_left Self.IS_SIGNED Self.BITS (Self.number self) (amount % Self.BITS) }
         ensures value { Self.number result ≡ val Self.IS_SIGNED (rotl (bits Self.BITS (Self.number self)) (amount % Self.BITS)) }
         ensures undo { (y : ℤ) → InRange Self.IS_SIGNED Self.BITS y → Self.number self ≡ val Self.IS_SIGNED (rotr (bits Self.BITS y) (amount % Self.BITS)) → Self.number result ≡ y }
         ensures range { InRange Self.IS_SIGNED Self.BITS (Self.number self) }
@@ -343,6 +354,7 @@ pub trait FixedWidth: Integer + Patterned {
     /// The bits moved `amount` modulo `BITS` places toward the low end. What passes the end comes back
     /// above.
     final fn rotate_right(self, amount: u32) -> Self
+        ensures operation { Self.number result ≡ rotated_right Self.IS_SIGNED Self.BITS (Self.number self) (amount % Self.BITS) }
         ensures value { Self.number result ≡ val Self.IS_SIGNED (rotr (bits Self.BITS (Self.number self)) (amount % Self.BITS)) }
         ensures undo { (y : ℤ) → InRange Self.IS_SIGNED Self.BITS y → Self.number self ≡ val Self.IS_SIGNED (rotl (bits Self.BITS y) (amount % Self.BITS)) → Self.number result ≡ y }
         ensures range { InRange Self.IS_SIGNED Self.BITS (Self.number self) }
@@ -352,6 +364,7 @@ pub trait FixedWidth: Integer + Patterned {
 
     /// The bits from the high end to the low one.
     final fn reverse_bits(self) -> Self
+        ensures operation { Self.number result ≡ reversed Self.IS_SIGNED Self.BITS (Self.number self) }
         ensures value { Self.number result ≡ val Self.IS_SIGNED (reverse (bits Self.BITS (Self.number self))) }
         ensures undo { (y : ℤ) → InRange Self.IS_SIGNED Self.BITS y → Self.number self ≡ val Self.IS_SIGNED (reverse (bits Self.BITS y)) → Self.number result ≡ y }
         ensures range { InRange Self.IS_SIGNED Self.BITS (Self.number self) }

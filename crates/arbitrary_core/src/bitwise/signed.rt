@@ -3,6 +3,7 @@
 ghost use Rattle.std.specs.Prelude.{◌≡◌, ◌≤ℤ◌, ◌-ℤ◌, ℤ, pos, neg_ℤ, unsigned_abs};
 ghost use Rattle.std.specs.Int.Bits.{bit_and, bit_or, bit_xor};
 ghost use Rattle.arbitrary_base.specs.Range.{InRange};
+ghost use Rattle.arbitrary_base.specs.Operation.{bitwise_and, bitwise_not, bitwise_or, bitwise_xor};
 ghost use Rattle.arbitrary_base.specs.BitList.{bits, val, bits_and, bits_or, bits_xor, bits_not};
 
 use crate::signed::Int;
@@ -19,6 +20,7 @@ where
     ghost bitand_gives = { λ a b r. r ≡ val T.SIGNED (bits_and (bits BITS a) (bits BITS b)) };
 
     fn bitand(self, rhs: Int<T, BITS>) -> Int<T, BITS>
+        ensures operation { result ≡ bitwise_and T.SIGNED BITS self rhs }
         ensures bits { result ≡ val T.SIGNED (bits_and (bits BITS self) (bits BITS rhs)) }
         ensures plain { pos 0 ≤ℤ self → pos 0 ≤ℤ rhs → result ≡ pos (bit_and (unsigned_abs self) (unsigned_abs rhs)) }
         ensures left { pos 0 ≤ℤ self → (pos 0 ≤ℤ result) × (result ≤ℤ self) }
@@ -36,6 +38,7 @@ where
     ghost bitand_assign_gives = { λ a b r. r ≡ val T.SIGNED (bits_and (bits BITS a) (bits BITS b)) };
 
     fn bitand_assign(&mut self, rhs: Int<T, BITS>)
+        ensures operation { self.new ≡ bitwise_and T.SIGNED BITS self.old rhs }
         ensures bits { self.new ≡ val T.SIGNED (bits_and (bits BITS self.old) (bits BITS rhs)) }
         ensures plain { pos 0 ≤ℤ self.old → pos 0 ≤ℤ rhs → self.new ≡ pos (bit_and (unsigned_abs self.old) (unsigned_abs rhs)) }
         ensures left { pos 0 ≤ℤ self.old → (pos 0 ≤ℤ self.new) × (self.new ≤ℤ self.old) }
@@ -54,6 +57,7 @@ where
     ghost bitor_gives = { λ a b r. r ≡ val T.SIGNED (bits_or (bits BITS a) (bits BITS b)) };
 
     fn bitor(self, rhs: Int<T, BITS>) -> Int<T, BITS>
+        ensures operation { result ≡ bitwise_or T.SIGNED BITS self rhs }
         ensures bits { result ≡ val T.SIGNED (bits_or (bits BITS self) (bits BITS rhs)) }
         ensures plain { pos 0 ≤ℤ self → pos 0 ≤ℤ rhs → result ≡ pos (bit_or (unsigned_abs self) (unsigned_abs rhs)) }
     {
@@ -69,6 +73,7 @@ where
     ghost bitor_assign_gives = { λ a b r. r ≡ val T.SIGNED (bits_or (bits BITS a) (bits BITS b)) };
 
     fn bitor_assign(&mut self, rhs: Int<T, BITS>)
+        ensures operation { self.new ≡ bitwise_or T.SIGNED BITS self.old rhs }
         ensures bits { self.new ≡ val T.SIGNED (bits_or (bits BITS self.old) (bits BITS rhs)) }
         ensures plain { pos 0 ≤ℤ self.old → pos 0 ≤ℤ rhs → self.new ≡ pos (bit_or (unsigned_abs self.old) (unsigned_abs rhs)) }
     {
@@ -85,6 +90,7 @@ where
     ghost bitxor_gives = { λ a b r. r ≡ val T.SIGNED (bits_xor (bits BITS a) (bits BITS b)) };
 
     fn bitxor(self, rhs: Int<T, BITS>) -> Int<T, BITS>
+        ensures operation { result ≡ bitwise_xor T.SIGNED BITS self rhs }
         ensures bits { result ≡ val T.SIGNED (bits_xor (bits BITS self) (bits BITS rhs)) }
         ensures plain { pos 0 ≤ℤ self → pos 0 ≤ℤ rhs → result ≡ pos (bit_xor (unsigned_abs self) (unsigned_abs rhs)) }
         ensures same { self ≡ rhs → result ≡ pos 0 }
@@ -102,6 +108,7 @@ where
     ghost bitxor_assign_gives = { λ a b r. r ≡ val T.SIGNED (bits_xor (bits BITS a) (bits BITS b)) };
 
     fn bitxor_assign(&mut self, rhs: Int<T, BITS>)
+        ensures operation { self.new ≡ bitwise_xor T.SIGNED BITS self.old rhs }
         ensures bits { self.new ≡ val T.SIGNED (bits_xor (bits BITS self.old) (bits BITS rhs)) }
         ensures undo { (y : ℤ) → InRange T.SIGNED BITS y → self.old ≡ val T.SIGNED (bits_xor (bits BITS y) (bits BITS rhs)) → self.new ≡ y }
     {
@@ -118,6 +125,7 @@ where
     ghost not_gives = { λ a r. r ≡ val T.SIGNED (bits_not (bits BITS a)) };
 
     fn not(self) -> Int<T, BITS>
+        ensures operation { result ≡ bitwise_not T.SIGNED BITS self }
         ensures bits { result ≡ val T.SIGNED (bits_not (bits BITS self)) }
         ensures number { result ≡ neg_ℤ self -ℤ pos 1 }
     {

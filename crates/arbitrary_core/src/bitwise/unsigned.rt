@@ -3,6 +3,7 @@
 ghost use Rattle.std.specs.Prelude.{◌≡◌, ◌^◌, ◌≤ℤ◌, ◌-ℤ◌, ℤ, pos, unsigned_abs};
 ghost use Rattle.std.specs.Int.Bits.{bit_and, bit_or, bit_xor};
 ghost use Rattle.arbitrary_base.specs.Range.{InRange};
+ghost use Rattle.arbitrary_base.specs.Operation.{bitwise_and, bitwise_not, bitwise_or, bitwise_xor};
 ghost use Rattle.arbitrary_base.specs.BitList.{bits, val, bits_and, bits_or, bits_xor, bits_not};
 
 use crate::unsigned::UInt;
@@ -16,6 +17,7 @@ impl<T: UnsignedStorage, const BITS: usize> BitAnd<UInt<T, BITS>> for UInt<T, BI
     ghost bitand_gives = { λ a b r. r ≡ val T.SIGNED (bits_and (bits BITS a) (bits BITS b)) };
 
     fn bitand(self, rhs: UInt<T, BITS>) -> UInt<T, BITS>
+        ensures operation { result ≡ bitwise_and T.SIGNED BITS self rhs }
         ensures bits { result ≡ val T.SIGNED (bits_and (bits BITS self) (bits BITS rhs)) }
         ensures plain { result ≡ pos (bit_and (unsigned_abs self) (unsigned_abs rhs)) }
         ensures left { result ≤ℤ self }
@@ -29,6 +31,7 @@ impl<T: UnsignedStorage, const BITS: usize> BitAndAssign<UInt<T, BITS>> for UInt
     ghost bitand_assign_gives = { λ a b r. r ≡ val T.SIGNED (bits_and (bits BITS a) (bits BITS b)) };
 
     fn bitand_assign(&mut self, rhs: UInt<T, BITS>)
+        ensures operation { self.new ≡ bitwise_and T.SIGNED BITS self.old rhs }
         ensures bits { self.new ≡ val T.SIGNED (bits_and (bits BITS self.old) (bits BITS rhs)) }
         ensures plain { self.new ≡ pos (bit_and (unsigned_abs self.old) (unsigned_abs rhs)) }
         ensures left { self.new ≤ℤ self.old }
@@ -44,6 +47,7 @@ impl<T: UnsignedStorage, const BITS: usize> BitOr<UInt<T, BITS>> for UInt<T, BIT
     ghost bitor_gives = { λ a b r. r ≡ val T.SIGNED (bits_or (bits BITS a) (bits BITS b)) };
 
     fn bitor(self, rhs: UInt<T, BITS>) -> UInt<T, BITS>
+        ensures operation { result ≡ bitwise_or T.SIGNED BITS self rhs }
         ensures bits { result ≡ val T.SIGNED (bits_or (bits BITS self) (bits BITS rhs)) }
         ensures plain { result ≡ pos (bit_or (unsigned_abs self) (unsigned_abs rhs)) }
     {
@@ -55,6 +59,7 @@ impl<T: UnsignedStorage, const BITS: usize> BitOrAssign<UInt<T, BITS>> for UInt<
     ghost bitor_assign_gives = { λ a b r. r ≡ val T.SIGNED (bits_or (bits BITS a) (bits BITS b)) };
 
     fn bitor_assign(&mut self, rhs: UInt<T, BITS>)
+        ensures operation { self.new ≡ bitwise_or T.SIGNED BITS self.old rhs }
         ensures bits { self.new ≡ val T.SIGNED (bits_or (bits BITS self.old) (bits BITS rhs)) }
         ensures plain { self.new ≡ pos (bit_or (unsigned_abs self.old) (unsigned_abs rhs)) }
     {
@@ -68,6 +73,7 @@ impl<T: UnsignedStorage, const BITS: usize> BitXor<UInt<T, BITS>> for UInt<T, BI
     ghost bitxor_gives = { λ a b r. r ≡ val T.SIGNED (bits_xor (bits BITS a) (bits BITS b)) };
 
     fn bitxor(self, rhs: UInt<T, BITS>) -> UInt<T, BITS>
+        ensures operation { result ≡ bitwise_xor T.SIGNED BITS self rhs }
         ensures bits { result ≡ val T.SIGNED (bits_xor (bits BITS self) (bits BITS rhs)) }
         ensures plain { result ≡ pos (bit_xor (unsigned_abs self) (unsigned_abs rhs)) }
         ensures same { self ≡ rhs → result ≡ pos 0 }
@@ -81,6 +87,7 @@ impl<T: UnsignedStorage, const BITS: usize> BitXorAssign<UInt<T, BITS>> for UInt
     ghost bitxor_assign_gives = { λ a b r. r ≡ val T.SIGNED (bits_xor (bits BITS a) (bits BITS b)) };
 
     fn bitxor_assign(&mut self, rhs: UInt<T, BITS>)
+        ensures operation { self.new ≡ bitwise_xor T.SIGNED BITS self.old rhs }
         ensures bits { self.new ≡ val T.SIGNED (bits_xor (bits BITS self.old) (bits BITS rhs)) }
         ensures undo { (y : ℤ) → InRange T.SIGNED BITS y → self.old ≡ val T.SIGNED (bits_xor (bits BITS y) (bits BITS rhs)) → self.new ≡ y }
     {
@@ -94,6 +101,7 @@ impl<T: UnsignedStorage, const BITS: usize> Not for UInt<T, BITS> {
     ghost not_gives = { λ a r. r ≡ val T.SIGNED (bits_not (bits BITS a)) };
 
     fn not(self) -> UInt<T, BITS>
+        ensures operation { result ≡ bitwise_not T.SIGNED BITS self }
         ensures bits { result ≡ val T.SIGNED (bits_not (bits BITS self)) }
         ensures number { result ≡ pos (2 ^ BITS) -ℤ pos 1 -ℤ self }
     {

@@ -3,7 +3,8 @@
 ghost use Rattle.std.specs.Prelude.{◌≡◌, ◌-◌, ◌^◌, ◌+ℤ◌, ◌*ℤ◌, ◌≤ℤ◌, ◌<ℤ◌, pos, unsigned_abs};
 ghost use Rattle.arbitrary_base.specs.Range.{InRange};
 ghost use Rattle.arbitrary_base.specs.Residue.{Congruent};
-ghost use Rattle.arbitrary_base.specs.BitList.{bits, val, fill, shl as shifted_left, shr as shifted_right};
+ghost use Rattle.arbitrary_base.specs.Operation.{shifted_left, shifted_right};
+ghost use Rattle.arbitrary_base.specs.BitList.{bits, val, fill, shl as moved_left, shr as moved_right};
 
 use crate::signed::Int;
 use arbitrary_base::shifts;
@@ -19,11 +20,12 @@ where
 
     ghost can_shl = { λ a k. (pos 0 ≤ℤ S.amount k) × (S.amount k <ℤ pos BITS) };
 
-    ghost shl_gives = { λ a k r. r ≡ val T.SIGNED (shifted_left (bits BITS a) (unsigned_abs (S.amount k))) };
+    ghost shl_gives = { λ a k r. r ≡ val T.SIGNED (moved_left (bits BITS a) (unsigned_abs (S.amount k))) };
 
     fn shl(self, amount: S) -> Int<T, BITS>
         requires { (pos 0 ≤ℤ S.amount amount) × (S.amount amount <ℤ pos BITS) }
-        ensures bits { result ≡ val T.SIGNED (shifted_left (bits BITS self) (unsigned_abs (S.amount amount))) }
+        ensures operation { result ≡ shifted_left T.SIGNED BITS self (unsigned_abs (S.amount amount)) }
+        ensures bits { result ≡ val T.SIGNED (moved_left (bits BITS self) (unsigned_abs (S.amount amount))) }
         ensures congruent { Congruent BITS result (self *ℤ pos (2 ^ unsigned_abs (S.amount amount))) }
     {
         Int::<T, BITS>::from_bits(shifts::shl(self.to_bits(), amount.to_amount(), BITS))
@@ -37,11 +39,12 @@ where
 {
     ghost can_shl_assign = { λ a k. (pos 0 ≤ℤ S.amount k) × (S.amount k <ℤ pos BITS) };
 
-    ghost shl_assign_gives = { λ a k r. r ≡ val T.SIGNED (shifted_left (bits BITS a) (unsigned_abs (S.amount k))) };
+    ghost shl_assign_gives = { λ a k r. r ≡ val T.SIGNED (moved_left (bits BITS a) (unsigned_abs (S.amount k))) };
 
     fn shl_assign(&mut self, amount: S)
         requires { (pos 0 ≤ℤ S.amount amount) × (S.amount amount <ℤ pos BITS) }
-        ensures bits { self.new ≡ val T.SIGNED (shifted_left (bits BITS self.old) (unsigned_abs (S.amount amount))) }
+        ensures operation { self.new ≡ shifted_left T.SIGNED BITS self.old (unsigned_abs (S.amount amount)) }
+        ensures bits { self.new ≡ val T.SIGNED (moved_left (bits BITS self.old) (unsigned_abs (S.amount amount))) }
         ensures congruent { Congruent BITS self.new (self.old *ℤ pos (2 ^ unsigned_abs (S.amount amount))) }
         ensures range { InRange T.SIGNED BITS self.new }
     {
@@ -57,11 +60,12 @@ where
 
     ghost can_shr = { λ a k. (pos 0 ≤ℤ S.amount k) × (S.amount k <ℤ pos BITS) };
 
-    ghost shr_gives = { λ a k r. r ≡ val T.SIGNED (shifted_right (bits BITS a) (unsigned_abs (S.amount k)) (fill T.SIGNED (bits BITS a))) };
+    ghost shr_gives = { λ a k r. r ≡ val T.SIGNED (moved_right (bits BITS a) (unsigned_abs (S.amount k)) (fill T.SIGNED (bits BITS a))) };
 
     fn shr(self, amount: S) -> Int<T, BITS>
         requires { (pos 0 ≤ℤ S.amount amount) × (S.amount amount <ℤ pos BITS) }
-        ensures bits { result ≡ val T.SIGNED (shifted_right (bits BITS self) (unsigned_abs (S.amount amount)) (fill T.SIGNED (bits BITS self))) }
+        ensures operation { result ≡ shifted_right T.SIGNED BITS self (unsigned_abs (S.amount amount)) }
+        ensures bits { result ≡ val T.SIGNED (moved_right (bits BITS self) (unsigned_abs (S.amount amount)) (fill T.SIGNED (bits BITS self))) }
         ensures low { (result *ℤ pos (2 ^ unsigned_abs (S.amount amount))) ≤ℤ self }
         ensures high { self <ℤ (result *ℤ pos (2 ^ unsigned_abs (S.amount amount)) +ℤ pos (2 ^ unsigned_abs (S.amount amount))) }
         ensures range { InRange T.SIGNED (BITS - unsigned_abs (S.amount amount)) result }
@@ -77,11 +81,12 @@ where
 {
     ghost can_shr_assign = { λ a k. (pos 0 ≤ℤ S.amount k) × (S.amount k <ℤ pos BITS) };
 
-    ghost shr_assign_gives = { λ a k r. r ≡ val T.SIGNED (shifted_right (bits BITS a) (unsigned_abs (S.amount k)) (fill T.SIGNED (bits BITS a))) };
+    ghost shr_assign_gives = { λ a k r. r ≡ val T.SIGNED (moved_right (bits BITS a) (unsigned_abs (S.amount k)) (fill T.SIGNED (bits BITS a))) };
 
     fn shr_assign(&mut self, amount: S)
         requires { (pos 0 ≤ℤ S.amount amount) × (S.amount amount <ℤ pos BITS) }
-        ensures bits { self.new ≡ val T.SIGNED (shifted_right (bits BITS self.old) (unsigned_abs (S.amount amount)) (fill T.SIGNED (bits BITS self.old))) }
+        ensures operation { self.new ≡ shifted_right T.SIGNED BITS self.old (unsigned_abs (S.amount amount)) }
+        ensures bits { self.new ≡ val T.SIGNED (moved_right (bits BITS self.old) (unsigned_abs (S.amount amount)) (fill T.SIGNED (bits BITS self.old))) }
         ensures low { (self.new *ℤ pos (2 ^ unsigned_abs (S.amount amount))) ≤ℤ self.old }
         ensures high { self.old <ℤ (self.new *ℤ pos (2 ^ unsigned_abs (S.amount amount)) +ℤ pos (2 ^ unsigned_abs (S.amount amount))) }
         ensures range { InRange T.SIGNED (BITS - unsigned_abs (S.amount amount)) self.new }

@@ -2,7 +2,8 @@
 
 ghost use Rattle.std.specs.Prelude.{◌≡◌, ◌*◌, ◌%◌, ◌^◌, ◌*ℤ◌, int_div, ◌≤ℤ◌, ◌<ℤ◌, pos, unsigned_abs};
 ghost use Rattle.arbitrary_base.specs.Residue.{Congruent};
-ghost use Rattle.arbitrary_base.specs.BitList.{bits, val, fill, shl as shifted_left, shr as shifted_right};
+ghost use Rattle.arbitrary_base.specs.Operation.{shifted_left, shifted_right};
+ghost use Rattle.arbitrary_base.specs.BitList.{bits, val, fill, shl as moved_left, shr as moved_right};
 
 use crate::unsigned::UInt;
 use arbitrary_base::shifts;
@@ -15,11 +16,12 @@ impl<T: UnsignedStorage, const BITS: usize, S: ShiftAmount> Shl<S> for UInt<T, B
 
     ghost can_shl = { λ a k. (pos 0 ≤ℤ S.amount k) × (S.amount k <ℤ pos BITS) };
 
-    ghost shl_gives = { λ a k r. r ≡ val T.SIGNED (shifted_left (bits BITS a) (unsigned_abs (S.amount k))) };
+    ghost shl_gives = { λ a k r. r ≡ val T.SIGNED (moved_left (bits BITS a) (unsigned_abs (S.amount k))) };
 
     fn shl(self, amount: S) -> UInt<T, BITS>
         requires { (pos 0 ≤ℤ S.amount amount) × (S.amount amount <ℤ pos BITS) }
-        ensures bits { result ≡ val T.SIGNED (shifted_left (bits BITS self) (unsigned_abs (S.amount amount))) }
+        ensures operation { result ≡ shifted_left T.SIGNED BITS self (unsigned_abs (S.amount amount)) }
+        ensures bits { result ≡ val T.SIGNED (moved_left (bits BITS self) (unsigned_abs (S.amount amount))) }
         ensures plain { result ≡ pos (unsigned_abs self * 2 ^ unsigned_abs (S.amount amount) % 2 ^ BITS) }
         ensures congruent { Congruent BITS result (self *ℤ pos (2 ^ unsigned_abs (S.amount amount))) }
     {
@@ -30,11 +32,12 @@ impl<T: UnsignedStorage, const BITS: usize, S: ShiftAmount> Shl<S> for UInt<T, B
 impl<T: UnsignedStorage, const BITS: usize, S: ShiftAmount> ShlAssign<S> for UInt<T, BITS> {
     ghost can_shl_assign = { λ a k. (pos 0 ≤ℤ S.amount k) × (S.amount k <ℤ pos BITS) };
 
-    ghost shl_assign_gives = { λ a k r. r ≡ val T.SIGNED (shifted_left (bits BITS a) (unsigned_abs (S.amount k))) };
+    ghost shl_assign_gives = { λ a k r. r ≡ val T.SIGNED (moved_left (bits BITS a) (unsigned_abs (S.amount k))) };
 
     fn shl_assign(&mut self, amount: S)
         requires { (pos 0 ≤ℤ S.amount amount) × (S.amount amount <ℤ pos BITS) }
-        ensures bits { self.new ≡ val T.SIGNED (shifted_left (bits BITS self.old) (unsigned_abs (S.amount amount))) }
+        ensures operation { self.new ≡ shifted_left T.SIGNED BITS self.old (unsigned_abs (S.amount amount)) }
+        ensures bits { self.new ≡ val T.SIGNED (moved_left (bits BITS self.old) (unsigned_abs (S.amount amount))) }
         ensures plain { self.new ≡ pos (unsigned_abs self.old * 2 ^ unsigned_abs (S.amount amount) % 2 ^ BITS) }
         ensures congruent { Congruent BITS self.new (self.old *ℤ pos (2 ^ unsigned_abs (S.amount amount))) }
     {
@@ -47,11 +50,12 @@ impl<T: UnsignedStorage, const BITS: usize, S: ShiftAmount> Shr<S> for UInt<T, B
 
     ghost can_shr = { λ a k. (pos 0 ≤ℤ S.amount k) × (S.amount k <ℤ pos BITS) };
 
-    ghost shr_gives = { λ a k r. r ≡ val T.SIGNED (shifted_right (bits BITS a) (unsigned_abs (S.amount k)) (fill T.SIGNED (bits BITS a))) };
+    ghost shr_gives = { λ a k r. r ≡ val T.SIGNED (moved_right (bits BITS a) (unsigned_abs (S.amount k)) (fill T.SIGNED (bits BITS a))) };
 
     fn shr(self, amount: S) -> UInt<T, BITS>
         requires { (pos 0 ≤ℤ S.amount amount) × (S.amount amount <ℤ pos BITS) }
-        ensures bits { result ≡ val T.SIGNED (shifted_right (bits BITS self) (unsigned_abs (S.amount amount)) (fill T.SIGNED (bits BITS self))) }
+        ensures operation { result ≡ shifted_right T.SIGNED BITS self (unsigned_abs (S.amount amount)) }
+        ensures bits { result ≡ val T.SIGNED (moved_right (bits BITS self) (unsigned_abs (S.amount amount)) (fill T.SIGNED (bits BITS self))) }
         ensures quotient { result ≡ int_div self (pos (2 ^ unsigned_abs (S.amount amount))) }
     {
         UInt::new(shifts::shr(self.value(), amount.to_amount(), BITS))
@@ -61,11 +65,12 @@ impl<T: UnsignedStorage, const BITS: usize, S: ShiftAmount> Shr<S> for UInt<T, B
 impl<T: UnsignedStorage, const BITS: usize, S: ShiftAmount> ShrAssign<S> for UInt<T, BITS> {
     ghost can_shr_assign = { λ a k. (pos 0 ≤ℤ S.amount k) × (S.amount k <ℤ pos BITS) };
 
-    ghost shr_assign_gives = { λ a k r. r ≡ val T.SIGNED (shifted_right (bits BITS a) (unsigned_abs (S.amount k)) (fill T.SIGNED (bits BITS a))) };
+    ghost shr_assign_gives = { λ a k r. r ≡ val T.SIGNED (moved_right (bits BITS a) (unsigned_abs (S.amount k)) (fill T.SIGNED (bits BITS a))) };
 
     fn shr_assign(&mut self, amount: S)
         requires { (pos 0 ≤ℤ S.amount amount) × (S.amount amount <ℤ pos BITS) }
-        ensures bits { self.new ≡ val T.SIGNED (shifted_right (bits BITS self.old) (unsigned_abs (S.amount amount)) (fill T.SIGNED (bits BITS self.old))) }
+        ensures operation { self.new ≡ shifted_right T.SIGNED BITS self.old (unsigned_abs (S.amount amount)) }
+        ensures bits { self.new ≡ val T.SIGNED (moved_right (bits BITS self.old) (unsigned_abs (S.amount amount)) (fill T.SIGNED (bits BITS self.old))) }
         ensures quotient { self.new ≡ int_div self.old (pos (2 ^ unsigned_abs (S.amount amount))) }
     {
         *self = *self >> amount;

@@ -1,9 +1,16 @@
 use Rattle.std.specs.Prelude.{◌≡◌, Bool, ◌<◌}
-use Rattle.std.proofs.Common.{arith, subst}
+use Rattle.std.proofs.Common.{arith, sym, subst, ◌∙◌}
 use Rattle.arbitrary_base.specs.Range.{InRange}
 use Rattle.arbitrary_base.specs.BitList.{bits, val, shl}
+use Rattle.arbitrary_base.proofs.Operation.{left-is}
 use Rattle.arbitrary_base.proofs.Shifted.{shl-congruent, shl-plain}
 use Rattle.arbitrary_calls.proofs.fixed_width.FixedWidth.checked_shl.Goals as goal
+
+pub returns-then-amount-BITS-clause-operation : goal.returns-then-amount-BITS-clause-operation
+returns-then-amount-BITS-clause-operation g c =
+    let t = g.met.Self.FixedWidth.sign_law in
+    let e : g.Self.Integer.number c.from_kept.result ≡ val g.Self.Integer.IS_SIGNED (shl (bits g.Self.Integer.BITS (g.Self.Integer.number c.args.self)) c.args.amount) = cc in
+    e ∙ sym (left-is _ _ _ _)
 
 pub returns-then-amount-BITS-clause-plain : goal.returns-then-amount-BITS-clause-plain
 returns-then-amount-BITS-clause-plain g c d =

@@ -1,9 +1,16 @@
 use Rattle.std.specs.Prelude.{◌≡◌, Bool, ◌<◌}
-use Rattle.std.proofs.Common.{arith, subst}
+use Rattle.std.proofs.Common.{arith, sym, subst, ◌∙◌}
 use Rattle.arbitrary_base.specs.Range.{InRange}
 use Rattle.arbitrary_base.specs.BitList.{bits, val, fill, shr}
+use Rattle.arbitrary_base.proofs.Operation.{right-is}
 use Rattle.arbitrary_base.proofs.Shifted.{shr-high, shr-low, shr-quotient, shr-range}
 use Rattle.arbitrary_calls.proofs.fixed_width.FixedWidth.checked_shr.Goals as goal
+
+pub returns-then-amount-BITS-clause-operation : goal.returns-then-amount-BITS-clause-operation
+returns-then-amount-BITS-clause-operation g c =
+    let t = g.met.Self.FixedWidth.sign_law in
+    let e : g.Self.Integer.number c.from_kept.result ≡ val g.Self.Integer.IS_SIGNED (shr (bits g.Self.Integer.BITS (g.Self.Integer.number c.args.self)) c.args.amount (fill g.Self.Integer.IS_SIGNED (bits g.Self.Integer.BITS (g.Self.Integer.number c.args.self)))) = cc in
+    e ∙ sym (right-is _ _ _ _)
 
 pub returns-then-amount-BITS-clause-quotient : goal.returns-then-amount-BITS-clause-quotient
 returns-then-amount-BITS-clause-quotient g c d =

@@ -1,8 +1,9 @@
 use Rattle.std.specs.Prelude.{◌≡◌, pos, ◌%◌, ◌≤◌}
-use Rattle.std.proofs.Common.{arith}
+use Rattle.std.proofs.Common.{arith, sym, ◌∙◌}
 use Rattle.arbitrary_base.specs.BitList.{bits, num, rotl}
 use Rattle.arbitrary_base.proofs.BitResult.{rotl-value}
 use Rattle.arbitrary_base.proofs.Undone.{rotl-undoes}
+use Rattle.arbitrary_base.proofs.Operation.{rotl-is}
 use Rattle.arbitrary_calls.proofs.fixed_width.FixedWidth.rotate_left.Goals as goal
 
 pub returns : goal.returns
@@ -12,6 +13,7 @@ returns g c =
     let q : c.rotate_left.result ≡ num (rotl (bits g.Self.Integer.BITS (pos c.pattern.result)) (c.args.amount % g.Self.Integer.BITS)) = cc in
     let e = rotl-value g.Self.Integer.IS_SIGNED g.Self.Integer.BITS _ _ (c.args.amount % g.Self.Integer.BITS) _ _ c.pattern.ensures.value q c.from_extended.ensures in
     record {
+      operation = e ∙ sym (rotl-is _ _ _ _);
       value = e;
       undo = λ y f d. rotl-undoes _ _ (c.args.amount % g.Self.Integer.BITS) _ _ y o l f d e;
       range = c.pattern.ensures.range;

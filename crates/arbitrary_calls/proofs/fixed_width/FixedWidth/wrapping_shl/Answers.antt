@@ -1,8 +1,9 @@
 use Rattle.std.specs.Prelude.{◌≡◌, Bool, ◌<◌, ◌%◌}
-use Rattle.std.proofs.Common.{arith, subst}
+use Rattle.std.proofs.Common.{arith, subst, sym, ◌∙◌}
 use Rattle.arbitrary_base.specs.Range.{InRange}
 use Rattle.arbitrary_base.specs.BitList.{bits, val, shl}
 use Rattle.arbitrary_base.proofs.Shifted.{shl-congruent, shl-plain}
+use Rattle.arbitrary_base.proofs.Operation.{left-is}
 use Rattle.arbitrary_calls.proofs.fixed_width.FixedWidth.wrapping_shl.Goals as goal
 
 pub returns : goal.returns
@@ -13,6 +14,7 @@ returns g c =
     let r = subst (λ (s : Bool). InRange s g.Self.Integer.BITS (g.Self.Integer.number c.args.self)) t c.kept.ensures.range in
     let e : g.Self.Integer.number c.from_kept.result ≡ val g.Self.Integer.IS_SIGNED (shl (bits g.Self.Integer.BITS (g.Self.Integer.number c.args.self)) (c.args.amount % g.Self.Integer.BITS)) = cc in
     record {
+      operation = e ∙ sym (left-is _ _ _ _);
       value = e;
       plain = λ d. shl-plain _ _ _ _ _ d o l r e;
       congruent = shl-congruent _ _ _ _ _ o l e;

@@ -1,8 +1,9 @@
-use Rattle.std.proofs.Common.{◌∙◌}
+use Rattle.std.proofs.Common.{◌∙◌, sym}
 use Rattle.arbitrary_base.specs.BitList.{bits_and}
 use Rattle.arbitrary_base.proofs.BitArithmetic.{and-plain, and-left, and-right}
 use Rattle.arbitrary_base.proofs.BitNumber.{length-bits, same_length, length-and}
 use Rattle.arbitrary_core.proofs.Patterns.{bits-kept, number-of_list}
+use Rattle.arbitrary_base.proofs.Operation.{and-is}
 use Rattle.arbitrary_core.proofs.bitwise.signed.IntBitAnd.bitand.Goals as goal
 
 pub returns : goal.returns
@@ -15,6 +16,7 @@ returns g c =
     let n = length-and _ _ (same_length g.row.BITS c.args.self c.args.rhs) ∙ length-bits g.row.BITS c.args.self in
     let e = number-of_list g.T.Storage.SIGNED g.T.Unsigned.Storage.SIGNED g.row.BITS _ _ _ _ w n (λ i. bits_and (p i) (q i)) c.and.ensures.value c.from_bits.ensures.number in
     record {
+      operation = e ∙ sym (and-is _ _ _ _);
       bits = e;
       plain = and-plain _ _ _ _ _ w x y e;
       left = and-left _ _ _ _ _ w x e;

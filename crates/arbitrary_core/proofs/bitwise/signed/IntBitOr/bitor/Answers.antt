@@ -1,8 +1,9 @@
-use Rattle.std.proofs.Common.{◌∙◌}
+use Rattle.std.proofs.Common.{◌∙◌, sym}
 use Rattle.arbitrary_base.specs.BitList.{bits_or}
 use Rattle.arbitrary_base.proofs.BitArithmetic.{or-plain}
 use Rattle.arbitrary_base.proofs.BitNumber.{length-bits, same_length, length-or}
 use Rattle.arbitrary_core.proofs.Patterns.{bits-kept, number-of_list}
+use Rattle.arbitrary_base.proofs.Operation.{or-is}
 use Rattle.arbitrary_core.proofs.bitwise.signed.IntBitOr.bitor.Goals as goal
 
 pub returns : goal.returns
@@ -15,6 +16,7 @@ returns g c =
     let n = length-or _ _ (same_length g.row.BITS c.args.self c.args.rhs) ∙ length-bits g.row.BITS c.args.self in
     let e = number-of_list g.T.Storage.SIGNED g.T.Unsigned.Storage.SIGNED g.row.BITS _ _ _ _ w n (λ i. bits_or (p i) (q i)) c.or.ensures.value c.from_bits.ensures.number in
     record {
+      operation = e ∙ sym (or-is _ _ _ _);
       bits = e;
       plain = or-plain _ _ _ _ _ w x y e;
     }

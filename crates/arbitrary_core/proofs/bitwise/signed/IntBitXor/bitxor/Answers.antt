@@ -1,9 +1,10 @@
-use Rattle.std.proofs.Common.{◌∙◌}
+use Rattle.std.proofs.Common.{◌∙◌, sym}
 use Rattle.arbitrary_base.specs.BitList.{bits_xor}
 use Rattle.arbitrary_base.proofs.BitArithmetic.{xor-plain, xor-same}
 use Rattle.arbitrary_base.proofs.BitNumber.{length-bits, same_length, length-xor}
 use Rattle.arbitrary_base.proofs.Undone.{xor-undoes}
 use Rattle.arbitrary_core.proofs.Patterns.{bits-kept, number-of_list}
+use Rattle.arbitrary_base.proofs.Operation.{xor-is}
 use Rattle.arbitrary_core.proofs.bitwise.signed.IntBitXor.bitxor.Goals as goal
 
 pub returns : goal.returns
@@ -16,6 +17,7 @@ returns g c =
     let n = length-xor _ _ (same_length g.row.BITS c.args.self c.args.rhs) ∙ length-bits g.row.BITS c.args.self in
     let e = number-of_list g.T.Storage.SIGNED g.T.Unsigned.Storage.SIGNED g.row.BITS _ _ _ _ w n (λ i. bits_xor (p i) (q i)) c.xor.ensures.value c.from_bits.ensures.number in
     record {
+      operation = e ∙ sym (xor-is _ _ _ _);
       bits = e;
       plain = xor-plain _ _ _ _ _ w x y e;
       same = xor-same _ _ _ _ _ w e;

@@ -1,8 +1,9 @@
-use Rattle.std.proofs.Common.{ap, ◌∙◌}
+use Rattle.std.proofs.Common.{ap, ◌∙◌, sym}
 use Rattle.arbitrary_base.specs.BitList.{bits, bits_not}
 use Rattle.arbitrary_base.proofs.BitArithmetic.{not-signed}
 use Rattle.arbitrary_base.proofs.BitNumber.{length-bits, length-not}
 use Rattle.arbitrary_core.proofs.Patterns.{bits-kept, number-of_list}
+use Rattle.arbitrary_base.proofs.Operation.{not-is}
 use Rattle.arbitrary_core.proofs.bitwise.signed.IntNot.not.Goals as goal
 
 pub returns : goal.returns
@@ -12,6 +13,7 @@ returns g c =
     let n = length-not (bits g.row.BITS c.args.self) ∙ length-bits g.row.BITS c.args.self in
     let e = number-of_list g.T.Storage.SIGNED g.T.Unsigned.Storage.SIGNED g.row.BITS _ _ _ _ w n (ap bits_not p) c.not.ensures.value c.from_bits.ensures.number in
     record {
+      operation = e ∙ sym (not-is _ _ _);
       bits = e;
       number = not-signed _ _ _ _ g.met.T.SignedStorage.signed_law w c.to_bits.ensures.self_range e;
     }

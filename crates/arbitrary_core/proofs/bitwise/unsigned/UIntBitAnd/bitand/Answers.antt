@@ -1,6 +1,8 @@
 use Rattle.std.specs.Prelude.{◌≡◌}
+use Rattle.std.proofs.Common.{sym, ◌∙◌}
 use Rattle.arbitrary_base.specs.BitList.{bits, val, bits_and}
 use Rattle.arbitrary_base.proofs.BitArithmetic.{and-plain, and-left, and-right, not_below_zero}
+use Rattle.arbitrary_base.proofs.Operation.{and-is}
 use Rattle.arbitrary_core.proofs.bitwise.unsigned.UIntBitAnd.bitand.Goals as goal
 
 pub returns : goal.returns
@@ -13,6 +15,7 @@ returns g c =
     let b = not_below_zero _ _ _ u y in
     let e : c.new.result ≡ val g.T.Storage.SIGNED (bits_and (bits g.row.BITS c.args.self) (bits g.row.BITS c.args.rhs)) = cc in
     record {
+      operation = e ∙ sym (and-is _ _ _ _);
       bits = e;
       plain = and-plain _ _ _ _ _ w x y e a b;
       left = (and-left _ _ _ _ _ w x e a).1;

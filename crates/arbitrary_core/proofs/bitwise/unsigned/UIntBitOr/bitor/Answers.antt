@@ -1,6 +1,8 @@
 use Rattle.std.specs.Prelude.{◌≡◌}
+use Rattle.std.proofs.Common.{sym, ◌∙◌}
 use Rattle.arbitrary_base.specs.BitList.{bits, val, bits_or}
 use Rattle.arbitrary_base.proofs.BitArithmetic.{or-plain, not_below_zero}
+use Rattle.arbitrary_base.proofs.Operation.{or-is}
 use Rattle.arbitrary_core.proofs.bitwise.unsigned.UIntBitOr.bitor.Goals as goal
 
 pub returns : goal.returns
@@ -13,6 +15,7 @@ returns g c =
     let b = not_below_zero _ _ _ u y in
     let e : c.new.result ≡ val g.T.Storage.SIGNED (bits_or (bits g.row.BITS c.args.self) (bits g.row.BITS c.args.rhs)) = cc in
     record {
+      operation = e ∙ sym (or-is _ _ _ _);
       bits = e;
       plain = or-plain _ _ _ _ _ w x y e a b;
     }

@@ -1,7 +1,9 @@
 use Rattle.std.specs.Prelude.{◌≡◌}
+use Rattle.std.proofs.Common.{sym, ◌∙◌}
 use Rattle.arbitrary_base.specs.BitList.{bits, val, bits_xor}
 use Rattle.arbitrary_base.proofs.BitArithmetic.{xor-plain, xor-same, not_below_zero}
 use Rattle.arbitrary_base.proofs.Undone.{xor-undoes}
+use Rattle.arbitrary_base.proofs.Operation.{xor-is}
 use Rattle.arbitrary_core.proofs.bitwise.unsigned.UIntBitXor.bitxor.Goals as goal
 
 pub returns : goal.returns
@@ -14,6 +16,7 @@ returns g c =
     let b = not_below_zero _ _ _ u y in
     let e : c.new.result ≡ val g.T.Storage.SIGNED (bits_xor (bits g.row.BITS c.args.self) (bits g.row.BITS c.args.rhs)) = cc in
     record {
+      operation = e ∙ sym (xor-is _ _ _ _);
       bits = e;
       plain = xor-plain _ _ _ _ _ w x y e a b;
       same = xor-same _ _ _ _ _ w e;

@@ -1,9 +1,15 @@
 use Rattle.std.specs.Prelude.{◌≡◌}
+use Rattle.std.proofs.Common.{sym, ◌∙◌}
 use Rattle.arbitrary_base.specs.BitList.{bits, val, bits_not}
 use Rattle.arbitrary_base.proofs.BitArithmetic.{not-unsigned}
+use Rattle.arbitrary_base.proofs.Operation.{not-is}
 use Rattle.arbitrary_core.proofs.bitwise.unsigned.UIntNot.not.Goals as goal
 
-pub returns-clause-number : goal.returns-clause-number
-returns-clause-number g c =
+pub returns : goal.returns
+returns g c =
     let e : c.new.result ≡ val g.T.Storage.SIGNED (bits_not (bits g.row.BITS c.args.self)) = cc in
-    not-unsigned _ _ _ _ g.met.T.UnsignedStorage.unsigned_law c.value.ensures.width.0 c.value.ensures.range e
+    record {
+      operation = e ∙ sym (not-is _ _ _);
+      bits = e;
+      number = not-unsigned _ _ _ _ g.met.T.UnsignedStorage.unsigned_law c.value.ensures.width.0 c.value.ensures.range e;
+    }

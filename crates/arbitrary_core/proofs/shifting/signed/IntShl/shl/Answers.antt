@@ -1,11 +1,12 @@
 use Rattle.std.specs.Prelude.{◌≡◌, ◌≤◌, ◌<◌, length, unsigned_abs}
-use Rattle.std.proofs.Common.{arith, ap, ◌∙◌}
+use Rattle.std.proofs.Common.{arith, ap, ◌∙◌, sym}
 use Rattle.std.proofs.lemmas.Int.{ints}
 use Rattle.arbitrary_base.specs.BitList.{bits, shl}
 use Rattle.arbitrary_base.proofs.BitNumber.{length-bits}
 use Rattle.arbitrary_base.proofs.BitShift.{length-shl}
 use Rattle.arbitrary_base.proofs.Shifted.{shl-congruent}
 use Rattle.arbitrary_core.proofs.Patterns.{bits-kept, number-of_list}
+use Rattle.arbitrary_base.proofs.Operation.{left-is}
 use Rattle.arbitrary_core.proofs.shifting.signed.IntShl.shl.Goals as goal
 
 pub returns : goal.returns
@@ -19,6 +20,7 @@ returns g c =
     let p = bits-kept g.row.BITS c.args.self _ c.to_bits.ensures.value in
     let e = number-of_list g.T.Storage.SIGNED g.T.Unsigned.Storage.SIGNED g.row.BITS _ _ _ _ w n (λ i. shl (p i) (k i)) c.shl.ensures.value c.from_bits.ensures.number in
     record {
+      operation = e ∙ sym (left-is _ _ _ _);
       bits = e;
       congruent = shl-congruent _ _ _ _ _ w l e;
     }

@@ -1,8 +1,9 @@
 use Rattle.std.specs.Prelude.{◌≡◌, ◌<◌, unsigned_abs}
-use Rattle.std.proofs.Common.{arith, ap}
+use Rattle.std.proofs.Common.{arith, ap, sym, ◌∙◌}
 use Rattle.std.proofs.lemmas.Int.{ints}
 use Rattle.arbitrary_base.specs.BitList.{bits, val, fill, shr}
 use Rattle.arbitrary_base.proofs.Shifted.{shr-low, shr-high, shr-range}
+use Rattle.arbitrary_base.proofs.Operation.{right-is}
 use Rattle.arbitrary_core.proofs.shifting.signed.IntShr.shr.Goals as goal
 
 pub returns : goal.returns
@@ -14,6 +15,7 @@ returns g c =
     let low = c.requires.0 in let high = c.requires.1 in let a = c.to_amount.ensures in omega (arith, ints) in
     let e : c.new.result ≡ val g.T.Storage.SIGNED (shr (bits g.row.BITS c.args.self) (unsigned_abs (g.S.ShiftAmount.amount c.args.amount)) (fill g.T.Storage.SIGNED (bits g.row.BITS c.args.self))) = cc in
     record {
+      operation = e ∙ sym (right-is _ _ _ _);
       bits = e;
       low = shr-low _ _ _ _ _ w l x e;
       high = shr-high _ _ _ _ _ w l x e;
