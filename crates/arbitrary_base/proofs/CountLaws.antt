@@ -85,6 +85,9 @@ ones-of_left s B x k = ap ones (bits-rotl s B x k) ∙ ones-rotr (bits B x) (len
 pub ones-of_right : (s : Bool) (B : ℕ) (x : ℤ) (k : ℕ) → ones (bits B (rotated_right s B x k)) ≡ ones (bits B x)
 ones-of_right s B x k = ap ones (bits-rotr s B x k) ∙ ones-rotr (bits B x) k
 
+pub no_ones-of_zero : (B : ℕ) (x : ℤ) → x ≡ pos 0 → ones (bits B x) ≡ 0
+no_ones-of_zero B x e = ap (λ (z : ℤ). ones (bits B z)) e ∙ ones-of_zero B
+
 pub zero-of_no_ones : (s : Bool) (B : ℕ) (x : ℤ) → 1 ≤ B → InRange s B x → ones (bits B x) ≡ 0 → x ≡ pos 0
 zero-of_no_ones s B x h f e =
     of-bits s B x h f ∙ ap (val s) (no_ones (bits B x) e ∙ ap (λ (n : ℕ). replicate n false) (length-bits B x)) ∙ sym (zero-is s B h)

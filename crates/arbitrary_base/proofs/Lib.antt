@@ -39,3 +39,4 @@ pub mod ShiftLaws
 pub mod RotationLaws
 pub mod CountLaws
 pub mod MixedLaws
+pub mod ExactLaws

@@ -65,9 +65,9 @@ shl-twice l a b h =
     let n : length (shl l a) ≡ length l = length-shl l a (omega arith) in
     let r = length-replicate a false in
     let parts : take (length l - b) (shl l a) ≡ replicate a false ++ take (length l - (a + b)) l =
-        ap (λ (k : ℕ). take k (shl l a)) (let e : length l - b ≡ length (replicate a false) + (length l - (a + b)) = omega arith in e)
-        ∙ take-append-add (replicate a false) (take (length l - a) l) (length l - (a + b))
-        ∙ ap (λ (m : List Bool). replicate a false ++ m) (take-take (length l - (a + b)) (length l - a) l (omega arith)) in
+    ap (λ (k : ℕ). take k (shl l a)) (let e : length l - b ≡ length (replicate a false) + (length l - (a + b)) = omega arith in e)
+    ∙ take-append-add (replicate a false) (take (length l - a) l) (length l - (a + b))
+    ∙ ap (λ (m : List Bool). replicate a false ++ m) (take-take (length l - (a + b)) (length l - a) l (omega arith)) in
     ap (λ (k : ℕ). replicate b false ++ take (k - b) (shl l a)) n
     ∙ ap (λ (m : List Bool). replicate b false ++ m) parts
     ∙ sym (append_assoc (replicate b false) (replicate a false) (take (length l - (a + b)) l))
@@ -91,10 +91,10 @@ rotl-shifts l k h =
     let d : length (drop (length l - k) l) ≡ k = length-drop (length l - k) l ∙ (let e : length l - (length l - k) ≡ k = omega arith in e) in
     let t : length (take (length l - k) l) ≡ length l - k = length-take-le (length l - k) l (omega arith) in
     let low : bits_or (replicate k false) (drop (length l - k) l) ≡ drop (length l - k) l =
-        or-comm (replicate k false) (drop (length l - k) l)
-        ∙ ap (λ (n : ℕ). bits_or (drop (length l - k) l) (replicate n false)) (sym d) ∙ or-zeros (drop (length l - k) l) in
+    or-comm (replicate k false) (drop (length l - k) l)
+    ∙ ap (λ (n : ℕ). bits_or (drop (length l - k) l) (replicate n false)) (sym d) ∙ or-zeros (drop (length l - k) l) in
     let high : bits_or (take (length l - k) l) (replicate (length l - k) false) ≡ take (length l - k) l =
-        ap (λ (n : ℕ). bits_or (take (length l - k) l) (replicate n false)) (sym t) ∙ or-zeros (take (length l - k) l) in
+    ap (λ (n : ℕ). bits_or (take (length l - k) l) (replicate n false)) (sym t) ∙ or-zeros (take (length l - k) l) in
     sym (append-pointwise (λ a b. a || b) (replicate k false) (take (length l - k) l) (drop (length l - k) l) (replicate (length l - k) false) (length-replicate k false ∙ sym d)
     ∙ ap₂ (λ (p q : List Bool). p ++ q) low high)
 
@@ -105,14 +105,14 @@ shr-shl l k f h =
     let d : length (drop k l) ≡ length l - k = length-drop k l in
     let t : length (take k l) ≡ k = length-take-le k l h in
     let kept : take (length l - k) (shr l k f) ≡ drop k l =
-        ap (λ (i : ℕ). take i (shr l k f)) (sym d) ∙ take-append_seam (drop k l) (replicate k f) in
+    ap (λ (i : ℕ). take i (shr l k f)) (sym d) ∙ take-append_seam (drop k l) (replicate k f) in
     let ones : shl (replicate (length l) true) k ≡ replicate k false ++ replicate (length l - k) true =
-        ap (λ (i : ℕ). replicate k false ++ take (i - k) (replicate (length l) true)) (length-replicate (length l) true)
-        ∙ ap (λ (m : List Bool). replicate k false ++ m) (take-replicate (length l - k) (length l) true (omega arith)) in
+    ap (λ (i : ℕ). replicate k false ++ take (i - k) (replicate (length l) true)) (length-replicate (length l) true)
+    ∙ ap (λ (m : List Bool). replicate k false ++ m) (take-replicate (length l - k) (length l) true (omega arith)) in
     let low : bits_and (take k l) (replicate k false) ≡ replicate k false =
-        ap (λ (i : ℕ). bits_and (take k l) (replicate i false)) (sym t) ∙ and-zeros (take k l) ∙ ap (λ (i : ℕ). replicate i false) t in
+    ap (λ (i : ℕ). bits_and (take k l) (replicate i false)) (sym t) ∙ and-zeros (take k l) ∙ ap (λ (i : ℕ). replicate i false) t in
     let high : bits_and (drop k l) (replicate (length l - k) true) ≡ drop k l =
-        ap (λ (i : ℕ). bits_and (drop k l) (replicate i true)) (sym d) ∙ and-ones (drop k l) in
+    ap (λ (i : ℕ). bits_and (drop k l) (replicate i true)) (sym d) ∙ and-ones (drop k l) in
     ap (λ (i : ℕ). replicate k false ++ take (i - k) (shr l k f)) n
     ∙ ap (λ (m : List Bool). replicate k false ++ m) kept
     ∙ sym (ap₂ bits_and (sym (take-append-drop k l)) ones
@@ -125,13 +125,13 @@ shl-shr l k h =
     let d : length (drop (length l - k) l) ≡ k = length-drop (length l - k) l ∙ (let e : length l - (length l - k) ≡ k = omega arith in e) in
     let t : length (take (length l - k) l) ≡ length l - k = length-take-le (length l - k) l (omega arith) in
     let kept : drop k (shl l k) ≡ take (length l - k) l =
-        ap (λ (i : ℕ). drop i (shl l k)) (sym (length-replicate k false)) ∙ drop-append_seam (replicate k false) (take (length l - k) l) in
+    ap (λ (i : ℕ). drop i (shl l k)) (sym (length-replicate k false)) ∙ drop-append_seam (replicate k false) (take (length l - k) l) in
     let ones : shr (replicate (length l) true) k false ≡ replicate (length l - k) true ++ replicate k false =
-        ap (λ (m : List Bool). m ++ replicate k false) (drop-replicate k (length l) true) in
+    ap (λ (m : List Bool). m ++ replicate k false) (drop-replicate k (length l) true) in
     let low : bits_and (take (length l - k) l) (replicate (length l - k) true) ≡ take (length l - k) l =
-        ap (λ (i : ℕ). bits_and (take (length l - k) l) (replicate i true)) (sym t) ∙ and-ones (take (length l - k) l) in
+    ap (λ (i : ℕ). bits_and (take (length l - k) l) (replicate i true)) (sym t) ∙ and-ones (take (length l - k) l) in
     let high : bits_and (drop (length l - k) l) (replicate k false) ≡ replicate k false =
-        ap (λ (i : ℕ). bits_and (drop (length l - k) l) (replicate i false)) (sym d) ∙ and-zeros (drop (length l - k) l) ∙ ap (λ (i : ℕ). replicate i false) d in
+    ap (λ (i : ℕ). bits_and (drop (length l - k) l) (replicate i false)) (sym d) ∙ and-zeros (drop (length l - k) l) ∙ ap (λ (i : ℕ). replicate i false) d in
     ap (λ (m : List Bool). m ++ replicate k false) kept
     ∙ sym (ap₂ bits_and (sym (take-append-drop (length l - k) l)) ones
     ∙ append-pointwise (λ a b. a && b) (take (length l - k) l) (drop (length l - k) l) (replicate (length l - k) true) (replicate k false) (t ∙ sym (length-replicate (length l - k) true))
@@ -164,7 +164,7 @@ reverse-alike (suc k) b =
 pub reverse-shl : (l : List Bool) (k : ℕ) → k ≤ length l → reverse (shl l k) ≡ shr (reverse l) k false
 reverse-shl l k h =
     let d : length (reverse (drop (length l - k) l)) ≡ k =
-        length-reverse (drop (length l - k) l) ∙ length-drop (length l - k) l ∙ (let e : length l - (length l - k) ≡ k = omega arith in e) in
+    length-reverse (drop (length l - k) l) ∙ length-drop (length l - k) l ∙ (let e : length l - (length l - k) ≡ k = omega arith in e) in
     reverse-append (replicate k false) (take (length l - k) l)
     ∙ ap (λ (m : List Bool). reverse (take (length l - k) l) ++ m) (reverse-alike k false)
     ∙ sym (ap (λ (m : List Bool). m ++ replicate k false)
