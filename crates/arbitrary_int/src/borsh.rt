@@ -50,13 +50,13 @@ pub trait BorshDeserialize: Sized {
     ghost read_bytes: { Self → List ℕ };
 
     /// Reads exactly the bytes of one value, and never asks for a further one. An error is the reader's own,
-    /// `UnexpectedEof` where the input ends before, or `InvalidData` where the bytes are not canonical. No call
-    /// is made after a failed one. The width is valid.
+    /// `UnexpectedEof` where the input ends before, or `InvalidData` where the bytes are not canonical; these are
+    /// then read, and what follows is left. No call is made after a failed one. The width is valid.
     fn deserialize_reader<R: Read>(reader: &mut Watched<R>) -> io::Result<Self>
         requires { readable }
         ensures taken { IfOk result (λ x. Consumes (R.remaining (inner_of reader.old)) (R.remaining (inner_of reader.new)) (read_bytes x)) }
         ensures canonical { IfOk result (λ x. canonical (read_bytes x)) }
-        ensures why { OnErr result (Unreadable canonical (R.remaining (inner_of reader.old)) (has_failed reader.new) count) };
+        ensures why { OnErr result (Unreadable canonical (R.remaining (inner_of reader.old)) (R.remaining (inner_of reader.new)) (has_failed reader.new) count) };
 
     /// The value that has these bytes, and `None` exactly where they are not canonical. The width is valid.
     fn from_borsh_bytes(bytes: &[u8]) -> Option<Self>
