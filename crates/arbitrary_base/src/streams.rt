@@ -1,6 +1,6 @@
 //! A known number of bytes in, and all of some bytes out. After a fault no call is made again.
 
-ghost use Rattle.std.specs.Prelude.{length, IsTrue, OnOk, OnErr};
+ghost use Rattle.std.specs.Prelude.{◌≡◌, length, IsTrue, OnOk, OnErr};
 ghost use Rattle.std.specs.Io.KnownBytes.{Appends, Consumes};
 ghost use Rattle.arbitrary_base.specs.Watching.{inner_of, has_failed};
 ghost use Rattle.arbitrary_base.specs.Stream.{AppendsBeginning, FailedOrShort};
@@ -12,6 +12,7 @@ use std::io::{ErrorKind, Read, Write};
 /// Fills `buf`, by at most as many calls as it has bytes. An input that ends before is `UnexpectedEof`.
 pub fn read_full<R: Read>(reader: &mut Watched<R>, buf: &mut [u8]) -> io::Result<()>
     ensures all { OnOk result (Consumes (R.remaining (inner_of reader.old)) (R.remaining (inner_of reader.new)) buf.new) }
+    ensures kept { OnOk result (has_failed reader.new ≡ has_failed reader.old) }
     ensures why { OnErr result (FailedOrShort (R.remaining (inner_of reader.old)) (has_failed reader.new) (length buf.old)) }
 {
     let mut at = 0;
@@ -29,6 +30,7 @@ pub fn read_full<R: Read>(reader: &mut Watched<R>, buf: &mut [u8]) -> io::Result
 /// `WriteZero`.
 pub fn write_full<W: Write>(writer: &mut Watched<W>, bytes: &[u8]) -> io::Result<()>
     ensures all { OnOk result (Appends (W.contents (inner_of writer.old)) (W.contents (inner_of writer.new)) bytes.now) }
+    ensures kept { OnOk result (has_failed writer.new ≡ has_failed writer.old) }
     ensures begun { OnErr result (AppendsBeginning (W.contents (inner_of writer.old)) (W.contents (inner_of writer.new)) bytes.now) }
     ensures failed { OnErr result (IsTrue (has_failed writer.new)) }
 {

@@ -25,6 +25,7 @@ pub trait BorshSerialize {
     /// takes nothing; a beginning of the bytes was written then. No call is made after a failed one.
     fn serialize<W: Write>(&self, writer: &mut Watched<W>) -> io::Result<()>
         ensures all { OnOk result (Appends (W.contents (inner_of writer.old)) (W.contents (inner_of writer.new)) (bytes_of self.now)) }
+        ensures kept { OnOk result (has_failed writer.new ≡ has_failed writer.old) }
         ensures begun { OnErr result (AppendsBeginning (W.contents (inner_of writer.old)) (W.contents (inner_of writer.new)) (bytes_of self.now)) }
         ensures failed { OnErr result (IsTrue (has_failed writer.new)) };
 
@@ -56,6 +57,7 @@ pub trait BorshDeserialize: Sized {
         requires { readable }
         ensures taken { IfOk result (λ x. Consumes (R.remaining (inner_of reader.old)) (R.remaining (inner_of reader.new)) (read_bytes x)) }
         ensures canonical { IfOk result (λ x. canonical (read_bytes x)) }
+        ensures kept { OnOk result (has_failed reader.new ≡ has_failed reader.old) }
         ensures why { OnErr result (Unreadable canonical (R.remaining (inner_of reader.old)) (R.remaining (inner_of reader.new)) (has_failed reader.new) count) };
 
     /// The value that has these bytes, and `None` exactly where they are not canonical. The width is valid.

@@ -1,4 +1,4 @@
-use Rattle.std.proofs.Common.{arith, ◌-◌, length, drop, length-take, length-drop}
+use Rattle.std.proofs.Common.{arith, ◌∙◌, ◌-◌, length, drop, length-take, length-drop}
 use Rattle.arbitrary_base.proofs.StreamSteps.{written_more}
 use Rattle.arbitrary_base.proofs.streams.write_full.Goals as goal
 
@@ -7,4 +7,5 @@ loop-at-preserved g c =
     let text = c.args.bytes.now in (
       written_more _ _ _ text c.loop-at.at c.in_ok-count.count c.loop-at.invariant.0 c.in_ok-count.ensures.bytes,
       omega (arith, c.in_ok-count.ensures.bound, length-take (length text - c.loop-at.at) (drop c.loop-at.at text), length-drop c.loop-at.at text),
+      c.in_ok-count.ensures.kept (λ e. absurd (c.if-count-eq0.false e)) ∙ c.loop-at.invariant.2,
     )
