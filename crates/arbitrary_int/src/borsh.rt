@@ -1,8 +1,8 @@
 //! Values in a stream, in the Borsh form.
 
-ghost use Rattle.std.specs.Prelude.{◌≡◌, ◌≤◌, ℕ, List, length, take, drop, IsTrue, IfOk, OnOk, OnErr, MatchOption};
+ghost use Rattle.std.specs.Prelude.{◌≡◌, ◌≤◌, ℕ, List, length, take, drop, IfOk, OnOk, OnErr, MatchOption};
 ghost use Rattle.std.specs.Io.KnownBytes.{Appends, Consumes};
-ghost use Rattle.arbitrary_base.specs.Watching.{inner_of, has_failed};
+ghost use Rattle.arbitrary_base.specs.Watching.{inner_of, NoFailure, Failure};
 ghost use Rattle.arbitrary_base.specs.Bytes.{BorshBytes, Canonical, byte_count};
 ghost use Rattle.arbitrary_base.specs.Stream.{AppendsBeginning};
 ghost use Rattle.arbitrary_int.specs.Reading.{Unreadable};
@@ -25,9 +25,9 @@ pub trait BorshSerialize {
     /// takes nothing; a beginning of the bytes was written then. No call is made after a failed one.
     fn serialize<W: Write>(&self, writer: &mut Watched<W>) -> io::Result<()>
         ensures all { OnOk result (Appends (W.contents (inner_of writer.old)) (W.contents (inner_of writer.new)) (bytes_of self.now)) }
-        ensures kept { OnOk result (has_failed writer.new ≡ has_failed writer.old) }
+        ensures kept { OnOk result (NoFailure writer.old writer.new) }
         ensures begun { OnErr result (AppendsBeginning (W.contents (inner_of writer.old)) (W.contents (inner_of writer.new)) (bytes_of self.now)) }
-        ensures failed { OnErr result (IsTrue (has_failed writer.new)) };
+        ensures failed { OnErr result (Failure writer.old writer.new) };
 
     /// Puts the bytes of the value at the front of `out`, and tells how many they are. The rest of `out` stays
     /// as it was.
@@ -57,8 +57,8 @@ pub trait BorshDeserialize: Sized {
         requires { readable }
         ensures taken { IfOk result (λ x. Consumes (R.remaining (inner_of reader.old)) (R.remaining (inner_of reader.new)) (read_bytes x)) }
         ensures canonical { IfOk result (λ x. canonical (read_bytes x)) }
-        ensures kept { OnOk result (has_failed reader.new ≡ has_failed reader.old) }
-        ensures why { OnErr result (Unreadable canonical (R.remaining (inner_of reader.old)) (R.remaining (inner_of reader.new)) (has_failed reader.new) count) };
+        ensures kept { OnOk result (NoFailure reader.old reader.new) }
+        ensures why { OnErr result (Unreadable canonical (R.remaining (inner_of reader.old)) (R.remaining (inner_of reader.new)) (Failure reader.old reader.new) count) };
 
     /// The value that has these bytes, and `None` exactly where they are not canonical. The width is valid.
     fn from_borsh_bytes(bytes: &[u8]) -> Option<Self>
