@@ -72,11 +72,11 @@ def contracts(file):
     """What the clauses of a file's public functions say, and those of its traits and their impls."""
     said, block, public, depth = [], '', False, 0
     for line in file.read_text().splitlines():
-        if re.match(r'(pub )?(trait|impl)\b', line):
+        if re.match(rf'{PUBLIC}(trait|impl)\b', line):
             block = line
         elif line == '}':
             block = ''
-        if re.match(r'\s*(pub )?(final )?(const )?(unsafe )?fn ', line):
+        if re.match(rf'\s*{PUBLIC}(final )?(const )?(unsafe )?fn ', line):
             public = 'pub fn' in line or (line.startswith(' ') and ('trait ' in block or ' for ' in block))
         clause = re.match(r'\s*(requires|ensures)\b', line) and public
         if clause or depth > 0 or re.match(r'\s*ghost (?!use )', line):
