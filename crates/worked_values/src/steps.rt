@@ -88,60 +88,48 @@ fn well_formed_knows_the_registers(rt: HostRuntime) {
 
 #[test]
 fn a_register_whose_number_is_the_count_is_none_of_them(rt: HostRuntime) {
-    for (step, within) in [
-        (two(TwoOp::WrappingSub, 2, 2, 2), 3),
-        (two(TwoOp::WrappingSub, 2, 0, 1), 3),
-        (two(TwoOp::WrappingSub, 0, 2, 1), 3),
-        (two(TwoOp::WrappingSub, 0, 1, 2), 3),
-        (complement(2, 0), 3),
-        (complement(0, 2), 3),
-        (shifted(2, 0), 3),
-        (shifted(0, 2), 3),
+    for step in [
+        two(TwoOp::WrappingSub, 2, 0, 1),
+        two(TwoOp::WrappingSub, 0, 2, 1),
+        two(TwoOp::WrappingSub, 0, 1, 2),
+        complement(2, 0),
+        complement(0, 2),
+        shifted(2, 0),
+        shifted(0, 2),
     ] {
-        same(&rt, well_formed(&[step], within), true);
-        same(&rt, well_formed(&[step], within - 1), false);
+        let steps = [step];
+        same(&rt, well_formed(&steps, 3), true);
+        same(&rt, well_formed(&steps, 2), false);
     }
 }
 
-/// The registers 100, 50 and 7 after one step.
-fn after(rt: &impl Abort, step: Step) -> [u7; 3] {
-    let mut registers = [u7::new(100), u7::new(50), u7::new(7)];
-    if well_formed(&[step], 3) {
-        same(rt, run(&[step], &mut registers), Ok(()));
-    }
-    registers
+/// Three numbers as registers.
+fn registers_of(numbers: [u8; 3]) -> [u7; 3] {
+    [
+        u7::masked_new(numbers[0]),
+        u7::masked_new(numbers[1]),
+        u7::masked_new(numbers[2]),
+    ]
+}
+
+/// What one step leaves of the registers 100, 50 and 7.
+fn leaves(rt: &impl Abort, step: Step, wanted: [u8; 3]) {
+    let steps = [step];
+    let mut registers = registers_of([100, 50, 7]);
+    assert!(rt; well_formed(&steps, registers.len()));
+    same(rt, run(&steps, &mut registers), Ok(()));
+    same(rt, registers, registers_of(wanted));
 }
 
 #[test]
 fn the_sources_are_read_before_the_target_is_written(rt: HostRuntime) {
-    for (to, left, right, wanted) in [
-        (0, 0, 1, [50, 50, 7]),
-        (0, 1, 0, [78, 50, 7]),
-        (0, 0, 0, [0, 50, 7]),
-        (2, 1, 2, [100, 50, 43]),
-        (2, 2, 1, [100, 50, 85]),
-    ] {
-        let step = two(TwoOp::WrappingSub, to, left, right);
-        same(&rt, after(&rt, step).map(|value| value.value()), wanted);
-    }
-    same(
-        &rt,
-        after(&rt, complement(0, 0)).map(|value| value.value()),
-        [27, 50, 7],
-    );
-    same(
-        &rt,
-        after(&rt, complement(2, 2)).map(|value| value.value()),
-        [100, 50, 120],
-    );
-    same(
-        &rt,
-        after(&rt, shifted(0, 0)).map(|value| value.value()),
-        [32, 50, 7],
-    );
-    same(
-        &rt,
-        after(&rt, shifted(2, 2)).map(|value| value.value()),
-        [100, 50, 56],
-    );
+    leaves(&rt, two(TwoOp::WrappingSub, 0, 0, 1), [50, 50, 7]);
+    leaves(&rt, two(TwoOp::WrappingSub, 0, 1, 0), [78, 50, 7]);
+    leaves(&rt, two(TwoOp::WrappingSub, 0, 0, 0), [0, 50, 7]);
+    leaves(&rt, two(TwoOp::WrappingSub, 2, 1, 2), [100, 50, 43]);
+    leaves(&rt, two(TwoOp::WrappingSub, 2, 2, 1), [100, 50, 85]);
+    leaves(&rt, complement(0, 0), [27, 50, 7]);
+    leaves(&rt, complement(2, 2), [100, 50, 120]);
+    leaves(&rt, shifted(0, 0), [32, 50, 7]);
+    leaves(&rt, shifted(2, 2), [100, 50, 56]);
 }
