@@ -199,6 +199,31 @@ fn values_a_byte_at_a_time(rt: HostRuntime) {
     );
 }
 
+/// One value read from a stream of which one call has failed by then.
+fn reads<V: FixedWidth>(
+    rt: &impl Abort,
+    reader: &mut Watched<Stumbling>,
+    wanted: Result<V, ErrorKind>,
+)
+    requires { V.valid }
+{
+    let read = V::deserialize_reader(reader).map_err(|error| error.kind());
+    same(rt, read, wanted);
+    same(rt, (reader.failed(), reader.failures()), (true, 1));
+}
+
+/// One value written to a stream of which one call has failed by then.
+fn writes<V: FixedWidth>(
+    rt: &impl Abort,
+    writer: &mut Watched<Stumbling>,
+    value: V,
+    wanted: Result<(), ErrorKind>,
+) {
+    let written = value.serialize(writer).map_err(|error| error.kind());
+    same(rt, written, wanted);
+    same(rt, (writer.failed(), writer.failures()), (true, 1));
+}
+
 /// After a fault the same stream is read and written as if there had been none. The flag and the count stay.
 fn goes_on_after_a_fault<V: FixedWidth>(rt: &impl Abort, value: V)
     requires { V.valid }
@@ -207,18 +232,12 @@ fn goes_on_after_a_fault<V: FixedWidth>(rt: &impl Abort, value: V)
     let count = value.to_borsh_bytes(&mut bytes);
     for kind in [ErrorKind::Other, ErrorKind::Interrupted] {
         let mut reader = Watched::new(Stumbling::new(bytes, kind));
-        for wanted in [Err(kind), Ok(value)] {
-            let read = V::deserialize_reader(&mut reader).map_err(|error| error.kind());
-            same(rt, read, wanted);
-            same(rt, (reader.failed(), reader.failures()), (true, 1));
-        }
+        reads::<V>(rt, &mut reader, Err(kind));
+        reads(rt, &mut reader, Ok(value));
         same(rt, reader.into_inner().stream.calls, count);
         let mut writer = Watched::new(Stumbling::new([0x7E; 16], kind));
-        for wanted in [Err(kind), Ok(())] {
-            let written = value.serialize(&mut writer).map_err(|error| error.kind());
-            same(rt, written, wanted);
-            same(rt, (writer.failed(), writer.failures()), (true, 1));
-        }
+        writes(rt, &mut writer, value, Err(kind));
+        writes(rt, &mut writer, value, Ok(()));
         let taken = writer.into_inner().stream;
         same(rt, taken.calls, count);
         same(rt, taken.bytes.get(..count), bytes.get(..count));
