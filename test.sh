@@ -8,6 +8,7 @@ cd -- "$(dirname -- "$0")"
 python3 tools/short_names.py
 python3 tools/document_examples.py
 python3 tools/believed.py
+python3 tools/believed_apart.py
 python3 tools/bitrun_cases.py
 log="$(mktemp)"
 nice python3 tools/refused_memory.py &

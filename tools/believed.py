@@ -18,39 +18,65 @@ LIBRARIES = ['arbitrary_base', 'arbitrary_traits', 'arbitrary_core', 'arbitrary_
 # Of the modules of the program and of its library, those whose contracts speak of what it does as a whole.
 PROGRAM = [ROOT / 'crates' / name for name in ['step_service/src/serving.rt', 'step_text/src/fault.rt']]
 WORD = re.compile(r'[^\s(){}\[\],.;:]+')
+PUBLIC = r'(?:pub(?:\([a-z]+\))? )?'
+HEAD = re.compile(rf'\s*(?:(?:abbrev|unfoldable) {PUBLIC}|{PUBLIC}record )(\S+)|{PUBLIC}(\S+) :(?= )|(\s*module) _')
 
 
 def definitions(file):
-    """Each definition of a file: its name and its lines."""
+    """Each definition of a file: its name and its lines. What a module's own line brings is counted under `module`."""
     found = []
     for line in file.read_text().splitlines():
-        if not line.strip() or line.lstrip().startswith('--') or re.match(r'(pub )?use |pub mod |infix', line):
+        if not line.strip() or line.lstrip().startswith('--') or re.match(rf'{PUBLIC}(use|mod) |infix', line):
             continue
         # `do` stands for the operator that it is made of.
         line = re.sub(r'= do$', '= do >>=', line)
-        # Definitions of a module with parameters are indented, and its own line is counted with the one before it.
-        head = re.match(r'\s*(?:(?:abbrev|unfoldable) (?:pub )?|(?:pub )?record )(\S+)|(?:pub )?(\S+) :(?= )', line)
+        head = HEAD.match(line)
         if head or not found:
-            name = head.group(1) or head.group(2) if head else file.stem
-            found.append((name.strip('◌'), []))
+            name = next(filter(None, head.groups())) if head else file.stem
+            found.append((name.strip().strip('◌'), []))
         found[-1][1].append(line)
+    # modules with parameters, whose definitions have them too, stand in one file under one name
+    joined = {}
+    for name, lines in found:
+        joined.setdefault(name, []).extend(lines)
+    return joined
+
+
+def brought(file):
+    """The words that the use lines of a file bring: from which module of which crate's definitions."""
+    lines = re.findall(r'use Rattle\.(\w+)\.specs\.(?:\w+\.)*(\w+)\.\{([^}]*)\}', file.read_text())
+    return {word.strip().strip('◌'): (crate, module) for crate, module, words in lines for word in words.split(',')}
+
+
+def meant(known, file, words):
+    """Which definitions the words mean in a file: its own, and those that its use lines bring, also by way of a library above."""
+    at, found = brought(file), set()
+    for word in words:
+        if (file, word) in known:
+            found.add((file, word))
+        elif word in at:
+            crate, module = at[word]
+            named = [key for key in known if key[1] == word and key[0].stem == module]
+            found.update([key for key in named if ROOT / 'crates' / crate in key[0].parents] or named)
+    if any(key[0] == file for key in found) and (file, 'module') in known:
+        found.add((file, 'module'))
     return found
 
 
 def is_proved(lines):
     """Whether it is a lemma, or the statement of a law."""
-    return not re.match(r'\s*(abbrev|unfoldable|pub record|record|module)', lines[0]) or re.match(r'\s*abbrev pub \S+ : Type 0$', lines[0])
+    return not re.match(rf'\s*(abbrev|unfoldable|{PUBLIC}record|module)', lines[0]) or re.match(r'\s*abbrev pub \S+ : Type 0$', lines[0])
 
 
 def contracts(file):
     """What the clauses of a file's public functions say, and those of its traits and their impls."""
     said, block, public, depth = [], '', False, 0
     for line in file.read_text().splitlines():
-        if re.match(r'(pub )?(trait|impl)\b', line):
+        if re.match(rf'{PUBLIC}(trait|impl)\b', line):
             block = line
         elif line == '}':
             block = ''
-        if re.match(r'\s*(pub )?(final )?(const )?(unsafe )?fn ', line):
+        if re.match(rf'\s*{PUBLIC}(final )?(const )?(unsafe )?fn ', line):
             public = 'pub fn' in line or (line.startswith(' ') and ('trait ' in block or ' for ' in block))
         clause = re.match(r'\s*(requires|ensures)\b', line) and public
         if clause or depth > 0 or re.match(r'\s*ghost (?!use )', line):
@@ -63,20 +89,21 @@ def main():
     known = {}
     for crate in LIBRARIES + ['step_text', 'step_service']:
         for file in sorted((ROOT / 'crates' / crate / 'specs').rglob('*.antt')):
-            known |= {name: (file.relative_to(ROOT), lines) for name, lines in definitions(file)}
-    todo = PROGRAM + [file for crate in LIBRARIES for file in (ROOT / 'crates' / crate / 'src').rglob('*.rt')]
-    cited = {word for file in todo for word in contracts(file) if word in known}
+            known |= {(file, name): lines for name, lines in definitions(file).items()}
+    sources = PROGRAM + [file for crate in LIBRARIES for file in (ROOT / 'crates' / crate / 'src').rglob('*.rt')]
+    cited = {key for file in sources for key in meant(known, file, contracts(file))}
     todo = list(cited)
     while todo:
-        more = {word for word in WORD.findall('\n'.join(known[todo.pop()][1])) if word in known} - cited
+        key = todo.pop()
+        more = meant(known, key[0], WORD.findall('\n'.join(known[key]))) - cited
         cited |= more
         todo += more
     count = {'believed': 0, 'proved': 0, 'inside': 0}
-    for word, (file, lines) in known.items():
-        kind = 'proved' if is_proved(lines) else 'believed' if word in cited else 'inside'
+    for key, lines in known.items():
+        kind = 'proved' if is_proved(lines) else 'believed' if key in cited else 'inside'
         count[kind] += len(lines)
         if '--words' in sys.argv[1:]:
-            print(f'{kind:9}{len(lines):3}  {file}  {word}')
+            print(f'{kind:9}{len(lines):3}  {key[0].relative_to(ROOT)}  {key[1]}')
     print(f'{count["believed"]} lines must be believed; {count["proved"]} are of what is proved, {count["inside"]} are used inside a crate')
     page = ROOT / 'docs/ARCHITECTURE.md'
     figure = re.compile(r'\b\d+(?= lines must be believed)')

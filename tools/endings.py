@@ -1,9 +1,9 @@
 #!/usr/bin/env python3
 """endings.py [PROGRAM ..]
 
-Runs the built `bitrun` on a good input and on each fault that an input, a reader or a writer can bring about, and
-compares what is printed, the status and that standard error is empty with a table. PROGRAM is by default what
-`bitrun.sh` builds.
+Runs the built `bitrun` on good inputs and on each fault that an input, a reader or a writer can bring about, each with
+an output that is open, full, closed, or that nobody reads. It compares what is printed, the status and that standard
+error is empty with a table. PROGRAM is by default what `bitrun.sh` builds.
 """
 import os
 import subprocess
@@ -16,41 +16,49 @@ ANSWER = b'100 50 22\nstopped at 1: refused\n'
 BAD = b'run u7\n100 50 0\nwadd 2 0 1\nwadd 3 0 1\n'
 LONG = b'run u7\n1\n' + 65528 * b'\n'
 
-# What holds of standard input and output, the input, what is printed, and the status.
+
+def late(good):
+    """6,000 steps, of which the first bad one comes after so many good ones."""
+    return b'run u7\n1 2\n' + good * b'not 0 1\n' + b'not 0 2\n' + (5999 - good) * b'not 0 1\n'
+
+
+# What holds of standard input, the input, what is printed, and the status.
 ROWS = [
-    ('all is well', GOOD, ANSWER, 0),
-    ('all is well', b'run u7\n\n', b'\ndone\n', 0),
-    ('all is well', b'run i7\n-64 0\nwdiv 0 0 1', b'-64 0\nstopped at 0: zero divisor\n', 0),
-    ('all is well', LONG[:-1], b'1\ndone\n', 0),
-    ('all is well', b'run u7\n1 1\n' + 5956 * b'wadd 0 0 1\n', b'69 1\ndone\n', 0),
-    ('all is well', b'run u7\n' + 32764 * b'1 ', 32763 * b'1 ' + b'1\ndone\n', 0),
-    ('all is well', b'', b'fault: line 1\n', 2),
-    ('all is well', b'run u7\n128\n', b'fault: line 2\n', 2),
-    ('all is well', BAD, b'fault: line 4\n', 2),
-    ('all is well', LONG, b'fault: too long\n', 2),
-    ('all is well', 65537 * b'x', b'fault: too long\n', 2),
-    ('input is a folder', b'', b'fault: read\n', 4),
-    ('input is closed', b'', b'fault: read\n', 4),
-    ('output is full', GOOD, b'', 5),
-    ('output is closed', GOOD, b'', 5),
-    ('nobody reads output', GOOD, b'', 5),
+    ('open', GOOD, ANSWER, 0),
+    ('open', b'run u7\n\n', b'\ndone\n', 0),
+    ('open', b'run i7\n-64 0\nwdiv 0 0 1', b'-64 0\nstopped at 0: zero divisor\n', 0),
+    ('open', LONG[:-1], b'1\ndone\n', 0),
+    ('open', b'run u7\n1 1\n' + 5956 * b'wadd 0 0 1\n', b'69 1\ndone\n', 0),
+    ('open', b'run u7\n' + 32764 * b'1 ', 32763 * b'1 ' + b'1\ndone\n', 0),
+    ('open', b'', b'fault: line 1\n', 2),
+    ('open', b'run u7\n128\n', b'fault: line 2\n', 2),
+    ('open', BAD, b'fault: line 4\n', 2),
+    ('open', LONG, b'fault: too long\n', 2),
+    ('open', 65537 * b'x', b'fault: too long\n', 2),
+    ('a folder', b'', b'fault: read\n', 4),
+    ('closed', b'', b'fault: read\n', 4),
+    # the first bad line is the 5,000th, comes behind each growth of the list of steps, and is the last of a full input
+    *[('open', late(good), b'fault: line %d\n' % (good + 3), 2) for good in (4997, 16, 17, 64, 65, 1024, 1025, 4096, 4097)],
+    ('open', b'run u7\n1 2\n' + 6 * b'\n' + 8189 * b'not 0 1\n' + b'not 0 2', b'fault: line 8198\n', 2),
 ]
+# What else may hold of standard output. Nothing is printed then; the status is the fault's, or where all else is well 5.
+OUTPUTS = ['full', 'closed', 'unread']
 
 
-def ending(program, where, data):
+def ending(program, source, data, sink='open'):
     """What is printed, the status, and what stands on standard error."""
     inward, feed = os.pipe()
     take, outward = os.pipe()
-    if where == 'input is a folder':
+    if source == 'a folder':
         os.dup2(os.open('/', os.O_RDONLY), inward)
-    if where == 'output is full':
+    if sink == 'full':
         os.dup2(os.open('/dev/full', os.O_WRONLY), outward)
-    closed = {'input is closed': 0, 'output is closed': 1}.get(where)
-    if where == 'nobody reads output':
+    closed = [number for number, state in enumerate([source, sink]) if state == 'closed']
+    if sink == 'unread':
         os.close(take)
     process = subprocess.Popen(
         [program], stdin=inward, stdout=outward, stderr=subprocess.PIPE,
-        preexec_fn=None if closed is None else lambda: os.close(closed))
+        preexec_fn=lambda: [os.close(number) for number in closed])
     os.close(inward)
     os.close(outward)
     try:
@@ -60,7 +68,7 @@ def ending(program, where, data):
         # it had read enough
         pass
     printed = b''
-    if where != 'nobody reads output':
+    if sink != 'unread':
         with open(take, 'rb') as file:
             printed = file.read()
     error = process.stderr.read()
@@ -68,14 +76,16 @@ def ending(program, where, data):
 
 
 def main():
+    rows = [(source, data, 'open', (printed, status, b'')) for source, data, printed, status in ROWS]
+    rows += [(source, data, sink, (b'', status or 5, b'')) for source, data, _, status in ROWS for sink in OUTPUTS]
     failed = 0
     for program in programs(sys.argv[1:]):
-        for where, data, printed, status in ROWS:
-            found = ending(program, where, data)
-            if found != (printed, status, b''):
+        for source, data, sink, wanted in rows:
+            found = ending(program, source, data, sink)
+            if found != wanted:
                 failed += 1
-                print(f'{program}: on {data[:60]}, where {where}: {found}, should be {(printed, status, b"")}')
-        print(f'{program}: {len(ROWS)} endings tried')
+                print(f'{program}: on {data[:60]}, with input {source} and output {sink}: {found}, should be {wanted}')
+        print(f'{program}: {len(rows)} endings tried')
     return 1 if failed else 0
 
 

@@ -3,8 +3,9 @@
 
 Runs the built `bitrun` on good and on damaged inputs, and compares what it prints, its status and that standard error
 is empty with a model of the text and the steps. PROGRAM is by default what `bitrun.sh` builds. Each word comes on each
-type first; then come random inputs, N of them or for S seconds. One seed always makes the same inputs. At the first
-difference the input and both endings are printed, and the status is 1.
+type first, then long inputs, good and damaged at any line; then come random inputs, N of them or for S seconds. One
+seed always makes the same inputs. At the first difference the input and both endings are printed, and the status is 1.
+So it is where the words of the model are not those of `operation_named` in the definitions.
 """
 import argparse
 import random
@@ -12,7 +13,7 @@ import re
 import sys
 import time
 
-from program import ending, programs
+from program import ROOT, ending, programs
 
 LIMIT = 65536
 SEPARATORS = bytes.maketrans(b'\t\r', b'  ')
@@ -101,18 +102,18 @@ def numeral(word, form, least, most):
     return int(word)
 
 
-def header(words, served):
+def header(words):
     name = b' '.join(words or []).decode('latin-1')
-    if name not in HEADERS or name not in served:
+    if name not in HEADERS:
         raise Bad
     _, kind, *narrow = name.split()
     return TYPES[kind], [TYPES[it] for it in narrow]
 
 
-def step(words, count, served):
+def step(words, count):
     word, *operands = words
     word = word.decode('latin-1')
-    if word not in served or word in HEADERS:
+    if word not in TWO + ONE + BY:
         raise Bad
     mosts = [count - 1] * (3 if word in TWO else 2) + [2 ** 32 - 1] * (word in BY)
     if len(operands) != len(mosts):
@@ -120,8 +121,8 @@ def step(words, count, served):
     return word, *[numeral(it, b'[0-9]+', 0, most) for it, most in zip(operands, mosts)], 0
 
 
-def model(data, served):
-    """What is printed, and the status. `served` has the words of steps and the first lines that are known."""
+def model(data):
+    """What is printed, and the status."""
     if len(data) > LIMIT:
         return b'fault: too long\n', 2
     lines = [[word for word in line.split(b' ') if word] for line in data.translate(SEPARATORS).split(b'\n')]
@@ -133,11 +134,11 @@ def model(data, served):
             if words is None:
                 raise Bad
             if place == 1:
-                kind, narrow = header(words, served)
+                kind, narrow = header(words)
             elif place == 2:
                 registers = [numeral(it, b'-?[0-9]+', lowest(*kind), highest(*kind)) for it in words]
             elif words:
-                steps.append(step(words, len(registers), served))
+                steps.append(step(words, len(registers)))
         except Bad:
             return f'fault: line {place}\n'.encode(), 2
     last = 'done'
@@ -229,27 +230,26 @@ def damaged(chance, data):
     return data
 
 
-def inputs(chance, served):
+def inputs(chance):
     """Each word on each type, then long inputs, then random ones without end."""
-    firsts = [it for it in HEADERS if it in served]
-    words = [it for it in TWO + ONE + BY if it in served]
-    for first in firsts:
+    words = TWO + ONE + BY
+    for first in HEADERS:
         for word in words:
             for _ in range(3):
                 yield good(chance, first, [word], [3], [1])
-    for first in firsts:
+    for first in HEADERS:
         yield good(chance, first, ['wadd', 'xor', 'not', 'rotl'], [9], [5000])
+        yield damaged(chance, good(chance, first, ['wadd', 'xor', 'not', 'neg'], [9], [5000]))
         yield good(chance, first, ['wadd'], [1500], [1])
     while True:
-        data = good(chance, chance.choice(firsts), words, [0, 1, 2, 3, 3, 5, 30], [0, 1, 2, 5, 20])
+        data = good(chance, chance.choice(HEADERS), words, [0, 1, 2, 3, 3, 5, 30], [0, 1, 2, 5, 20])
         yield data if chance.random() < 0.4 else damaged(chance, data)
 
 
-def served_by(program):
-    """The words and first lines that the program knows: all but those that another stage of it may bring."""
-    later = {'wide': b'wide u14 u7\n\n', 'neg': b'run u7\n0\nneg 0 0\n'}
-    unknown = [it for it, data in later.items() if ending(program, data)[0].startswith(b'fault')]
-    return {it for it in HEADERS + TWO + ONE + BY if it.split()[0] not in unknown}
+def words_defined():
+    """The words of `operation_named`, the definition of what a word of a step names."""
+    text = (ROOT / 'crates/step_text/specs/Operation.antt').read_text()
+    return set(re.findall(r'codes "(\w+)"', text))
 
 
 def main():
@@ -259,13 +259,16 @@ def main():
     parser.add_argument('--inputs', type=int, default=600)
     parser.add_argument('--seconds', type=float)
     options = parser.parse_args()
+    apart = words_defined() ^ set(TWO + ONE + BY)
+    if apart:
+        print(f'not both defined in step_text and known to this model: {sorted(apart)}')
+        return 1
     for program in programs(options.programs):
-        served = served_by(program)
         start, count, faults = time.monotonic(), 0, 0
         first = len(HEADERS) * 3 * (len(TWO + ONE + BY) + 1)
-        for count, data in enumerate(inputs(random.Random(options.seed), served), 1):
+        for count, data in enumerate(inputs(random.Random(options.seed)), 1):
             printed, status, error = ending(program, data)
-            expected, wanted = model(data, served)
+            expected, wanted = model(data)
             faults += wanted != 0
             if (printed, status, error) != (expected, wanted, b''):
                 print(f'{program}: wrong on the input\n{data}\nshould print {expected} with status {wanted},')

@@ -2,6 +2,8 @@
 use Rattle.std.proofs.Common.{◌≡◌, ℕ, ◌+◌, ◌-◌, ◌≤◌, List, ◌++◌, length, take, drop, Option, sym, ap, ◌∙◌, subst, arith, length-append, length-take, take-add, take_all, length-drop, min}
 use Rattle.std.specs.Io.KnownBytes.{Appends, Consumes}
 use Rattle.arbitrary_base.specs.Stream.{AppendsBeginning}
+use Rattle.arbitrary_base.specs.Watching.{NoFailure}
+use Rattle.arbitrary_base.specs.declared.watched.Watched.{Watched}
 use Rattle.std.proofs.KnownBytes.{Appends-trans, Consumes-trans}
 use Rattle.std.proofs.lemmas.List.{take-append-le, take_min}
 use Rattle.std.proofs.Math.Seq.{take-append-add, take-append_seam}
@@ -23,6 +25,10 @@ written_more a b c text at n p q =
 
 pub room_left : (old new post : List ℕ) (at n : ℕ) → at ≤ length old → n ≤ length new → at + n ≤ length (take at old ++ (new ++ post))
 room_left old new post at n h k = omega (arith, length-append (take at old) (new ++ post), length-append new post, length-take at old)
+
+-- no call failed, and then none again
+pub none_failed : {D : Type 0} (a b c : Watched D) → NoFailure a b → NoFailure b c → NoFailure a c
+none_failed a b c p q = (q.0 ∙ p.0, q.1 ∙ p.1)
 
 -- what stands at the front
 pub take-at_front : (n : ℕ) (xs ys rest : List ℕ) → n ≡ length ys → xs ≡ ys → take n (xs ++ rest) ≡ ys

@@ -1,5 +1,5 @@
 -- What a clause reads of a `Watched`.
-use Rattle.std.specs.Prelude.{Bool}
+use Rattle.std.specs.Prelude.{◌≡◌, ◌≢◌, ℕ, Bool, IsTrue}
 use Rattle.arbitrary_base.specs.declared.watched.Watched.{Watched}
 
 -- `w.into_inner()`
@@ -9,3 +9,15 @@ inner_of w = w.inner
 -- `w.failed()`
 abbrev pub has_failed : {D : Type 0} → Watched D → Bool
 has_failed w = w.failed
+
+-- `w.failures()`
+abbrev pub failures_of : {D : Type 0} → Watched D → ℕ
+failures_of w = w.failures
+
+-- between the two moments no call failed
+abbrev pub NoFailure : {D : Type 0} → Watched D → Watched D → Type 0
+NoFailure old new = (has_failed new ≡ has_failed old) × (failures_of new ≡ failures_of old)
+
+-- between the two moments a call failed
+abbrev pub Failure : {D : Type 0} → Watched D → Watched D → Type 0
+Failure old new = IsTrue (has_failed new) × (failures_of new ≢ failures_of old)

@@ -1,8 +1,8 @@
 //! A known number of bytes in, and all of some bytes out. After a fault no call is made again.
 
-ghost use Rattle.std.specs.Prelude.{length, IsTrue, OnOk, OnErr};
+ghost use Rattle.std.specs.Prelude.{length, OnOk, OnErr};
 ghost use Rattle.std.specs.Io.KnownBytes.{Appends, Consumes};
-ghost use Rattle.arbitrary_base.specs.Watching.{inner_of, has_failed};
+ghost use Rattle.arbitrary_base.specs.Watching.{inner_of, NoFailure, Failure};
 ghost use Rattle.arbitrary_base.specs.Stream.{AppendsBeginning, FailedOrShort};
 
 use crate::watched::Watched;
@@ -12,7 +12,8 @@ use std::io::{ErrorKind, Read, Write};
 /// Fills `buf`, by at most as many calls as it has bytes. An input that ends before is `UnexpectedEof`.
 pub fn read_full<R: Read>(reader: &mut Watched<R>, buf: &mut [u8]) -> io::Result<()>
     ensures all { OnOk result (Consumes (R.remaining (inner_of reader.old)) (R.remaining (inner_of reader.new)) buf.new) }
-    ensures why { OnErr result (FailedOrShort (R.remaining (inner_of reader.old)) (has_failed reader.new) (length buf.old)) }
+    ensures kept { OnOk result (NoFailure reader.old reader.new) }
+    ensures why { OnErr result (FailedOrShort (R.remaining (inner_of reader.old)) (Failure reader.old reader.new) (length buf.old)) }
 {
     let mut at = 0;
     while at < buf.len() {
@@ -29,8 +30,9 @@ pub fn read_full<R: Read>(reader: &mut Watched<R>, buf: &mut [u8]) -> io::Result
 /// `WriteZero`.
 pub fn write_full<W: Write>(writer: &mut Watched<W>, bytes: &[u8]) -> io::Result<()>
     ensures all { OnOk result (Appends (W.contents (inner_of writer.old)) (W.contents (inner_of writer.new)) bytes.now) }
+    ensures kept { OnOk result (NoFailure writer.old writer.new) }
     ensures begun { OnErr result (AppendsBeginning (W.contents (inner_of writer.old)) (W.contents (inner_of writer.new)) bytes.now) }
-    ensures failed { OnErr result (IsTrue (has_failed writer.new)) }
+    ensures failed { OnErr result (Failure writer.old writer.new) }
 {
     let mut at = 0;
     while at < bytes.len() {

@@ -1,31 +1,36 @@
-//! A reader or a writer, and whether one of its calls has failed.
+//! A reader or a writer, and whether and how often its calls have failed.
 
-ghost use Rattle.std.specs.Prelude.{◌≡◌, ◌<◌, false, length, IsTrue, IfOk, OnOk, OnErr};
+ghost use Rattle.std.specs.Prelude.{◌≡◌, ◌<◌, false, length, IfOk, OnOk, OnErr};
 ghost use Rattle.std.specs.Io.{ReadsAtMost, WritesAtMost};
 ghost use Rattle.std.specs.Io.KnownBytes.{ReadConsumes, WriteAppends};
-ghost use Rattle.arbitrary_base.specs.Watching.{inner_of, has_failed};
+ghost use Rattle.arbitrary_base.specs.Watching.{inner_of, has_failed, failures_of, NoFailure, Failure};
 
 use std::io;
 use std::io::{Read, Write};
 
-/// A reader or a writer, with a flag that rises where one of its calls fails, and never falls.
+/// A reader or a writer, with a flag that rises where one of its calls fails, and never falls, and a
+/// count of the calls that failed.
 ///
-/// The flag is what lets a caller's contract say that a fault was the stream's own.
+/// The flag is what lets a caller's contract say that a fault was the stream's own, and the count
+/// that it is a new one.
 #[derive(Drop)]
 pub struct Watched<D> {
     inner: D,
     failed: bool,
+    failures: u64,
 }
 
 impl<D> Watched<D> {
-    /// With the flag down.
+    /// With the flag down, and no failures.
     pub fn new(inner: D) -> Self
         ensures inner { inner_of result ≡ inner }
         ensures flag { has_failed result ≡ false }
+        ensures none { failures_of result ≡ 0 }
     {
         Watched {
             inner,
             failed: false,
+            failures: 0,
         }
     }
 
@@ -34,6 +39,22 @@ impl<D> Watched<D> {
         ensures { result ≡ has_failed self.now }
     {
         self.failed
+    }
+
+    /// How many calls have failed, modulo `2 ^ 64`.
+    pub fn failures(&self) -> u64
+        ensures { result ≡ failures_of self.now }
+    {
+        self.failures
+    }
+
+    /// One more call has failed.
+    fn fails(&mut self)
+        ensures failure { Failure self.old self.new }
+        ensures inner { inner_of self.new ≡ inner_of self.old }
+    {
+        self.failed = true;
+        self.failures = self.failures.wrapping_add(1);
     }
 
     /// The reader or writer itself.
@@ -45,30 +66,30 @@ impl<D> Watched<D> {
 }
 
 impl<D: Read> Watched<D> {
-    /// One call of the reader's `read`, with its answer. An `Err`, of any kind, raises the flag.
+    /// One call of the reader's `read`, with its answer. An `Err`, of any kind, is a failure.
     pub fn read(&mut self, buf: &mut [u8]) -> io::Result<usize>
         ensures bound { ReadsAtMost result buf.new }
         ensures bytes { ReadConsumes (D.remaining (inner_of self.old)) (D.remaining (inner_of self.new)) result buf.new }
-        ensures kept { OnOk result (has_failed self.new ≡ has_failed self.old) }
-        ensures raised { OnErr result (IsTrue (has_failed self.new)) }
+        ensures kept { OnOk result (NoFailure self.old self.new) }
+        ensures raised { OnErr result (Failure self.old self.new) }
     {
         let outcome = self.inner.read(buf);
         if outcome.is_err() {
-            self.failed = true;
+            self.fails();
         }
         outcome
     }
 }
 
 impl<D: Write> Watched<D> {
-    /// One call of the writer's `write`, with its answer. An `Err`, of any kind, raises the flag,
-    /// and so does a writer that takes nothing of at least one byte.
+    /// One call of the writer's `write`, with its answer. An `Err`, of any kind, is a failure, and so
+    /// is a writer that takes nothing of at least one byte.
     pub fn write(&mut self, buf: &[u8]) -> io::Result<usize>
         ensures bound { WritesAtMost result buf.now }
         ensures bytes { WriteAppends (D.contents (inner_of self.old)) (D.contents (inner_of self.new)) result buf.now }
-        ensures kept { IfOk result (λ n. (n ≡ 0 → length buf.now ≡ 0) → has_failed self.new ≡ has_failed self.old) }
-        ensures took_nothing { IfOk result (λ n. n ≡ 0 → 0 < length buf.now → IsTrue (has_failed self.new)) }
-        ensures raised { OnErr result (IsTrue (has_failed self.new)) }
+        ensures kept { IfOk result (λ n. (n ≡ 0 → length buf.now ≡ 0) → NoFailure self.old self.new) }
+        ensures took_nothing { IfOk result (λ n. n ≡ 0 → 0 < length buf.now → Failure self.old self.new) }
+        ensures raised { OnErr result (Failure self.old self.new) }
     {
         let outcome = self.inner.write(buf);
         let failed = match &outcome {
@@ -76,7 +97,7 @@ impl<D: Write> Watched<D> {
             Err(_) => true,
         };
         if failed {
-            self.failed = true;
+            self.fails();
         }
         outcome
     }

@@ -1,8 +1,8 @@
 //! Values in a stream, in the Borsh form.
 
-ghost use Rattle.std.specs.Prelude.{◌≡◌, ◌≤◌, ℕ, List, length, take, drop, IsTrue, IfOk, OnOk, OnErr, MatchOption};
+ghost use Rattle.std.specs.Prelude.{◌≡◌, ◌≤◌, ℕ, List, length, take, drop, IfOk, OnOk, OnErr, MatchOption};
 ghost use Rattle.std.specs.Io.KnownBytes.{Appends, Consumes};
-ghost use Rattle.arbitrary_base.specs.Watching.{inner_of, has_failed};
+ghost use Rattle.arbitrary_base.specs.Watching.{inner_of, NoFailure, Failure};
 ghost use Rattle.arbitrary_base.specs.Bytes.{BorshBytes, Canonical, byte_count};
 ghost use Rattle.arbitrary_base.specs.Stream.{AppendsBeginning};
 ghost use Rattle.arbitrary_int.specs.Reading.{Unreadable};
@@ -25,8 +25,9 @@ pub trait BorshSerialize {
     /// takes nothing; a beginning of the bytes was written then. No call is made after a failed one.
     fn serialize<W: Write>(&self, writer: &mut Watched<W>) -> io::Result<()>
         ensures all { OnOk result (Appends (W.contents (inner_of writer.old)) (W.contents (inner_of writer.new)) (bytes_of self.now)) }
+        ensures kept { OnOk result (NoFailure writer.old writer.new) }
         ensures begun { OnErr result (AppendsBeginning (W.contents (inner_of writer.old)) (W.contents (inner_of writer.new)) (bytes_of self.now)) }
-        ensures failed { OnErr result (IsTrue (has_failed writer.new)) };
+        ensures failed { OnErr result (Failure writer.old writer.new) };
 
     /// Puts the bytes of the value at the front of `out`, and tells how many they are. The rest of `out` stays
     /// as it was.
@@ -50,13 +51,14 @@ pub trait BorshDeserialize: Sized {
     ghost read_bytes: { Self → List ℕ };
 
     /// Reads exactly the bytes of one value, and never asks for a further one. An error is the reader's own,
-    /// `UnexpectedEof` where the input ends before, or `InvalidData` where the bytes are not canonical. No call
-    /// is made after a failed one. The width is valid.
+    /// `UnexpectedEof` where the input ends before, or `InvalidData` where the bytes are not canonical; these are
+    /// then read, and what follows is left. No call is made after a failed one. The width is valid.
     fn deserialize_reader<R: Read>(reader: &mut Watched<R>) -> io::Result<Self>
         requires { readable }
         ensures taken { IfOk result (λ x. Consumes (R.remaining (inner_of reader.old)) (R.remaining (inner_of reader.new)) (read_bytes x)) }
         ensures canonical { IfOk result (λ x. canonical (read_bytes x)) }
-        ensures why { OnErr result (Unreadable canonical (R.remaining (inner_of reader.old)) (has_failed reader.new) count) };
+        ensures kept { OnOk result (NoFailure reader.old reader.new) }
+        ensures why { OnErr result (Unreadable canonical (R.remaining (inner_of reader.old)) (R.remaining (inner_of reader.new)) (Failure reader.old reader.new) count) };
 
     /// The value that has these bytes, and `None` exactly where they are not canonical. The width is valid.
     fn from_borsh_bytes(bytes: &[u8]) -> Option<Self>

@@ -1,5 +1,9 @@
 //! Laws of the calls on bytes, each as a function that makes the calls and ensures what the law says.
 //! That a number is in range is told by `extended`.
+//!
+//! A clause here speaks of numbers alone, so a body without the calls could meet it too. What a function
+//! shows is that its own body does: it follows from what the calls it makes ensure, and a caller who makes
+//! the same calls has it likewise.
 
 ghost use Rattle.std.specs.Prelude.{◌≡◌, ◌↔◌, IsTrue, MatchOption};
 

@@ -153,5 +153,6 @@ fn the_flag_stays_up_when_later_calls_succeed(rt: HostRuntime) {
     assert_eq!(rt; read.ok(), Some(1));
     assert_eq!(rt; written.ok(), Some(1));
     assert!(rt; broken.failed());
+    assert_eq!(rt; broken.failures(), 1);
     assert_eq!(rt; broken.into_inner().calls, 3);
 }

@@ -10,16 +10,17 @@ use std::process::ExitCode;
 use step_service::serving::serve;
 use step_text::fault::Fault;
 
-fn main(rt: HostRuntime) -> io::Result<ExitCode> {
+fn main(rt: HostRuntime) -> ExitCode {
     let mut reader = Watched::new(rt.reader());
     let mut writer = Watched::new(io::writer(&rt));
     match serve(rt.alloc(), &mut reader, &mut writer) {
-        Ok(()) => Ok(ExitCode::SUCCESS),
+        Ok(()) => ExitCode::SUCCESS,
         Err(fault) => {
             if fault != Fault::Write {
-                println!(rt; "{fault}")?;
+                // The status tells the fault even where its text can't be written.
+                let _ = println!(rt; "{fault}");
             }
-            Ok(ExitCode::from(fault.status()))
+            ExitCode::from(fault.status())
         }
     }
 }

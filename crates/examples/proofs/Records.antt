@@ -81,31 +81,32 @@ rest-after B x y (Some ys) more k = ap Some (sym (rest-same B y x more ys k))
 held-after : (B : ℕ) (x y : ℤ) (a b : Option (List ℕ)) (more : List ℕ) → a ≡ Some (BorshBytes B y ++ more) → Consumes a b (BorshBytes B x) → b ≡ Some more
 held-after B x y a b more e k = rest-after B x y b more (subst (λ (o : Option (List ℕ)). Consumes o b (BorshBytes B x)) e k)
 
-not-short : (B : ℕ) (y : ℤ) (more : List ℕ) (failed : Bool) → Unreadable (Canonical B) (Some (BorshBytes B y ++ more)) failed (byte_count B) → IsTrue failed
-not-short B y more failed (inl t) = t
-not-short B y more failed (inr (inl h)) = absurd (omega (arith, h, length-append (BorshBytes B y) more, length-Borsh B y))
-not-short B y more failed (inr (inr h)) =
-    absurd (h (subst (Canonical B) (sym ((λ i. take (sym (length-Borsh B y) i) (BorshBytes B y ++ more)) ∙ take-append_seam (BorshBytes B y) more)) (Borsh-canonical B y)))
+not-short : {F : Type 0} (B : ℕ) (y : ℤ) (more : List ℕ) (left : Option (List ℕ)) → Unreadable (Canonical B) (Some (BorshBytes B y ++ more)) left F (byte_count B) → F
+not-short B y more left (inl t) = t
+not-short B y more left (inr (inl h)) = absurd (omega (arith, h, length-append (BorshBytes B y) more, length-Borsh B y))
+not-short B y more left (inr (inr h)) =
+    absurd (h.0 (subst (Canonical B) (sym ((λ i. take (sym (length-Borsh B y) i) (BorshBytes B y ++ more)) ∙ take-append_seam (BorshBytes B y) more)) (Borsh-canonical B y)))
 
 -- a value that is there is not refused, unless the reader failed
-only_by_fault : (B : ℕ) (y : ℤ) (a : Option (List ℕ)) (failed : Bool) (more : List ℕ) → a ≡ Some (BorshBytes B y ++ more) → Unreadable (Canonical B) a failed (byte_count B) → IsTrue failed
-only_by_fault B y a failed more e k = not-short B y more failed (subst (λ (o : Option (List ℕ)). Unreadable (Canonical B) o failed (byte_count B)) e k)
+only_by_fault : {F : Type 0} (B : ℕ) (y : ℤ) (a left : Option (List ℕ)) (more : List ℕ) → a ≡ Some (BorshBytes B y ++ more) → Unreadable (Canonical B) a left F (byte_count B) → F
+only_by_fault {F} B y a left more e k = not-short B y more left (subst (λ (o : Option (List ℕ)). Unreadable (Canonical B) o left F (byte_count B)) e k)
 
-module _ (failed : Bool) where
-  pub first_refused : (a : Option (List ℕ)) → Unreadable (Canonical 40) a failed (byte_count 40) → FailedOrNoRecord a failed
-  first_refused a k = λ time level source reading rest e. only_by_fault 40 time a failed _ (e ∙ ap Some (in_turn time level source reading rest)) k
+-- N is what else a failure says
+module _ (N : Type 0) (failed : Bool) where
+  pub first_refused : (a left : Option (List ℕ)) → Unreadable (Canonical 40) a left (IsTrue failed × N) (byte_count 40) → FailedOrNoRecord a failed
+  first_refused a left k = λ time level source reading rest e. (only_by_fault 40 time a left _ (e ∙ ap Some (in_turn time level source reading rest)) k).0
 
-  pub second_refused : (x : ℤ) (a b : Option (List ℕ)) → Consumes a b (BorshBytes 40 x) → Unreadable (Canonical 3) b failed (byte_count 3) → FailedOrNoRecord a failed
-  second_refused x a b h k =
-      λ time level source reading rest e. only_by_fault 3 level b failed _ (held-after 40 x time a b _ (e ∙ ap Some (in_turn time level source reading rest)) h) k
+  pub second_refused : (x : ℤ) (a b left : Option (List ℕ)) → Consumes a b (BorshBytes 40 x) → Unreadable (Canonical 3) b left (IsTrue failed × N) (byte_count 3) → FailedOrNoRecord a failed
+  second_refused x a b left h k =
+      λ time level source reading rest e. (only_by_fault 3 level b left _ (held-after 40 x time a b _ (e ∙ ap Some (in_turn time level source reading rest)) h) k).0
 
-  pub third_refused : (x y : ℤ) (a b c : Option (List ℕ)) → Consumes a b (BorshBytes 40 x) → Consumes b c (BorshBytes 3 y) → Unreadable (Canonical 9) c failed (byte_count 9) → FailedOrNoRecord a failed
-  third_refused x y a b c h g k =
+  pub third_refused : (x y : ℤ) (a b c left : Option (List ℕ)) → Consumes a b (BorshBytes 40 x) → Consumes b c (BorshBytes 3 y) → Unreadable (Canonical 9) c left (IsTrue failed × N) (byte_count 9) → FailedOrNoRecord a failed
+  third_refused x y a b c left h g k =
       λ time level source reading rest e.
-      only_by_fault 9 source c failed _ (held-after 3 y level b c _ (held-after 40 x time a b _ (e ∙ ap Some (in_turn time level source reading rest)) h) g) k
+      (only_by_fault 9 source c left _ (held-after 3 y level b c _ (held-after 40 x time a b _ (e ∙ ap Some (in_turn time level source reading rest)) h) g) k).0
 
-  pub fourth_refused : (x y z : ℤ) (a b c d : Option (List ℕ)) → Consumes a b (BorshBytes 40 x) → Consumes b c (BorshBytes 3 y) → Consumes c d (BorshBytes 9 z)
-      → Unreadable (Canonical 12) d failed (byte_count 12) → FailedOrNoRecord a failed
-  fourth_refused x y z a b c d h g f k =
+  pub fourth_refused : (x y z : ℤ) (a b c d left : Option (List ℕ)) → Consumes a b (BorshBytes 40 x) → Consumes b c (BorshBytes 3 y) → Consumes c d (BorshBytes 9 z)
+      → Unreadable (Canonical 12) d left (IsTrue failed × N) (byte_count 12) → FailedOrNoRecord a failed
+  fourth_refused x y z a b c d left h g f k =
       λ time level source reading rest e.
-      only_by_fault 12 reading d failed rest (held-after 9 z source c d _ (held-after 3 y level b c _ (held-after 40 x time a b _ (e ∙ ap Some (in_turn time level source reading rest)) h) g) f) k
+      (only_by_fault 12 reading d left rest (held-after 9 z source c d _ (held-after 3 y level b c _ (held-after 40 x time a b _ (e ∙ ap Some (in_turn time level source reading rest)) h) g) f) k).0

@@ -3,7 +3,7 @@ use Rattle.std.specs.Prelude.{◌≢◌, ℕ, ◌≤◌, ◌<◌, Bool, List, le
 use Rattle.std.specs.Io.KnownBytes.{Appends, Keeps, IsAtEnd}
 use Rattle.step_service.specs.Answer.{IsAnswer}
 use Rattle.step_text.specs.Form.{BadLine, HasNoBadLine}
-use Rattle.step_service.specs.Stream.{AppendsBeginning}
+use Rattle.arbitrary_int.specs.Stream.{AppendsBeginning}
 use Rattle.step_text.specs.declared.fault.Fault.{Fault}
 use Rattle.step_text.specs.declared.fault.Fault.TheVariants.{Line, TooLong, Read, Write}
 

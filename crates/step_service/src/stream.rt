@@ -3,7 +3,8 @@
 ghost use Rattle.std.specs.Prelude.{◌≡◌, ◌≤◌, vec_len, IfOk, IfErr, OnOk, OnErr, IfSome, IsTrue};
 ghost use Rattle.std.specs.Io.KnownBytes.{Appends, IsAtEnd};
 ghost use Rattle.arbitrary_int.specs.Watching.{inner_of, has_failed};
-ghost use Rattle.step_service.specs.Stream.{ReadFault, AppendsBeginning};
+ghost use Rattle.arbitrary_int.specs.Stream.{AppendsBeginning};
+ghost use Rattle.step_service.specs.Stream.{ReadFault};
 
 use arbitrary_int::Watched;
 use std::alloc::Allocator;

@@ -145,8 +145,10 @@ macro_rules! differs {
             let last = $width - V::BITS;
             let low = <$unsigned>::masked_new($source);
             let places = u32::try_from(last).unwrap_or(0);
+            let at_first = number($source, $bits, $signed);
             let at_last = number(u128::from_(low).wrapping_shr(places), $bits, $signed);
-            V::$from_unsigned(low, 0).extended() != number($source, $bits, $signed)
+            V::$from_unsigned(low, 0).extended() != at_first
+                || V::$from_signed(low.cast_signed(), 0).extended() != at_first
                 || V::$from_unsigned(low, last).extended() != at_last
                 || V::$from_signed(low.cast_signed(), last).extended() != at_last
         } else {

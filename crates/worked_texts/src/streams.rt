@@ -73,6 +73,44 @@ impl Write for Drip {
     }
 }
 
+/// A stream whose first call is a fault of the kind. From then on it is the other stream.
+#[derive(Drop)]
+struct Stumbling {
+    fault: Option<ErrorKind>,
+    stream: Drip,
+}
+
+impl Stumbling {
+    fn new(bytes: [u8; 16], kind: ErrorKind) -> Self {
+        Stumbling {
+            fault: Some(kind),
+            stream: Drip::new(bytes, 16, None),
+        }
+    }
+}
+
+impl Read for Stumbling {
+    fn read(&mut self, buf: &mut [u8]) -> io::Result<usize> {
+        match self.fault.take() {
+            Some(kind) => Err(io::Error::from(kind)),
+            None => self.stream.read(buf),
+        }
+    }
+}
+
+impl Write for Stumbling {
+    fn write(&mut self, buf: &[u8]) -> io::Result<usize> {
+        match self.fault.take() {
+            Some(kind) => Err(io::Error::from(kind)),
+            None => self.stream.write(buf),
+        }
+    }
+
+    fn flush(&mut self) -> io::Result<()> {
+        Ok(())
+    }
+}
+
 /// How many calls are made for so many bytes: the one that finds no further byte is the last.
 fn calls(lasts: usize, count: usize) -> usize {
     if lasts == count {
@@ -159,4 +197,65 @@ fn values_a_byte_at_a_time(rt: HostRuntime) {
             0xEE, 0xFF,
         ],
     );
+}
+
+/// One value read from a stream of which one call has failed by then.
+fn reads<V: FixedWidth>(
+    rt: &impl Abort,
+    reader: &mut Watched<Stumbling>,
+    wanted: Result<V, ErrorKind>,
+)
+    requires { V.valid }
+{
+    let read = V::deserialize_reader(reader).map_err(|error| error.kind());
+    same(rt, read, wanted);
+    same(rt, (reader.failed(), reader.failures()), (true, 1));
+}
+
+/// One value written to a stream of which one call has failed by then.
+fn writes<V: FixedWidth>(
+    rt: &impl Abort,
+    writer: &mut Watched<Stumbling>,
+    value: V,
+    wanted: Result<(), ErrorKind>,
+) {
+    let written = value.serialize(writer).map_err(|error| error.kind());
+    same(rt, written, wanted);
+    same(rt, (writer.failed(), writer.failures()), (true, 1));
+}
+
+/// After a fault the same stream is read and written as if there had been none. The flag and the count stay.
+fn goes_on_after_a_fault<V: FixedWidth>(rt: &impl Abort, value: V)
+    requires { V.valid }
+{
+    let mut bytes = [0; 16];
+    let count = value.to_borsh_bytes(&mut bytes);
+    for kind in [ErrorKind::Other, ErrorKind::Interrupted] {
+        let mut reader = Watched::new(Stumbling::new(bytes, kind));
+        reads::<V>(rt, &mut reader, Err(kind));
+        reads(rt, &mut reader, Ok(value));
+        same(rt, reader.into_inner().stream.calls, count);
+        let mut writer = Watched::new(Stumbling::new([0x7E; 16], kind));
+        writes(rt, &mut writer, value, Err(kind));
+        writes(rt, &mut writer, value, Ok(()));
+        let taken = writer.into_inner().stream;
+        same(rt, taken.calls, count);
+        same(rt, taken.bytes.get(..count), bytes.get(..count));
+    }
+}
+
+#[test]
+fn an_old_fault_is_no_new_one(rt: HostRuntime) {
+    goes_on_after_a_fault(&rt, u9::new(300));
+    goes_on_after_a_fault(&rt, i40::new(-1));
+}
+
+#[test]
+fn bytes_that_are_refused_are_read_and_no_more(rt: HostRuntime) {
+    let bytes: [u8; 3] = [0x2C, 0x03, 0x07];
+    let mut reader = Watched::new(bytes.as_slice());
+    let read = u9::deserialize_reader(&mut reader).map_err(|error| error.kind());
+    same(&rt, read, Err(ErrorKind::InvalidData));
+    same(&rt, reader.failed(), false);
+    same(&rt, reader.into_inner(), [0x07].as_slice());
 }

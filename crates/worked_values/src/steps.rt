@@ -2,7 +2,8 @@
 
 use crate::same::same;
 use arbitrary_int::prelude::*;
-use arbitrary_int::{Step, Stop, TwoOp, Why, run, well_formed};
+use arbitrary_int::{ByOp, OneOp, Step, Stop, TwoOp, Why, run, well_formed};
+use std::process::Abort;
 
 /// The step of an operation on two registers.
 pub fn two(op: TwoOp, to: usize, left: usize, right: usize) -> Step {
@@ -11,6 +12,25 @@ pub fn two(op: TwoOp, to: usize, left: usize, right: usize) -> Step {
         to,
         left,
         right,
+    }
+}
+
+/// The complement of a register.
+fn complement(to: usize, src: usize) -> Step {
+    Step::One {
+        op: OneOp::Not,
+        to,
+        src,
+    }
+}
+
+/// A register shifted left by 3.
+fn shifted(to: usize, src: usize) -> Step {
+    Step::By {
+        op: ByOp::WrappingShl,
+        to,
+        src,
+        amount: 3,
     }
 }
 
@@ -64,4 +84,52 @@ fn well_formed_knows_the_registers(rt: HostRuntime) {
     let first = [two(TwoOp::WrappingAdd, 0, 0, 0)];
     assert!(rt; well_formed(&first, 1));
     same(&rt, well_formed(&first, 0), false);
+}
+
+#[test]
+fn a_register_whose_number_is_the_count_is_none_of_them(rt: HostRuntime) {
+    for step in [
+        two(TwoOp::WrappingSub, 2, 0, 1),
+        two(TwoOp::WrappingSub, 0, 2, 1),
+        two(TwoOp::WrappingSub, 0, 1, 2),
+        complement(2, 0),
+        complement(0, 2),
+        shifted(2, 0),
+        shifted(0, 2),
+    ] {
+        let steps = [step];
+        same(&rt, well_formed(&steps, 3), true);
+        same(&rt, well_formed(&steps, 2), false);
+    }
+}
+
+/// Three numbers as registers.
+fn registers_of(numbers: [u8; 3]) -> [u7; 3] {
+    [
+        u7::masked_new(numbers[0]),
+        u7::masked_new(numbers[1]),
+        u7::masked_new(numbers[2]),
+    ]
+}
+
+/// What one step leaves of the registers 100, 50 and 7.
+fn leaves(rt: &impl Abort, step: Step, wanted: [u8; 3]) {
+    let steps = [step];
+    let mut registers = registers_of([100, 50, 7]);
+    assert!(rt; well_formed(&steps, registers.len()));
+    same(rt, run(&steps, &mut registers), Ok(()));
+    same(rt, registers, registers_of(wanted));
+}
+
+#[test]
+fn the_sources_are_read_before_the_target_is_written(rt: HostRuntime) {
+    leaves(&rt, two(TwoOp::WrappingSub, 0, 0, 1), [50, 50, 7]);
+    leaves(&rt, two(TwoOp::WrappingSub, 0, 1, 0), [78, 50, 7]);
+    leaves(&rt, two(TwoOp::WrappingSub, 0, 0, 0), [0, 50, 7]);
+    leaves(&rt, two(TwoOp::WrappingSub, 2, 1, 2), [100, 50, 43]);
+    leaves(&rt, two(TwoOp::WrappingSub, 2, 2, 1), [100, 50, 85]);
+    leaves(&rt, complement(0, 0), [27, 50, 7]);
+    leaves(&rt, complement(2, 2), [100, 50, 120]);
+    leaves(&rt, shifted(0, 0), [32, 50, 7]);
+    leaves(&rt, shifted(2, 2), [100, 50, 56]);
 }
