@@ -1,7 +1,8 @@
 #!/usr/bin/env bash
 # Checks the short names, the examples of the documents, the count of the definitions and bitrun.sh, then proves, tests and runs
 # everything from nothing, and tries each edit that must be refused. Beside that it runs the program with each growth of memory refused
-# in turn. Last it runs the program on damaged and on random inputs, as both compilers have just built it.
+# in turn. Then it runs the program on damaged and on random inputs, as both compilers have just built it, and tries further wrong bodies.
+# Before the last line it prints what all that took.
 set -euo pipefail
 unset CDPATH
 cd -- "$(dirname -- "$0")"
@@ -11,13 +12,25 @@ python3 tools/believed.py
 python3 tools/believed_apart.py
 python3 tools/bitrun_cases.py
 log="$(mktemp)"
+spent="$(mktemp)"
 nice python3 tools/refused_memory.py &
 memory=$!
-trap 'kill "$memory" 2> /dev/null || true; rm -f "$log"' EXIT
+trap 'kill "$memory" 2> /dev/null || true; rm -f "$log" "$spent"' EXIT
 rt ci | tee "$log"
 wait "$memory"
 programs=(crates/bitrun/out/bitrun crates/bitrun/out/bitrun.by-rattle)
 python3 tools/endings.py "${programs[@]}"
 python3 tools/fuzz.py "${programs[@]}"
+# the conditions of the calls at each type, the lines that docs/PROVING.md calls refused, and promises of dear crates
+python3 tools/wrong_bodies.py core_edges edges proving \
+    arbitrary_calls/{counts_the_ones_of_the_storage,right_shift_fills_with_zeros} \
+    arbitrary_core/{order_is_that_of_the_bits,text_is_that_of_the_bits,valid_width_is_constant} \
+    step_text/{reports_the_largest_bad_line,runs_the_steps_before_a_bad_line,status_is_always_2} \
+    step_service/{answers_read_always,answers_write_always,reads_nothing,stops_at_a_short_read,writes_other_bytes_after_a_fault}
+python3 tools/wrong_bodies.py --some 2 arbitrary_base arbitrary_traits
+# of this shell and of what it waited for, each as 1m2.345s
+times > "$spent"
+awk -F '[ms ]+' -v wall="$SECONDS" '{ sum += 60 * ($1 + $3) + $2 + $4 }
+    END { printf "processor seconds %.0f, wall %.0f min\n", sum, wall / 60 }' "$spent"
 # how `rt ci` ended: 'N passed, 0 failed'
 tail -n 1 "$log"

@@ -112,13 +112,13 @@ def main():
         for functions in shown(page):
             if functions not in code:
                 wrong.append(f'{page}: not in {PROVING / "src"}:\n{functions}')
-    edits = [line for file in (PROVING / 'must-fail').iterdir() for line in re.findall('^new: (.*)$', file.read_text(), re.M)]
+    edits = [line for file in PROVING.glob('*/*.edit') for line in re.findall('^new: (.*)$', file.read_text(), re.M)]
     for line in refused('docs/PROVING.md'):
         if line not in edits:
-            wrong.append(f'docs/PROVING.md: no edit in {PROVING / "must-fail"} has the refused line {line}')
+            wrong.append(f'docs/PROVING.md: no edit of {PROVING} has the refused line {line}')
     for line in edits:
         if line not in refused('docs/PROVING.md'):
-            wrong.append(f'{PROVING / "must-fail"}: not a line that docs/PROVING.md calls refused: {line}')
+            wrong.append(f'an edit of {PROVING}: not a line that docs/PROVING.md calls refused: {line}')
     print('\n'.join(wrong) or 'examples of the documents: as they should be')
     return 1 if wrong else 0
 

@@ -1,0 +1,179 @@
+#!/usr/bin/env python3
+"""wrong_bodies.py [--some N] [CRATE | CRATE/EDIT ..]
+
+Sees that the prover refuses the wrong bodies in `wrong-bodies` of these crates, or these of a crate, or all; with `--some`, N of them, which
+the commit chooses. It takes the crates below as `rt check` or `rt ci` left them proved last.
+
+A file there is an edit as in `must-fail`, under a line that names the function which it makes wrong:
+
+    function: shifts::shl
+    file: src/shifts.rt
+    old: narrow(x.shl_by(amount), bits)
+    new: narrow(x.shl_by(amount), T::WIDTH)
+
+One check takes as many wrong bodies of a crate as there are functions and places of their own for: a function is proved from the contracts of
+what it calls, and not from their bodies. Where a callee is wrong too, the prover says that alone, and the caller waits for the next check.
+"""
+import argparse
+import hashlib
+import re
+import shutil
+import subprocess
+import sys
+import tempfile
+from pathlib import Path
+
+from program import ROOT
+
+KIT = Path(subprocess.check_output(['rt', 'doc'], text=True)).parent
+# The folders of a crate that a check reads.
+PARTS = ['src', 'specs', 'proofs']
+# The prover's words for a function that it refuses, and for one that hangs on another: on what it calls, or on what now calls it.
+REFUSED = re.compile(r'not proved|no proof')
+HANGS = re.compile(r'it calls|it passes|a call of|a cycle of calls')
+# Its words for a fault in a function's proof, and for one that names what a wrong body took away, which tells nothing of the contract.
+FAULT = re.compile(r'\S*\bproofs/(\S+)/\w+\.antt\S* error: (.*)')
+GOAL = re.compile(r'note: \S+ (it is not proved that .*)')
+UNNAMED = re.compile(r'is not in scope|has no field|has no `|was not admitted')
+# Its words for a value that is used after it went, which comes before any clause.
+LENT = re.compile(r'the borrow checker')
+# Its words where an edit doesn't read.
+UNREAD = re.compile(r'^\S*\bsrc/\S+ error: .*(?:is not in scope|has no field|is no name).*', re.M)
+
+
+class WrongBody:
+    """One edit. Each change is where in its file a text begins and ends, and the text in its place."""
+
+    def __init__(self, path):
+        self.path, self.changes = path, []
+        for line in path.read_text().splitlines():
+            word, text = line.split(': ', 1)
+            if word == 'function':
+                self.function = text
+            elif word == 'file':
+                self.file = text
+                whole = (path.parent.parent / text).read_text()
+            elif word == 'old':
+                old = text
+            elif word == 'new' and whole.count(old) == 1:
+                self.changes.append((whole.index(old), whole.index(old) + len(old), text))
+            else:
+                sys.exit(f'{path}: where in {self.file} is {old!r}?')
+        self.start = min(start for start, _, _ in self.changes)
+        self.end = max(end for _, end, _ in self.changes)
+
+    def goes_with(self, other):
+        """Whether one check can take both: they are of two functions, and neither changes anything amid the other's changes."""
+        apart = self.file != other.file or self.end <= other.start or other.end <= self.start
+        return self.function != other.function and apart
+
+
+def tried(crate, bodies, uses):
+    """Tries these wrong bodies of a crate. Returns what to say of those that are not refused."""
+    waiting, bad, together = bodies, [], True
+    with tempfile.TemporaryDirectory(prefix='wrong-bodies-') as room:
+        while waiting:
+            said = checked(crate, Path(room), waiting if together else waiting[:1], uses)
+            judged = [it for it in said if len(said) == 1 or not HANGS.search(said[it][0])]
+            # where each hangs on another, the first is tried alone
+            together = bool(judged)
+            waiting = [it for it in waiting if it not in judged]
+            for it in judged:
+                words, faults = said[it]
+                if HANGS.search(words) or not REFUSED.match(words):
+                    bad.append(f'{it.path}: NOT REFUSED: {it.function} is {words}')
+                elif not LENT.search(words) and all(map(UNNAMED.search, faults)):
+                    bad.append(f'{it.path}: no clause was tried: {faults}')
+                else:
+                    print(f'{crate}: {it.path.stem}: refused', flush=True)
+    return bad
+
+
+def checked(crate, room, bodies, uses):
+    """Checks as many of these wrong bodies as go in one check. Returns for each what the prover says of its function, and what it finds
+    wrong there."""
+    folder = room / 'crate'
+    shutil.rmtree(folder, ignore_errors=True)
+    for part in PARTS:
+        if (ROOT / 'crates' / crate / part).is_dir():
+            shutil.copytree(ROOT / 'crates' / crate / part, folder / part)
+    taken = []
+    for it in bodies:
+        if all(map(it.goes_with, taken)):
+            taken.append(it)
+    # from the end, so that the places before stay as they are
+    for start, end, new, file in sorted(((*change, it.file) for it in taken for change in it.changes), reverse=True):
+        text = (folder / file).read_text()
+        (folder / file).write_text(text[:start] + new + text[end:])
+    words = command(crate, room, taken, uses)
+    said = subprocess.run(words, cwd=folder, stdout=subprocess.PIPE, stderr=subprocess.STDOUT, text=True).stdout
+    if UNREAD.search(said) or not re.search(r'^only=', said, re.M):
+        sys.exit(f'{crate}: the check came to no end with {[it.path.stem for it in taken]}:\n{said}')
+    found, faults, goals = {}, {}, []
+    for line in said.splitlines():
+        if fault := FAULT.match(line):
+            faults.setdefault(fault[1].replace('/', '::'), []).append(fault[2])
+        elif goal := GOAL.match(line):
+            goals.append(goal[1])
+        elif function := re.match(rf'fn {crate}::(\S+): (.*)', line):
+            found[function[1]], goals = (function[2], [*faults.get(function[1], []), *goals]), []
+    return {it: found.get(it.function, ('unknown', [])) for it in taken}
+
+
+def command(crate, room, bodies, uses):
+    """A check of the functions of these wrong bodies, in a copy of the crate."""
+    built = {it: ROOT / 'crates' / it / 'out/rlib' for it in below(crate, uses)}
+    externs = [(it, built.get(it, KIT / 'rlibs')) for it in ['std', *uses[crate]]]
+    return [
+        KIT / 'bin/rattle', 'check', '--crate-name', crate, 'src/lib.rt',
+        *(word for name, folder in externs for word in ('--extern', f'{name}={folder / name}.rlib')),
+        *(word for folder in [KIT / 'rlibs', *built.values()] for word in ('-L', f'dependency={folder}')),
+        '--antt-project', KIT / 'rattle/logic/antt-project.json', '--logic-built', KIT / 'logic_built',
+        '--links', f'{crate}=', '--incremental', room / 'kept', '--jobs', '1',
+        *(word for it in bodies for word in ('--only', it.function)),
+    ]
+
+
+def libraries():
+    """The libraries that each crate names, by `crates.txt`."""
+    lines = (ROOT / 'crates.txt').read_text().splitlines()
+    named = (line.partition(':') for line in lines if not line.startswith('#'))
+    return {name: uses.split() for name, _, uses in named}
+
+
+def below(crate, uses):
+    """The crates below this one."""
+    return {it for name in uses[crate] if name in uses for it in [name, *below(name, uses)]}
+
+
+def files(named):
+    """The edits of a crate, or the one that is named behind it."""
+    crate, _, edit = named.partition('/')
+    return sorted((ROOT / 'crates' / crate / 'wrong-bodies').glob(f'{edit or "*"}.edit')) or sys.exit(f'{named}: there is no wrong body')
+
+
+def chosen(bodies, count):
+    """So many of these wrong bodies, by the commit: which come first when each is hashed behind it."""
+    commit = subprocess.check_output(['git', 'rev-parse', 'HEAD'], cwd=ROOT)
+    return sorted(bodies, key=lambda it: hashlib.sha256(commit + it.path.stem.encode()).digest())[:count]
+
+
+def main():
+    asked = argparse.ArgumentParser()
+    asked.add_argument('--some', metavar='N', type=int)
+    asked.add_argument('named', metavar='CRATE | CRATE/EDIT', nargs='*')
+    asked = asked.parse_args()
+    uses = libraries()
+    crates = [it for it in uses if (ROOT / 'crates' / it / 'wrong-bodies').is_dir()]
+    bodies = [WrongBody(it) for named in asked.named or crates for it in files(named)]
+    if asked.some is not None:
+        bodies = chosen(bodies, asked.some)
+    bad = []
+    for crate in uses:
+        bad += tried(crate, [it for it in bodies if it.path.parent.parent.name == crate], uses)
+    print(*bad, f'{len(bodies) - len(bad)} wrong bodies refused, {len(bad)} not', sep='\n')
+    return 1 if bad else 0
+
+
+if __name__ == '__main__':
+    sys.exit(main())
