@@ -7,7 +7,8 @@ ghost use Rattle.arbitrary_core.specs.Bounds.{bounds, low_fits, high_fits, satur
 
 use crate::signed::Int;
 use crate::widths::HasWidth;
-use arbitrary_base::ends::{highest, lowest, zero};
+use arbitrary_base::ends::{highest, lowest};
+use arbitrary_base::narrowing::from_low_bits;
 use arbitrary_base::saturating;
 use arbitrary_base::storage::{BuiltinInteger, PatternOf, SignedStorage};
 use num_traits::{Bounded, SaturatingAdd, SaturatingSub};
@@ -73,7 +74,8 @@ where
 {
     ghost is_default = { λ x. x ≡ pos 0 };
 
+    #[tactic(auto, using(arbitrary_base::proofs::Sum::zeros))]
     fn default() -> Int<T, BITS> {
-        Int::<T, BITS>::new(zero())
+        Int::<T, BITS>::new(from_low_bits(0, BITS))
     }
 }

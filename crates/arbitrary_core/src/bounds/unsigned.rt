@@ -7,7 +7,8 @@ ghost use Rattle.arbitrary_core.specs.Bounds.{bounds, low_fits, high_fits, satur
 
 use crate::unsigned::UInt;
 use crate::widths::HasWidth;
-use arbitrary_base::ends::{highest, lowest, zero};
+use arbitrary_base::ends::{highest, lowest};
+use arbitrary_base::narrowing::from_low_bits;
 use arbitrary_base::saturating;
 use arbitrary_base::storage::UnsignedStorage;
 use num_traits::{Bounded, SaturatingAdd, SaturatingSub};
@@ -59,7 +60,8 @@ impl<T: UnsignedStorage + HasWidth<BITS>, const BITS: usize> SaturatingSub for U
 impl<T: UnsignedStorage + HasWidth<BITS>, const BITS: usize> Default for UInt<T, BITS> {
     ghost is_default = { λ x. x ≡ pos 0 };
 
+    #[tactic(auto, using(arbitrary_base::proofs::Sum::zeros))]
     fn default() -> UInt<T, BITS> {
-        UInt::<T, BITS>::new(zero())
+        UInt::<T, BITS>::new(from_low_bits(0, BITS))
     }
 }
