@@ -2,19 +2,21 @@
 """short_names.py [--write]
 
 Tells whether the short names `u1` to `u127` and `i1` to `i127` each stand for the type over the smallest primitive
-that has room, and whether `arbitrary_int` gives all of them at its root and in its prelude. With --write it writes
-the two files that define them. 8, 16, 32 and 64 bits have no short name: they are primitives already.
+that has room, and whether `arbitrary_int` gives all of them at its root and in its prelude; and whether each width from 1
+to 128 has its impl of `HasWidth`. With --write it writes the two files of names and the two of impls. 8, 16, 32 and
+64 bits have no short name: they are primitives already.
 """
 import sys
 from pathlib import Path
 
 CRATES = Path(__file__).resolve().parent.parent / 'crates'
-WIDTHS = [bits for bits in range(1, 128) if bits not in (8, 16, 32, 64)]
+STORAGES = (8, 16, 32, 64, 128)
+WIDTHS = [bits for bits in range(1, 128) if bits not in STORAGES]
 
 
 def storage(bits):
     """How many bits the smallest primitive with room for so many has."""
-    return next(width for width in (8, 16, 32, 64, 128) if bits <= width)
+    return next(width for width in STORAGES if bits <= width)
 
 
 def definitions(letter, name, module):
@@ -30,16 +32,40 @@ def definitions(letter, name, module):
     return '\n'.join(lines) + '\n'
 
 
+def room(first, last):
+    """The file that says which storages have room for the widths from the first to the last."""
+    traits = [f'AtLeast{width}' for width in STORAGES if storage(first) <= width <= storage(last)]
+    lines = [
+        f'//! The widths from {first} to {last}: each storage that has as many bits has room for them.',
+        '',
+        'ghost use Rattle.std.proofs.Common.{lit≤, le_trans};',
+        '',
+        'use crate::widths::HasWidth;',
+        f'use crate::widths::room::{traits[0] if len(traits) == 1 else "{" + ", ".join(traits) + "}"};',
+    ]
+    for bits in range(first, last + 1):
+        law = f'T.room_{storage(bits)}_law'
+        lines += [
+            '',
+            f'impl<T: AtLeast{storage(bits)}> HasWidth<{bits}> for T {{',
+            f'    ghost valid_law = {{ (lit≤ tt, {law if bits in STORAGES else f"le_trans (lit≤ tt) {law}"}) }};',
+            '}',
+        ]
+    return '\n'.join(lines) + '\n'
+
+
 def main():
     wrong = []
     signs = [('u', 'UInt', 'unsigned'), ('i', 'Int', 'signed')]
-    for letter, name, module in signs:
-        file = CRATES / f'arbitrary_core/src/aliases/{module}.rt'
-        text = definitions(letter, name, module)
+    core = CRATES / 'arbitrary_core/src'
+    texts = {core / f'aliases/{module}.rt': definitions(letter, name, module) for letter, name, module in signs}
+    texts[core / 'widths/to_64.rt'] = room(1, 64)
+    texts[core / 'widths/to_128.rt'] = room(65, 128)
+    for file, text in texts.items():
         if '--write' in sys.argv[1:]:
             file.write_text(text)
         elif file.read_text() != text:
-            wrong.append(f'{file}: not the names that tools/short_names.py writes')
+            wrong.append(f'{file}: not what tools/short_names.py writes')
     for file in [CRATES / 'arbitrary_int/src/lib.rt', CRATES / 'arbitrary_int/src/prelude.rt']:
         lines = file.read_text().splitlines()
         for letter, _, module in signs:

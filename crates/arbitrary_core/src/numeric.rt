@@ -1,8 +1,8 @@
 //! Both types under the traits of `num_traits`: `WrappingAdd`, `WrappingSub`, and the parents that these ask.
 //!
-//! There a value's integer is its number, and what is left of an integer is `wrap`. The others of that crate
-//! ask for a value that no width needs to have, as the least number of `Bounded`: `arbitrary_calls` has
-//! calls of the same names.
+//! There a value's integer is its number, and what is left of an integer is `wrap`. These stand at every width,
+//! also one that is not shown to be valid; those that need a value, as the least number of `Bounded`, stand
+//! in `bounds`.
 
 pub mod laws;
 pub mod signed;

@@ -1,0 +1,81 @@
+//! `Int` under the traits of `num_traits` that ask for its ends, and under std's `Default`.
+
+ghost use Rattle.std.specs.Prelude.{◌≡◌, ◌+ℤ◌, ◌-ℤ◌, pos};
+ghost use Rattle.arbitrary_base.specs.Range.{lo, hi};
+ghost use Rattle.arbitrary_base.specs.Saturation.{clamp};
+ghost use Rattle.arbitrary_core.specs.Bounds.{bounds, low_fits, high_fits, saturates};
+
+use crate::signed::Int;
+use crate::widths::HasWidth;
+use arbitrary_base::ends::{highest, lowest};
+use arbitrary_base::narrowing::from_low_bits;
+use arbitrary_base::saturating;
+use arbitrary_base::storage::{BuiltinInteger, PatternOf, SignedStorage};
+use num_traits::{Bounded, SaturatingAdd, SaturatingSub};
+
+impl<T: BuiltinInteger + SignedStorage + HasWidth<BITS>, const BITS: usize> Bounded for Int<T, BITS>
+where
+    T::Unsigned: PatternOf<T>,
+{
+    ghost low = { lo T.SIGNED BITS };
+
+    ghost high = { hi T.SIGNED BITS };
+
+    ghost lowest = { lo T.SIGNED BITS };
+
+    ghost highest = { hi T.SIGNED BITS };
+
+    fn min_value() -> Int<T, BITS> {
+        Int::<T, BITS>::new(lowest(BITS))
+    }
+
+    fn max_value() -> Int<T, BITS> {
+        Int::<T, BITS>::new(highest(BITS))
+    }
+
+    ghost bounds_law = { λ x _. bounds T.SIGNED BITS T.WIDTH x T.valid_law };
+
+    ghost low_fits_law = { λ _. low_fits T.SIGNED BITS T.WIDTH T.valid_law };
+
+    ghost high_fits_law = { λ _. high_fits T.SIGNED BITS T.WIDTH T.valid_law };
+}
+
+impl<T: BuiltinInteger + SignedStorage + HasWidth<BITS>, const BITS: usize> SaturatingAdd
+    for Int<T, BITS>
+where
+    T::Unsigned: PatternOf<T>,
+{
+    ghost saturating_add_gives = { λ a b r. r ≡ clamp T.SIGNED BITS (a +ℤ b) };
+
+    fn saturating_add(&self, v: &Int<T, BITS>) -> Int<T, BITS> {
+        Int::<T, BITS>::new(saturating::add(self.value(), v.value(), BITS))
+    }
+
+    ghost saturating_add_law = { λ a b r h. saturates T.SIGNED BITS T.WIDTH (a +ℤ b) r T.valid_law h };
+}
+
+impl<T: BuiltinInteger + SignedStorage + HasWidth<BITS>, const BITS: usize> SaturatingSub
+    for Int<T, BITS>
+where
+    T::Unsigned: PatternOf<T>,
+{
+    ghost saturating_sub_gives = { λ a b r. r ≡ clamp T.SIGNED BITS (a -ℤ b) };
+
+    fn saturating_sub(&self, v: &Int<T, BITS>) -> Int<T, BITS> {
+        Int::<T, BITS>::new(saturating::sub(self.value(), v.value(), BITS))
+    }
+
+    ghost saturating_sub_law = { λ a b r h. saturates T.SIGNED BITS T.WIDTH (a -ℤ b) r T.valid_law h };
+}
+
+impl<T: BuiltinInteger + SignedStorage + HasWidth<BITS>, const BITS: usize> Default for Int<T, BITS>
+where
+    T::Unsigned: PatternOf<T>,
+{
+    ghost is_default = { λ x. x ≡ pos 0 };
+
+    #[tactic(auto, using(arbitrary_base::proofs::Sum::zeros))]
+    fn default() -> Int<T, BITS> {
+        Int::<T, BITS>::new(from_low_bits(0, BITS))
+    }
+}

@@ -1,0 +1,67 @@
+//! `UInt` under the traits of `num_traits` that ask for its ends, and under std's `Default`.
+
+ghost use Rattle.std.specs.Prelude.{◌≡◌, ◌+ℤ◌, ◌-ℤ◌, pos};
+ghost use Rattle.arbitrary_base.specs.Range.{lo, hi};
+ghost use Rattle.arbitrary_base.specs.Saturation.{clamp};
+ghost use Rattle.arbitrary_core.specs.Bounds.{bounds, low_fits, high_fits, saturates};
+
+use crate::unsigned::UInt;
+use crate::widths::HasWidth;
+use arbitrary_base::ends::{highest, lowest};
+use arbitrary_base::narrowing::from_low_bits;
+use arbitrary_base::saturating;
+use arbitrary_base::storage::UnsignedStorage;
+use num_traits::{Bounded, SaturatingAdd, SaturatingSub};
+
+impl<T: UnsignedStorage + HasWidth<BITS>, const BITS: usize> Bounded for UInt<T, BITS> {
+    ghost low = { lo T.SIGNED BITS };
+
+    ghost high = { hi T.SIGNED BITS };
+
+    ghost lowest = { lo T.SIGNED BITS };
+
+    ghost highest = { hi T.SIGNED BITS };
+
+    fn min_value() -> UInt<T, BITS> {
+        UInt::<T, BITS>::new(lowest(BITS))
+    }
+
+    fn max_value() -> UInt<T, BITS> {
+        UInt::<T, BITS>::new(highest(BITS))
+    }
+
+    ghost bounds_law = { λ x _. bounds T.SIGNED BITS T.WIDTH x T.valid_law };
+
+    ghost low_fits_law = { λ _. low_fits T.SIGNED BITS T.WIDTH T.valid_law };
+
+    ghost high_fits_law = { λ _. high_fits T.SIGNED BITS T.WIDTH T.valid_law };
+}
+
+impl<T: UnsignedStorage + HasWidth<BITS>, const BITS: usize> SaturatingAdd for UInt<T, BITS> {
+    ghost saturating_add_gives = { λ a b r. r ≡ clamp T.SIGNED BITS (a +ℤ b) };
+
+    fn saturating_add(&self, v: &UInt<T, BITS>) -> UInt<T, BITS> {
+        UInt::<T, BITS>::new(saturating::add(self.value(), v.value(), BITS))
+    }
+
+    ghost saturating_add_law = { λ a b r h. saturates T.SIGNED BITS T.WIDTH (a +ℤ b) r T.valid_law h };
+}
+
+impl<T: UnsignedStorage + HasWidth<BITS>, const BITS: usize> SaturatingSub for UInt<T, BITS> {
+    ghost saturating_sub_gives = { λ a b r. r ≡ clamp T.SIGNED BITS (a -ℤ b) };
+
+    fn saturating_sub(&self, v: &UInt<T, BITS>) -> UInt<T, BITS> {
+        UInt::<T, BITS>::new(saturating::sub(self.value(), v.value(), BITS))
+    }
+
+    ghost saturating_sub_law = { λ a b r h. saturates T.SIGNED BITS T.WIDTH (a -ℤ b) r T.valid_law h };
+}
+
+impl<T: UnsignedStorage + HasWidth<BITS>, const BITS: usize> Default for UInt<T, BITS> {
+    ghost is_default = { λ x. x ≡ pos 0 };
+
+    #[tactic(auto, using(arbitrary_base::proofs::Sum::zeros))]
+    fn default() -> UInt<T, BITS> {
+        UInt::<T, BITS>::new(from_low_bits(0, BITS))
+    }
+}

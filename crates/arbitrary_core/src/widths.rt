@@ -1,0 +1,15 @@
+//! The widths that a storage has room for, shown by a trait: so a function with no argument, as std's `default`, can make
+//! a value of every type that has one.
+
+ghost use Rattle.arbitrary_base.specs.Range.{IsValidWidth};
+
+use arbitrary_base::storage::Storage;
+
+pub mod room;
+pub mod to_128;
+pub mod to_64;
+
+/// The storage has room for `B` bits: each does for every `B` from 1 to its own width, and for no other.
+pub trait HasWidth<const B: usize>: Storage {
+    ghost valid_law: { IsValidWidth B Self.WIDTH };
+}
