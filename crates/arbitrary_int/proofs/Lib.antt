@@ -7,6 +7,7 @@ pub mod Rows
 pub mod RangeSteps
 pub mod ByteLaws
 pub mod Everyday
+pub mod Conversions
 pub use Rattle.arbitrary_base.proofs.Narrow
 pub use Rattle.arbitrary_base.proofs.Wrap
 pub use Rattle.arbitrary_base.proofs.BitNumber
