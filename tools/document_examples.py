@@ -16,7 +16,7 @@ ROOT = Path(__file__).resolve().parent.parent
 USES = {
     'call_examples/src/calls.rt': [
         'use crate::same::same;', 'use arbitrary_int::prelude::*;',
-        'use arbitrary_int::{Watched, range_inclusive, try_product, try_sum};', 'use std::io::sink;', 'use std::test::Fail;',
+        'use std::io::sink;', 'use std::test::Fail;',
     ],
     'bit_fields/src/worked/calls.rt': ['use crate::{Record, disjoint};', 'use arbitrary_int::prelude::*;'],
 }

@@ -8,6 +8,7 @@ pub mod RangeSteps
 pub mod ByteLaws
 pub mod Everyday
 pub mod BitVector
+pub mod Conversions
 pub use Rattle.arbitrary_base.proofs.Narrow
 pub use Rattle.arbitrary_base.proofs.Wrap
 pub use Rattle.arbitrary_base.proofs.BitNumber

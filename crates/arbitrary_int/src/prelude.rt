@@ -1,11 +1,21 @@
-//! What most programs use: the types, their short names, and the traits that give them their calls.
+//! What most programs use: the types, their short names, the traits that give them their calls, and what sums,
+//! ranges and streams take. Each row of docs/CALLS.md compiles with this one import.
 
 pub use crate::borsh::BorshDeserialize;
 pub use crate::borsh::BorshSerialize;
 pub use crate::byte_orders::ByteOrders;
+pub use crate::ranges::range_inclusive;
 pub use crate::stepping::Stepping;
+pub use crate::totals::try_product;
+pub use crate::totals::try_sum;
 pub use arbitrary_base::error::TryNewError;
 pub use arbitrary_base::storage::BuiltinInteger;
+pub use arbitrary_base::storage::PatternOf;
+pub use arbitrary_base::storage::SignedOf;
+pub use arbitrary_base::storage::SignedStorage;
+pub use arbitrary_base::storage::Storage;
+pub use arbitrary_base::storage::UnsignedStorage;
+pub use arbitrary_base::watched::Watched;
 pub use arbitrary_calls::extraction::Extraction;
 pub use arbitrary_calls::fixed_width::FixedWidth;
 pub use arbitrary_core::aliases::signed::i1;
@@ -259,4 +269,6 @@ pub use arbitrary_core::unsigned::UInt;
 pub use arbitrary_traits::integer::Integer;
 pub use arbitrary_traits::integer::SignedInteger;
 pub use arbitrary_traits::integer::UnsignedInteger;
+pub use arbitrary_traits::mates::SignedMate;
+pub use arbitrary_traits::mates::UnsignedMate;
 pub use arbitrary_traits::shift_amount::ShiftAmount;

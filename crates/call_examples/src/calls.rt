@@ -2,7 +2,6 @@
 
 use crate::same::same;
 use arbitrary_int::prelude::*;
-use arbitrary_int::{Watched, range_inclusive, try_product, try_sum};
 use std::io::sink;
 use std::test::Fail;
 

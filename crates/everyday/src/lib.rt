@@ -5,5 +5,7 @@
 pub mod arithmetic;
 pub mod bits;
 pub mod conversions;
+pub mod counters;
 pub mod generic;
+pub mod indices;
 pub mod structs;

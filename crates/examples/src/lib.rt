@@ -1,9 +1,12 @@
-//! How the library is used: a device's register, a packet header, a frame of bytes, a sensor, a log, lists of
-//! steps at one width and at two, code for every width, fields in a record, and numbers as text and as keys.
+//! How the library is used: a device's register, a packet header, a frame of bytes, a sensor, a filter, a log, the
+//! decoder of a processor, lists of steps at one width and at two, code for every width, fields in a record, and
+//! numbers as text and as keys.
 //! The program `tour` prints what each gives.
 #![tactic(auto)]
 
 pub mod can;
+pub mod decoder;
+pub mod filter;
 pub mod first;
 pub mod frame;
 pub mod generic;

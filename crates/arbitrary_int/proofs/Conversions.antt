@@ -1,0 +1,41 @@
+-- For callers: a conversion before a sum, a difference or a product, of which the low bits are what counts. To name: `#[tactic(auto, using(arbitrary_int::proofs::Conversions::conversions))]`.
+use Rattle.std.specs.Prelude.{◌≡◌, ℕ, ℤ, Bool, false, pos, ◌+ℤ◌, ◌-ℤ◌, ◌*ℤ◌, ◌+◌, ◌%◌, ◌^◌, ◌≤◌}
+use Rattle.std.proofs.Common.{arith, ap, sym, subst, ◌∙◌}
+use Rattle.std.proofs.lemmas.Int.{ints}
+use Rattle.arbitrary_base.specs.Residue.{Congruent, wrap}
+use Rattle.arbitrary_base.proofs.Congruence.{Congruent-refl, Congruent-add, Congruent-sub, Congruent-mul, Congruent-narrower}
+use Rattle.arbitrary_base.proofs.Primitive.{wrap-pos}
+use Rattle.arbitrary_base.proofs.Wrap.{wrap-congruent, wrap-same}
+
+module _ (s t : Bool) (A B : ℕ) (x y : ℤ) (some : 1 ≤ A) (wider : A ≤ B) where
+  low : Congruent A (wrap t B y) y
+  low = Congruent-narrower A B (wrap t B y) y wider (wrap-congruent t B y)
+
+  pub sum-right : wrap s A (x +ℤ wrap t B y) ≡ wrap s A (x +ℤ y)
+  sum-right = wrap-same s A (x +ℤ wrap t B y) (x +ℤ y) some (Congruent-add A x x (wrap t B y) y (Congruent-refl A x) low)
+
+  pub sum-left : wrap s A (wrap t B y +ℤ x) ≡ wrap s A (y +ℤ x)
+  sum-left = wrap-same s A (wrap t B y +ℤ x) (y +ℤ x) some (Congruent-add A (wrap t B y) y x x low (Congruent-refl A x))
+
+  pub difference-right : wrap s A (x -ℤ wrap t B y) ≡ wrap s A (x -ℤ y)
+  difference-right = wrap-same s A (x -ℤ wrap t B y) (x -ℤ y) some (Congruent-sub A x x (wrap t B y) y (Congruent-refl A x) low)
+
+  pub difference-left : wrap s A (wrap t B y -ℤ x) ≡ wrap s A (y -ℤ x)
+  difference-left = wrap-same s A (wrap t B y -ℤ x) (y -ℤ x) some (Congruent-sub A (wrap t B y) y x x low (Congruent-refl A x))
+
+  pub product-right : wrap s A (x *ℤ wrap t B y) ≡ wrap s A (x *ℤ y)
+  product-right = wrap-same s A (x *ℤ wrap t B y) (x *ℤ y) some (Congruent-mul A x x (wrap t B y) y (Congruent-refl A x) low)
+
+  pub product-left : wrap s A (wrap t B y *ℤ x) ≡ wrap s A (y *ℤ x)
+  product-left = wrap-same s A (wrap t B y *ℤ x) (y *ℤ x) some (Congruent-mul A (wrap t B y) y x x low (Congruent-refl A x))
+
+-- the same of a primitive that wraps, at its own width
+pub word_sum-right : (B a b m : ℕ) (y : ℤ) → m ≡ 2 ^ B → 1 ≤ B → pos b ≡ wrap false B y → Congruent B (pos ((a + b) % m)) (pos a +ℤ y)
+word_sum-right B a b m y e h f =
+    let total : pos (a + b) ≡ pos a +ℤ pos b = omega (arith, ints) in
+    let w : pos ((a + b) % m) ≡ wrap false B (pos a +ℤ y) =
+    ap (λ (n : ℕ). pos ((a + b) % n)) e ∙ sym (wrap-pos B (a + b) h) ∙ ap (wrap false B) (total ∙ ap (λ (z : ℤ). pos a +ℤ z) f)
+    ∙ sum-right false false B B (pos a) y h (omega arith) in
+    subst (λ (z : ℤ). Congruent B z (pos a +ℤ y)) (sym w) (wrap-congruent false B (pos a +ℤ y))
+
+pub ruleset conversions = (wrap-congruent, sum-right, sum-left, difference-right, difference-left, product-right, product-left, word_sum-right)
