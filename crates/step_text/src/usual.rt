@@ -151,6 +151,7 @@ fn short_name(bytes: u32) -> Option<(Operation, usize)>
     const XOR: u32 = 0x786f_7220;
     const NOT: u32 = 0x6e6f_7420;
     const REV: u32 = 0x7265_7620;
+    const NEG: u32 = 0x6e65_6720;
     const WSHL: u32 = 0x7773_686c;
     const WSHR: u32 = 0x7773_6872;
     const CSHL: u32 = 0x6373_686c;
@@ -176,6 +177,7 @@ fn short_name(bytes: u32) -> Option<(Operation, usize)>
         XOR => Some((Operation::Two(TwoOp::Xor), 3)),
         NOT => Some((Operation::One(OneOp::Not), 3)),
         REV => Some((Operation::One(OneOp::ReverseBits), 3)),
+        NEG => Some((Operation::One(OneOp::WrappingNeg), 3)),
         WSHL => Some((Operation::By(ByOp::WrappingShl), 4)),
         WSHR => Some((Operation::By(ByOp::WrappingShr), 4)),
         CSHL => Some((Operation::By(ByOp::CheckedShl), 4)),
