@@ -7,6 +7,10 @@ set -euo pipefail
 unset CDPATH
 cd -- "$(dirname -- "$0")"
 python3 tools/short_names.py
+# the pages: their links, pictures and index of public items
+python3 tools/links.py
+python3 tools/charts.py
+python3 tools/api_index.py
 python3 tools/document_examples.py
 python3 tools/believed.py
 python3 tools/believed_apart.py
