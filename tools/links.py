@@ -65,7 +65,7 @@ def main():
                 tell(link.start(), target, why)
         # What is taken out leaves as many characters, so that a place stays a place.
         rest = LINK.sub(lambda link: re.sub(r'[^\n]', ' ', link.group()), text)
-        rest = re.sub(r'`[^`\n]* [^`\n]*`', lambda code: ' ' * len(code.group()), rest)
+        rest = re.sub(r'`[^`\n]*`', lambda code: ' ' * len(code.group()) if ' ' in code.group() else code.group(), rest)
         for name in re.finditer(rf'(?<![\w/])(?:{names}|(?:crates|tools|docs)/[\w/.-]*[\w/])', rest):
             if not name.group().startswith(OWN) and not (ROOT / name.group()).is_dir():
                 tell(name.start(), name.group(), 'named, and no link')
