@@ -1,0 +1,72 @@
+//! Laws of `& | ^ !`, each by itself.
+#![tactic(auto, using(arbitrary_int::proofs::BitVector::bits))]
+
+ghost use Rattle.std.specs.Prelude.{IsTrue};
+
+use arbitrary_int::prelude::*;
+
+pub fn and_comm(x: u12, y: u12) -> bool
+    ensures { IsTrue result }
+{
+    (x & y) == (y & x)
+}
+
+pub fn and_assoc(x: u12, y: u12, z: u12) -> bool
+    ensures { IsTrue result }
+{
+    ((x & y) & z) == (x & (y & z))
+}
+
+pub fn or_comm(x: u12, y: u12) -> bool
+    ensures { IsTrue result }
+{
+    (x | y) == (y | x)
+}
+
+pub fn or_assoc(x: u12, y: u12, z: u12) -> bool
+    ensures { IsTrue result }
+{
+    ((x | y) | z) == (x | (y | z))
+}
+
+pub fn or_self(x: u12) -> bool
+    ensures { IsTrue result }
+{
+    (x | x) == x
+}
+
+pub fn or_zero(x: u12) -> bool
+    ensures { IsTrue result }
+{
+    (x | u12::zero()) == x
+}
+
+pub fn or_ones(x: u12) -> bool
+    ensures { IsTrue result }
+{
+    (x | u12::max_value()) == u12::max_value()
+}
+
+pub fn xor_comm(x: u12, y: u12) -> bool
+    ensures { IsTrue result }
+{
+    (x ^ y) == (y ^ x)
+}
+
+pub fn and_not_self(x: u12) -> bool
+    ensures { IsTrue result }
+{
+    (x & !x) == u12::zero()
+}
+
+pub fn or_not_self(x: u12) -> bool
+    ensures { IsTrue result }
+{
+    (x | !x) == u12::max_value()
+}
+
+pub fn xor_zero_is_equal(x: u12, y: u12) -> bool
+    ensures { IsTrue result }
+{
+    ((x ^ y) == u12::zero()) == (x == y)
+}

@@ -1,0 +1,60 @@
+//! Laws of counts of bits.
+#![tactic(auto, using(arbitrary_int::proofs::BitVector::counts))]
+
+ghost use Rattle.std.specs.Prelude.{IsTrue};
+
+use arbitrary_int::prelude::*;
+
+pub fn ones_of_zero() -> bool
+    ensures { IsTrue result }
+{
+    u12::zero().count_ones() == 0
+}
+
+pub fn ones_of_ones() -> bool
+    ensures { IsTrue result }
+{
+    u12::max_value().count_ones() == 12
+}
+
+pub fn ones_of_not(x: u12) -> bool
+    ensures { IsTrue result }
+{
+    (!x).count_ones() == x.count_zeros()
+}
+
+pub fn ones_of_rev(x: u12) -> bool
+    ensures { IsTrue result }
+{
+    x.reverse_bits().count_ones() == x.count_ones()
+}
+
+pub fn ones_of_rotl(x: u12) -> bool
+    ensures { IsTrue result }
+{
+    x.rotate_left(3).count_ones() == x.count_ones()
+}
+
+pub fn leading_of_zero() -> bool
+    ensures { IsTrue result }
+{
+    u12::zero().leading_zeros() == 12
+}
+
+pub fn trailing_of_zero() -> bool
+    ensures { IsTrue result }
+{
+    u12::zero().trailing_zeros() == 12
+}
+
+pub fn leading_ones_of_not(x: u12) -> bool
+    ensures { IsTrue result }
+{
+    (!x).leading_ones() == x.leading_zeros()
+}
+
+pub fn leading_of_rev(x: u12) -> bool
+    ensures { IsTrue result }
+{
+    x.reverse_bits().leading_zeros() == x.trailing_zeros()
+}

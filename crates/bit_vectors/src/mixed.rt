@@ -1,0 +1,12 @@
+//! Laws of bits beside sums.
+#![tactic(auto, using(arbitrary_int::proofs::BitVector::mixed))]
+
+ghost use Rattle.std.specs.Prelude.{IsTrue};
+
+use arbitrary_int::prelude::*;
+
+pub fn add_is_or_plus_and(x: u12, y: u12) -> bool
+    ensures { IsTrue result }
+{
+    x.wrapping_add(y) == ((x | y).wrapping_add(x & y))
+}

@@ -1,0 +1,48 @@
+//! Laws of the reversal, and a rotation as two shifts.
+#![tactic(auto, using(arbitrary_int::proofs::BitVector::reversals))]
+
+ghost use Rattle.std.specs.Prelude.{IsTrue};
+
+use arbitrary_int::prelude::*;
+
+pub fn rotl_is_shifts(x: u12) -> bool
+    ensures { IsTrue result }
+{
+    x.rotate_left(3) == (x.wrapping_shl(3) | x.wrapping_shr(12 - 3))
+}
+
+pub fn rev_zero() -> bool
+    ensures { IsTrue result }
+{
+    u12::zero().reverse_bits() == u12::zero()
+}
+
+pub fn rev_ones() -> bool
+    ensures { IsTrue result }
+{
+    u12::max_value().reverse_bits() == u12::max_value()
+}
+
+pub fn rev_not(x: u12) -> bool
+    ensures { IsTrue result }
+{
+    (!x).reverse_bits() == !x.reverse_bits()
+}
+
+pub fn rev_and(x: u12, y: u12) -> bool
+    ensures { IsTrue result }
+{
+    ((x & y).reverse_bits()) == (x.reverse_bits() & y.reverse_bits())
+}
+
+pub fn rev_shl(x: u12) -> bool
+    ensures { IsTrue result }
+{
+    x.wrapping_shl(2).reverse_bits() == x.reverse_bits().wrapping_shr(2)
+}
+
+pub fn rev_rotl(x: u12) -> bool
+    ensures { IsTrue result }
+{
+    x.rotate_left(3).reverse_bits() == x.reverse_bits().rotate_right(3)
+}

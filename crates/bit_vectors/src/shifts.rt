@@ -1,0 +1,42 @@
+//! Laws of shifts, alone and over bits and sums.
+#![tactic(auto, using(arbitrary_int::proofs::BitVector::shifts))]
+
+ghost use Rattle.std.specs.Prelude.{IsTrue};
+
+use arbitrary_int::prelude::*;
+
+pub fn shl_and(x: u12, y: u12) -> bool
+    ensures { IsTrue result }
+{
+    ((x & y).wrapping_shl(2)) == (x.wrapping_shl(2) & y.wrapping_shl(2))
+}
+
+pub fn shl_or(x: u12, y: u12) -> bool
+    ensures { IsTrue result }
+{
+    ((x | y).wrapping_shl(2)) == (x.wrapping_shl(2) | y.wrapping_shl(2))
+}
+
+pub fn shr_and(x: u12, y: u12) -> bool
+    ensures { IsTrue result }
+{
+    ((x & y).wrapping_shr(2)) == (x.wrapping_shr(2) & y.wrapping_shr(2))
+}
+
+pub fn shr_xor(x: u12, y: u12) -> bool
+    ensures { IsTrue result }
+{
+    ((x ^ y).wrapping_shr(2)) == (x.wrapping_shr(2) ^ y.wrapping_shr(2))
+}
+
+pub fn shr_shl_is_mask(x: u12) -> bool
+    ensures { IsTrue result }
+{
+    x.wrapping_shr(2).wrapping_shl(2) == (x & u12::max_value().wrapping_shl(2))
+}
+
+pub fn shl_add(x: u12, y: u12) -> bool
+    ensures { IsTrue result }
+{
+    x.wrapping_add(y).wrapping_shl(2) == x.wrapping_shl(2).wrapping_add(y.wrapping_shl(2))
+}
