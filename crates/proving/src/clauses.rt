@@ -1,7 +1,7 @@
 //! What clauses say of such integers: a value is its whole number there.
 
-ghost use Rattle.std.specs.Prelude.{◌≡◌, ◌+ℤ◌, ◌<ℤ◌, ◌%◌, pos, false};
-ghost use Rattle.arbitrary_int.specs.Residue.{Congruent, wrap};
+ghost use Rattle.std.specs.Prelude.{◌≡◌, ◌+ℤ◌, ◌<ℤ◌, ◌%◌, pos};
+ghost use Rattle.arbitrary_int.specs.Residue.{Congruent};
 
 use arbitrary_int::prelude::*;
 
@@ -21,6 +21,7 @@ pub fn sum(a: u4, b: u4) -> u8
 }
 
 /// Two steps of a counter that wraps.
+#[tactic(auto, using(arbitrary_int::proofs::Everyday::everyday))]
 pub fn two_steps(count: u12) -> u12
     ensures { Congruent 12 result (count +ℤ pos 2) }
 {
