@@ -29,9 +29,9 @@ python3 tools/fuzz.py "${programs[@]}"
 python3 tools/wrong_bodies.py core_edges edges proving \
     arbitrary_calls/{counts_the_ones_of_the_storage,right_shift_fills_with_zeros} \
     arbitrary_core/{order_is_that_of_the_bits,text_is_that_of_the_bits,valid_width_is_constant} \
-    step_text/{reports_the_largest_bad_line,runs_the_steps_before_a_bad_line,status_is_always_2} \
-    step_service/{answers_read_always,answers_write_always,reads_nothing,stops_at_a_short_read,writes_other_bytes_after_a_fault}
-python3 tools/wrong_bodies.py --some 2 arbitrary_base arbitrary_traits
+    arbitrary_core/{default_of_a_signed_type_is_its_minimum,saturated_sum_by_the_trait_wraps} \
+    arbitrary_core/greatest_number_by_the_trait_is_one_too_small_at_full_widths \
+    step_text/{reports_the_largest_bad_line,runs_the_steps_before_a_bad_line,status_is_always_2}
 # of this shell and of what it waited for, each as 1m2.345s
 times > "$spent"
 awk -F '[ms ]+' -v wall="$SECONDS" '{ sum += 60 * ($1 + $3) + $2 + $4 }
