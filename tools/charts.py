@@ -227,7 +227,8 @@ def layers():
             crate(10 + across * (third + gap), 10 + down * (high + gap), third - gap / 2, name, what, (ORANGE, GREEN)[across])
     x, width = 10 + 2 * (third + gap), full - 2 * (third + gap)
     parts.append(box(x, 10, width, 3 * high + 2 * gap, 'none', GREY, 5))
-    for place, said in enumerate(['facts, edges and tests', 'everyday, bit_vectors', 'proving, edges', 'sweeps, worked_values', 'worked_texts, call_examples', 'speed']):
+    others = ['facts, edges and tests', 'everyday, bit_vectors', 'proving, edges', 'sweeps, worked_values', 'worked_texts, call_examples', 'speed']
+    for place, said in enumerate(others):
         parts.append(text(x + width / 2, 34 + 22 * place, said, 'middle', 12, GREY, 'normal' if place else 'bold'))
     for down, (name, what) in enumerate(libraries):
         crate(10, 10 + (3 + down) * (high + gap), full, name, what, BLUE)
