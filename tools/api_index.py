@@ -2,7 +2,8 @@
 """api_index.py [--write]
 
 Tells whether docs/API.md is the index of the libraries' public items: for each its first sentence and the names of its
-clauses, under the file that it stands in. With --write it writes the page.
+clauses, under the file that it stands in. A call that has a row in docs/CALLS.md has a link to it, and the row has a mark
+for that. With --write it writes the page and the marks.
 """
 import re
 import sys
@@ -10,16 +11,26 @@ from pathlib import Path
 
 ROOT = Path(__file__).resolve().parent.parent
 PAGE = ROOT / 'docs/API.md'
-LIBRARIES = ['arbitrary_int', 'bit_fields', 'arbitrary_calls', 'arbitrary_core', 'arbitrary_traits', 'arbitrary_base']
+CALLS = ROOT / 'docs/CALLS.md'
+BASE = 'arbitrary_base'
+LIBRARIES = ['arbitrary_int', 'bit_fields', 'arbitrary_calls', 'arbitrary_core', 'arbitrary_traits', BASE]
 HEAD = '''# The public items of the libraries
 
 Written by [tools/api_index.py](../tools/api_index.py) from the sources, so edit those. Each row has an item, the first sentence of its
-comment, and the names of its clauses. A clause without a name stands as `requires` or `ensures`. The calls with an example each are in
-[CALLS.md](CALLS.md). Your own code imports all that it needs from `arbitrary_int::prelude`, `arbitrary_int::traits` and
+comment, and the names of its clauses. A clause without a name stands as `requires` or `ensures`. A call that is a link leads to its row
+with an example in [CALLS.md](CALLS.md). Your own code imports all that it needs from `arbitrary_int::prelude`, `arbitrary_int::traits` and
 `arbitrary_int` itself.
 
-The 246 short names `u1` to `u127` and `i1` to `i127` are left out, and so are calls that an `impl` has from its trait.
+Left out are the 246 short names `u1` to `u127` and `i1` to `i127`, and the calls that an `impl` has from its trait. So the
+operators stand in [CALLS.md](CALLS.md#arithmetic) alone, as those of [bits](CALLS.md#bits) and the forms of [text](CALLS.md#text).
 '''
+# Calls whose example is a text or a file, by the heading in docs/CALLS.md that has it.
+BY_HEADING = {
+    'well_formed': 'steps', 'run': 'steps', 'run_wide': 'steps', 'Watched::new': 'bytes', 'Watched::failed': 'bytes', 'Watched::failures': 'bytes',
+}
+PRIMITIVE = r'[ui](?:\d+|size)'
+# Rows of the first table of the page are clauses, and have no marks.
+FIRST_HEADING = '\n## '
 ITEM = re.compile(r'(?:pub )?(?:final )?(?:const )?(fn|struct|enum|trait|type|const) (\w+)')
 
 
@@ -63,30 +74,73 @@ def items(file):
     return found
 
 
-def page():
-    """The page that the sources make."""
+def named(cell):
+    """The first call that the first cell of a row names, a pattern of all names, and the type whose calls they are, if one alone."""
+    calls = re.findall(r'`(?:record\.)?([a-z]\w+|[A-Z_]+)(?:::<\w+>)?(?:\([^`]*\))?`', cell)
+    stems = [re.sub(PRIMITIVE + '$', '', call) + PRIMITIVE for call in calls] if ' .. ' in cell else calls
+    only = re.search(r'on `(U?Int)`', cell)
+    return ''.join(calls[:1]), '|'.join(dict.fromkeys(stems)), only.group(1) if only else None
+
+
+def marked(text, names):
+    """The page of calls with a mark in each row of calls that are among the names, and for each row its pattern, its type and its mark."""
+    start, rows, lines = text.index(FIRST_HEADING), [], []
+    for line in text[start:].split('\n'):
+        line = re.sub(r'<a id="[^"]*"></a>', '', line)
+        cell = re.match(r'\| (`.*?) \| ', line)
+        first, pattern, only = named(cell.group(1)) if cell else ('', '', None)
+        if any(re.fullmatch(pattern, name) for name in names):
+            mark = f'call-{first.lower()}'
+            mark += '-unsigned' if mark in [row[2] for row in rows] else ''
+            rows.append((pattern, only, mark))
+            line = f'| {cell.group(1)}<a id="{mark}"></a>{line[cell.end(1):]}'
+        lines.append(line)
+    return text[:start] + '\n'.join(lines), rows
+
+
+def linked(name, rows):
+    """The name of an item, as a link to its row in docs/CALLS.md, or to the part of that page which shows it."""
+    block, _, call = name.strip('`').rpartition('::')
+    marks = [mark for pattern, only, mark in rows if re.fullmatch(pattern, call) and only in (None, block)]
+    mark = BY_HEADING.get(name.strip('`')) or (marks[0] if marks else None)
+    return f'[{name}](CALLS.md#{mark})' if mark else name
+
+
+def files(crate):
+    """The sources of a library, in order."""
+    return sorted((ROOT / 'crates' / crate / 'src').rglob('*.rt'))
+
+
+def page(rows):
+    """The page that the sources make, with links to the rows of calls."""
     lines = [HEAD]
     for crate in LIBRARIES:
         lines += [f'## {crate}', '']
-        for file in sorted((ROOT / 'crates' / crate / 'src').rglob('*.rt')):
-            rows = [] if 'aliases' in str(file) else items(file)
-            if rows:
+        for file in files(crate):
+            found = [] if 'aliases' in str(file) else items(file)
+            if found:
                 path = file.relative_to(ROOT)
                 about = re.findall(r'^//! ?(.*)$', file.read_text(), re.M)
                 lines += [f'### [{path.relative_to(f"crates/{crate}/src")}](../{path})', '', sentence(about), '']
                 lines += ['| Item | What it is | Clauses |', '|---|---|---|']
-                lines += [f'| {name} | {what} | {", ".join(dict.fromkeys(clauses))} |' for name, what, clauses in rows] + ['']
+                for name, what, clauses in found:
+                    lines.append(f'| {linked(name, [] if crate == BASE else rows)} | {what} | {", ".join(dict.fromkeys(clauses))} |')
+                lines.append('')
     return '\n'.join(lines).rstrip() + '\n'
 
 
 def main():
-    if '--write' in sys.argv[1:]:
-        PAGE.write_text(page())
-    elif PAGE.read_text() != page():
-        print(f'{PAGE}: not the index of the sources; write it by tools/api_index.py --write')
-        return 1
-    print('index of the public items: as it should be')
-    return 0
+    # the functions of the base take a storage and a width: the calls of the same names are those of the types
+    names = {item[0].strip('`').split('::')[-1] for crate in LIBRARIES if crate != BASE for file in files(crate) for item in items(file)}
+    calls, rows = marked(CALLS.read_text(), names)
+    wrong = []
+    for file, text in [(CALLS, calls), (PAGE, page(rows))]:
+        if '--write' in sys.argv[1:]:
+            file.write_text(text)
+        elif file.read_text() != text:
+            wrong.append(f'{file}: not what the sources give; write it by tools/api_index.py --write')
+    print('\n'.join(wrong) or 'index of the public items: as it should be')
+    return 1 if wrong else 0
 
 
 if __name__ == '__main__':

@@ -2,8 +2,8 @@
 """charts.py [--write]
 
 Tells whether the pictures in docs/pictures are what it draws: three charts of the tables in docs/PERFORMANCE.md, a put into a
-record, and the square of `run` and `run_wide`. With --write it draws them anew. The colours read on a light and on a dark page,
-and the background is left clear.
+record, the square of `run` and `run_wide`, and the layers. With --write it draws them anew. The colours read on a light and on a
+dark page, and the background is left clear.
 """
 import math
 import re
@@ -198,12 +198,47 @@ def widths():
     parts += [text((left + right) / 2, bottom + 18, 'wadd 0 0 1', 'middle', 12)]
     for x in (left, right):
         parts += [arrow(x, top + 30, x, bottom - 32, ORANGE), text(x + 10, (top + bottom) / 2 + 4, 'wrap to 7 bits', size=13, colour=ORANGE)]
-    parts += [text((left + right) / 2 + 30, (top + bottom) / 2 + 4, 'both ways agree', 'middle', 13, GREEN, 'bold')]
-    return picture(720, 270, 'Run wide and wrap, or wrap and run narrow: the same registers', parts)
+    parts += [text((left + right) / 2 + 50, (top + bottom) / 2 + 4, 'both ways agree', 'middle', 13, GREEN, 'bold')]
+    return picture(680, 270, 'Run wide and wrap, or wrap and run narrow: the same registers', parts)
+
+
+def layers():
+    """The crates, each box on those that it uses."""
+    full, high, gap, third = 700, 44, 6, 230
+    stacks = [
+        ('bitrun', 'steps of a text in, registers out'), ('step_service', 'reads, runs, writes the answer'), ('step_text', 'what the text names'),
+    ], [
+        ('tour', 'prints what the examples give'), ('examples', 'registers, frames, sensors, logs'), ('bit_fields', 'fields in a record of 128 bits'),
+    ]
+    libraries = [
+        ('arbitrary_int', 'run, run_wide, bytes, streams, sums, ranges: what you import'),
+        ('arbitrary_calls', 'wrapping, saturating, checked .. calls, shifts, rotations, counts'),
+        ('arbitrary_core', 'UInt and Int, their operators, order, hash and text'),
+        ('arbitrary_traits', 'Integer, and the primitives as integers'),
+        ('arbitrary_base', 'the definitions, the laws, arithmetic over every storage'),
+    ]
+    parts = []
+
+    def crate(x, y, width, name, what, colour):
+        parts.append(box(x, y, width, high, colour + '1a', colour, 5))
+        parts.extend([text(x + width / 2, y + 18, name, 'middle', 13, colour, 'bold'), text(x + width / 2, y + 35, what, 'middle', 12)])
+    for across, stack in enumerate(stacks):
+        for down, (name, what) in enumerate(stack):
+            crate(10 + across * (third + gap), 10 + down * (high + gap), third - gap / 2, name, what, (ORANGE, GREEN)[across])
+    x, width = 10 + 2 * (third + gap), full - 2 * (third + gap)
+    parts.append(box(x, 10, width, 3 * high + 2 * gap, 'none', GREY, 5))
+    for place, said in enumerate(['facts, edges and tests', 'everyday, bit_vectors', 'proving, edges', 'sweeps, worked_values', 'worked_texts, call_examples', 'speed']):
+        parts.append(text(x + width / 2, 34 + 22 * place, said, 'middle', 12, GREY, 'normal' if place else 'bold'))
+    for down, (name, what) in enumerate(libraries):
+        crate(10, 10 + (3 + down) * (high + gap), full, name, what, BLUE)
+    return picture(full + 20, 14 + 8 * (high + gap), 'The crates as layers', parts)
 
 
 def main():
-    drawn = {'calls.svg': calls(), 'bitrun.svg': inputs(), 'gate.svg': gate(), 'record.svg': record(), 'widths.svg': widths()}
+    drawn = {
+        'calls.svg': calls(), 'bitrun.svg': inputs(), 'gate.svg': gate(),
+        'record.svg': record(), 'widths.svg': widths(), 'layers.svg': layers(),
+    }
     wrong = []
     for name, picture_text in drawn.items():
         file = PICTURES / name

@@ -27,8 +27,8 @@ def prose(text):
 
 
 def headings(page):
-    """The anchors of a page's headings, as a viewer of Markdown makes them."""
-    seen, anchors = {}, set()
+    """The anchors of a page: those of its headings, as a viewer of Markdown makes them, and its marks."""
+    seen, anchors = {}, set(re.findall(r'<a id="([^"]*)">', page.read_text()))
     for title in re.findall(r'^#+ (.*)$', prose(page.read_text()), re.M):
         title = re.sub(r'\[([^\]]*)\]\([^)]*\)', r'\1', title)
         anchor = re.sub(r'[^\w\- ]', '', title.lower()).replace(' ', '-')
