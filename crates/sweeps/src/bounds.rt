@@ -52,54 +52,84 @@ macro_rules! right_at {
 
 #[test]
 fn over_8_bits(rt: HostRuntime) {
-    assert_eq!(rt; right_at!(unsigned, UInt<u8>:
+    assert_eq!(rt;
+        right_at!(unsigned, UInt<u8>:
         1 2 3 4 5 6 7 8
-    ), [true; 8]);
-    assert_eq!(rt; right_at!(signed, Int<i8>:
+    ),
+        [true; 8]
+    );
+    assert_eq!(rt;
+        right_at!(signed, Int<i8>:
         1 2 3 4 5 6 7 8
-    ), [true; 8]);
+    ),
+        [true; 8]
+    );
 }
 
 #[test]
 fn over_16_bits(rt: HostRuntime) {
-    assert_eq!(rt; right_at!(unsigned, UInt<u16>:
+    assert_eq!(rt;
+        right_at!(unsigned, UInt<u16>:
         9 10 11 12 13 14 15 16
-    ), [true; 8]);
-    assert_eq!(rt; right_at!(signed, Int<i16>:
+    ),
+        [true; 8]
+    );
+    assert_eq!(rt;
+        right_at!(signed, Int<i16>:
         9 10 11 12 13 14 15 16
-    ), [true; 8]);
+    ),
+        [true; 8]
+    );
 }
 
 #[test]
 fn over_32_bits(rt: HostRuntime) {
-    assert_eq!(rt; right_at!(unsigned, UInt<u32>:
+    assert_eq!(rt;
+        right_at!(unsigned, UInt<u32>:
         17 18 19 20 21 22 23 24 25 26 27 28 29 30 31 32
-    ), [true; 16]);
-    assert_eq!(rt; right_at!(signed, Int<i32>:
+    ),
+        [true; 16]
+    );
+    assert_eq!(rt;
+        right_at!(signed, Int<i32>:
         17 18 19 20 21 22 23 24 25 26 27 28 29 30 31 32
-    ), [true; 16]);
+    ),
+        [true; 16]
+    );
 }
 
 #[test]
 fn over_64_bits(rt: HostRuntime) {
-    assert_eq!(rt; right_at!(unsigned, UInt<u64>:
+    assert_eq!(rt;
+        right_at!(unsigned, UInt<u64>:
         33 34 35 36 37 38 39 40 41 42 43 44 45 46 47 48 49 50 51 52 53 54 55 56 57 58 59 60 61 62 63 64
-    ), [true; 32]);
-    assert_eq!(rt; right_at!(signed, Int<i64>:
+    ),
+        [true; 32]
+    );
+    assert_eq!(rt;
+        right_at!(signed, Int<i64>:
         33 34 35 36 37 38 39 40 41 42 43 44 45 46 47 48 49 50 51 52 53 54 55 56 57 58 59 60 61 62 63 64
-    ), [true; 32]);
+    ),
+        [true; 32]
+    );
 }
 
 #[test]
 fn over_128_bits(rt: HostRuntime) {
-    assert_eq!(rt; right_at!(unsigned, UInt<u128>:
+    assert_eq!(rt;
+        right_at!(unsigned, UInt<u128>:
         65 66 67 68 69 70 71 72 73 74 75 76 77 78 79 80 81 82 83 84 85 86 87 88 89 90 91 92 93 94 95 96
         97 98 99 100 101 102 103 104 105 106 107 108 109 110 111 112 113 114 115 116 117 118 119 120 121
         122 123 124 125 126 127 128
-    ), [true; 64]);
-    assert_eq!(rt; right_at!(signed, Int<i128>:
+    ),
+        [true; 64]
+    );
+    assert_eq!(rt;
+        right_at!(signed, Int<i128>:
         65 66 67 68 69 70 71 72 73 74 75 76 77 78 79 80 81 82 83 84 85 86 87 88 89 90 91 92 93 94 95 96
         97 98 99 100 101 102 103 104 105 106 107 108 109 110 111 112 113 114 115 116 117 118 119 120 121
         122 123 124 125 126 127 128
-    ), [true; 64]);
+    ),
+        [true; 64]
+    );
 }
