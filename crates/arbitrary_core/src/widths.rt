@@ -8,6 +8,7 @@ use arbitrary_base::storage::Storage;
 pub mod room;
 pub mod to_128;
 pub mod to_64;
+pub mod valid;
 
 /// The storage has room for `B` bits: each does for every `B` from 1 to its own width, and for no other.
 pub trait HasWidth<const B: usize>: Storage {

@@ -266,6 +266,8 @@ pub use arbitrary_core::aliases::unsigned::u126;
 pub use arbitrary_core::aliases::unsigned::u127;
 pub use arbitrary_core::signed::Int;
 pub use arbitrary_core::unsigned::UInt;
+pub use arbitrary_core::widths::HasWidth;
+pub use arbitrary_core::widths::valid::ValidWidth;
 pub use arbitrary_traits::integer::Integer;
 pub use arbitrary_traits::integer::SignedInteger;
 pub use arbitrary_traits::integer::UnsignedInteger;

@@ -216,6 +216,41 @@ fn text(rt: HostRuntime) -> Result<(), Fail> {
 }
 
 #[test]
+fn keys_and_code_written_for_other_traits(rt: HostRuntime) {
+    same(&rt, i12::default(), i12::new(0));
+    same(
+        &rt,
+        <i12 as num_traits::Bounded>::min_value(),
+        i12::new(-2048),
+    );
+    same(
+        &rt,
+        <u12 as num_traits::Bounded>::max_value(),
+        u12::new(4095),
+    );
+    same(
+        &rt,
+        num_traits::SaturatingAdd::saturating_add(&u12::new(4000), &u12::new(100)),
+        u12::new(4095),
+    );
+    same(
+        &rt,
+        num_traits::SaturatingSub::saturating_sub(&i12::new(-2000), &i12::new(100)),
+        i12::new(-2048),
+    );
+    same(
+        &rt,
+        num_traits::WrappingAdd::wrapping_add(&u12::new(4095), &u12::new(2)),
+        u12::new(1),
+    );
+    same(
+        &rt,
+        num_traits::WrappingSub::wrapping_sub(&i12::new(-2048), &i12::new(1)),
+        i12::new(2047),
+    );
+}
+
+#[test]
 fn bytes_1(rt: HostRuntime) {
     same(&rt, u24::new(0x123456).to_le_bytes(), [0x56, 0x34, 0x12]);
     same(&rt, i24::new(-5).to_be_bytes(), [0xFF, 0xFF, 0xFB]);

@@ -1,4 +1,4 @@
-//! How the library is used: a device's register, a packet header, a frame of bytes, a sensor, a filter, a log, the
+//! How the library is used: a device's register and settings, a packet header, a frame of bytes, a sensor, a filter, a log, the
 //! decoder of a processor, lists of steps at one width and at two, code for every width, fields in a record, and
 //! numbers as text and as keys.
 //! The program `tour` prints what each gives.
@@ -15,6 +15,7 @@ pub mod journal;
 pub mod keys;
 pub mod register;
 pub mod sensor;
+pub mod settings;
 pub mod steps;
 pub mod sums;
 pub mod texts;

@@ -3,21 +3,13 @@
 use arbitrary_int::prelude::*;
 
 /// A standard and an extended identifier of a frame.
-#[derive(Clone, Copy, Debug, PartialEq, Eq)]
+#[derive(Clone, Copy, Debug, Default, PartialEq, Eq)]
 pub struct Frame {
     pub standard: u11,
     pub extended: u29,
 }
 
 impl Frame {
-    /// The frame of zeros.
-    pub fn none() -> Frame {
-        Frame {
-            standard: u11::zero(),
-            extended: u29::zero(),
-        }
-    }
-
     /// The standard identifier, by value.
     pub fn into_standard(self) -> u11 {
         self.standard

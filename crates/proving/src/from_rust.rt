@@ -1,7 +1,6 @@
 //! The table "In Rust you wrote" of docs/DIFFERENCES.md.
 
 use crate::constants::{LIMIT, WIDTH, limit};
-use crate::copies::Frame;
 use arbitrary_int::prelude::*;
 use arbitrary_int::try_sum;
 
@@ -20,17 +19,10 @@ fn lines_from_1(rt: HostRuntime) {
 #[test]
 fn lines_from_9(rt: HostRuntime) {
     let n = u4::new(9);
+    let a = u12::new(1000);
     let byte = 200u8;
     assert_eq!(rt; WIDTH, u4::BITS);
     assert_eq!(rt; [0u8; 4].len(), u4::BITS);
-    assert_eq!(rt; u4::zero(), u4::new(0));
-    assert_eq!(rt;
-        Frame::none(),
-        Frame {
-            standard: u11::new(0),
-            extended: u29::new(0)
-        }
-    );
     assert_eq!(rt; u8::from_(n), 9);
     assert_eq!(rt;
         {
@@ -41,6 +33,8 @@ fn lines_from_9(rt: HostRuntime) {
     );
     assert_eq!(rt; u12::from_(n), u12::new(9));
     assert_eq!(rt; u12::from_(byte), u12::new(200));
+    assert_eq!(rt; usize::from(a.value()), 1000);
+    assert_eq!(rt; u4::try_new(byte), Err(TryNewError));
 }
 
 #[test]
@@ -48,22 +42,14 @@ fn lines_from_17(rt: HostRuntime) {
     let n = u4::new(9);
     let a = u12::new(1000);
     let b = u12::new(7);
+    let s = i12::new(-300);
     let byte = 200u8;
-    assert_eq!(rt; usize::from(a.value()), 1000);
-    assert_eq!(rt; u4::try_new(byte), Err(TryNewError));
     assert_eq!(rt; u4::masked_new(byte), u4::new(8));
     assert_eq!(rt; n == u4::new(9), true);
     assert_eq!(rt; n.wrapping_add(u4::new(1)), u4::new(10));
     assert_eq!(rt; a & b, u12::new(0));
     assert_eq!(rt; u12::new(a.value() % b.value()), u12::new(6));
     assert_eq!(rt; n << u4::new(3).value(), u4::new(8));
-}
-
-#[test]
-fn lines_from_25(rt: HostRuntime) {
-    let b = u12::new(7);
-    let s = i12::new(-300);
-    let list = [u12::new(1000), u12::new(7)];
     assert_eq!(rt;
         {
             let wide = i13::from_(s);
@@ -72,5 +58,10 @@ fn lines_from_25(rt: HostRuntime) {
         i13::new(300)
     );
     assert_eq!(rt; b.saturating_pow(2), u12::new(49));
+}
+
+#[test]
+fn lines_from_25(rt: HostRuntime) {
+    let list = [u12::new(1000), u12::new(7)];
     assert_eq!(rt; try_sum(list.iter().copied()), Some(u12::new(1007)));
 }

@@ -5,6 +5,13 @@ ghost use Rattle.arbitrary_int.specs.Range.{InRange};
 
 use arbitrary_int::prelude::*;
 
+/// The number 0 of any type that has it: the bound shows the width.
+pub fn nothing<T: ValidWidth>() -> T
+    ensures { T.number result ≡ pos 0 }
+{
+    T::zero()
+}
+
 /// The least number of a type that has a valid width.
 pub fn origin<T: Integer>() -> T
     requires { T.valid }

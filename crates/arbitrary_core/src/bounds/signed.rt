@@ -1,7 +1,7 @@
 //! `Int` under the traits of `num_traits` that ask for its ends, and under std's `Default`.
 
-ghost use Rattle.std.specs.Prelude.{◌≡◌, ◌+ℤ◌, ◌-ℤ◌, pos};
-ghost use Rattle.arbitrary_base.specs.Range.{lo, hi};
+ghost use Rattle.std.specs.Prelude.{◌≡◌, ◌<ℤ◌, ◌+ℤ◌, ◌-ℤ◌, pos};
+ghost use Rattle.arbitrary_base.specs.Range.{lo, hi, InRange};
 ghost use Rattle.arbitrary_base.specs.Saturation.{clamp};
 ghost use Rattle.arbitrary_core.specs.Bounds.{bounds, low_fits, high_fits, saturates};
 
@@ -47,7 +47,13 @@ where
 {
     ghost saturating_add_gives = { λ a b r. r ≡ clamp T.SIGNED BITS (a +ℤ b) };
 
-    fn saturating_add(&self, v: &Int<T, BITS>) -> Int<T, BITS> {
+    #[tactic(auto, using(arbitrary_base::proofs::Clamp::clamped))]
+    fn saturating_add(&self, v: &Int<T, BITS>) -> Int<T, BITS>
+        ensures value { result ≡ clamp T.SIGNED BITS (self.now +ℤ v.now) }
+        ensures kept { InRange T.SIGNED BITS (self.now +ℤ v.now) → result ≡ self.now +ℤ v.now }
+        ensures above { hi T.SIGNED BITS <ℤ (self.now +ℤ v.now) → result ≡ hi T.SIGNED BITS }
+        ensures below { (self.now +ℤ v.now) <ℤ lo T.SIGNED BITS → result ≡ lo T.SIGNED BITS }
+    {
         Int::<T, BITS>::new(saturating::add(self.value(), v.value(), BITS))
     }
 
@@ -61,7 +67,13 @@ where
 {
     ghost saturating_sub_gives = { λ a b r. r ≡ clamp T.SIGNED BITS (a -ℤ b) };
 
-    fn saturating_sub(&self, v: &Int<T, BITS>) -> Int<T, BITS> {
+    #[tactic(auto, using(arbitrary_base::proofs::Clamp::clamped))]
+    fn saturating_sub(&self, v: &Int<T, BITS>) -> Int<T, BITS>
+        ensures value { result ≡ clamp T.SIGNED BITS (self.now -ℤ v.now) }
+        ensures kept { InRange T.SIGNED BITS (self.now -ℤ v.now) → result ≡ self.now -ℤ v.now }
+        ensures above { hi T.SIGNED BITS <ℤ (self.now -ℤ v.now) → result ≡ hi T.SIGNED BITS }
+        ensures below { (self.now -ℤ v.now) <ℤ lo T.SIGNED BITS → result ≡ lo T.SIGNED BITS }
+    {
         Int::<T, BITS>::new(saturating::sub(self.value(), v.value(), BITS))
     }
 
