@@ -1,0 +1,132 @@
+#!/usr/bin/env python3
+"""lines.py [PROGRAM]
+
+Prints, as Markdown tables, how many instructions `bitrun` takes for a line of a step of each kind, and for a register of
+the second line, beside the usual one: a name of four letters, one space before each operand, register numbers of one digit,
+and the LF. PROGRAM is by default what `bitrun.sh` builds.
+
+What a line takes is counted by callgrind: an input of 65,536 bytes less another of half as many lines, divided by the lines
+that it has more. So the start of the process does not count. The last column has the same of 1,000 lines less 500: where it
+is apart from the column before, a line costs more in a long input. The answers are compared with the model of fuzz.py first.
+"""
+import argparse
+import os
+import re
+import subprocess
+import sys
+from concurrent.futures import ThreadPoolExecutor
+
+from fuzz import LIMIT, model
+from program import programs
+
+ONE, TEN, HUNDRED, THOUSAND = 1, 10, 100, 1000
+# Each kind of a line: its title, its first line, how many registers there are, the line, and the line that is the usual
+# one for its operation. {a}, {b} and {c} are numbers of registers, with as many digits as the largest has.
+USUAL = 'wadd {a} {b} {c}'
+STEPS = [
+    ('usual', 'run u7', TEN, USUAL, USUAL),
+    ('two digits', 'run u7', HUNDRED, USUAL, USUAL),
+    ('three digits', 'run u7', THOUSAND, USUAL, USUAL),
+    ('a zero in front of one number', 'run u7', TEN, 'wadd 0{a} {b} {c}', USUAL),
+    ('two zeros in front of each', 'run u7', TEN, 'wadd 00{a} 00{b} 00{c}', USUAL),
+    ('eight zeros in front of one', 'run u7', TEN, 'wadd 00000000{a} {b} {c}', USUAL),
+    ('two spaces between', 'run u7', TEN, 'wadd  {a}  {b}  {c}', USUAL),
+    ('a tab between', 'run u7', TEN, 'wadd\t{a}\t{b}\t{c}', USUAL),
+    ('two spaces in front', 'run u7', TEN, '  wadd {a} {b} {c}', USUAL),
+    ('two spaces at the end', 'run u7', TEN, 'wadd {a} {b} {c}  ', USUAL),
+    ('CR LF', 'run u7', TEN, 'wadd {a} {b} {c}\r', USUAL),
+    ('two digits, CR LF', 'run u7', HUNDRED, 'wadd {a} {b} {c}\r', USUAL),
+    ('`wide`', 'wide u14 u7', TEN, USUAL, USUAL),
+    ('`wide`, two digits', 'wide u14 u7', HUNDRED, USUAL, USUAL),
+    ('`neg`', 'run u7', TEN, 'neg {a} {b}', 'neg {a} {b}'),
+    ('`neg`, two digits', 'run u7', HUNDRED, 'neg {a} {b}', 'neg {a} {b}'),
+    ('`and`, a tab between', 'run u7', TEN, 'and\t{a}\t{b}\t{c}', 'and {a} {b} {c}'),
+    ('`or`, a tab between', 'run u7', TEN, 'or\t{a}\t{b}\t{c}', 'or {a} {b} {c}'),
+    ('`rotl`', 'run u7', TEN, 'rotl {a} {b} 3', 'rotl {a} {b} 3'),
+    ('`rotl`, two digits', 'run u7', HUNDRED, 'rotl {a} {b} 3', 'rotl {a} {b} 3'),
+    ('`rotl` by ten digits', 'run u7', TEN, 'rotl {a} {b} 4294967295', 'rotl {a} {b} 3'),
+    ('`rotl`, CR LF', 'run u7', TEN, 'rotl {a} {b} 3\r', 'rotl {a} {b} 3'),
+]
+# Each kind of a register: its title, the type, and the words, of which each has its turn.
+REGISTERS = [
+    ('usual', 'u7', ['3', '7', '1'], ' '),
+    ('two spaces between', 'u7', ['3', '7', '1'], '  '),
+    ('a tab between', 'u7', ['3', '7', '1'], '\t'),
+    ('two zeros in front', 'u7', ['003', '007', '001'], ' '),
+    ('below zero', 'i7', ['-3', '-7', '-1'], ' '),
+    ('below zero, two zeros in front', 'i7', ['-003', '-007', '-001'], ' '),
+    ('three digits', 'u7', ['100', '127', '101'], ' '),
+    ('37 digits', 'u120', [str(2 ** 120 - k) for k in (1, 2, 3)], ' '),
+    ('36 digits, below zero', 'i120', [str(k - 2 ** 119) for k in (0, 1, 2)], ' '),
+]
+
+
+def a_step(form, count, turn):
+    """The line with numbers of the registers, which differ from turn to turn, and have as many digits as the largest."""
+    least = count // 10
+    numbers = {name: least + turn * step % (count - least) for name, step in (('a', 7), ('b', 3), ('c', 1))}
+    return form.format(**numbers) + '\n'
+
+
+def steps(first, count, form, lines):
+    return (first + '\n' + ' '.join(['1'] * count) + '\n' + ''.join(a_step(form, count, turn) for turn in range(lines))).encode()
+
+
+def registers(kind, words, gap, count):
+    return f'run {kind}\n{gap.join(words[turn % len(words)] for turn in range(count))}\n'.encode()
+
+
+def most(make):
+    """How many lines or registers an input has at most."""
+    least, above = 1, LIMIT
+    while above - least > 1:
+        middle = (least + above) // 2
+        least, above = (middle, above) if len(make(middle)) <= LIMIT else (least, middle)
+    return least
+
+
+def instructions(program, data):
+    """How many instructions the whole process takes."""
+    done = subprocess.run(['valgrind', '--tool=callgrind', '--callgrind-out-file=/dev/null', program], input=data, capture_output=True)
+    if (done.stdout, done.returncode) != model(data):
+        sys.exit(f'wrong on an input that begins with {data[:60]}')
+    return int(re.search(rb'Collected : (\d+)', done.stderr).group(1))
+
+
+def each(program, make, count):
+    """What each costs of so many, the second half of them."""
+    return (instructions(program, make(count)) - instructions(program, make(count // 2))) / (count - count // 2)
+
+
+def main():
+    parser = argparse.ArgumentParser(description=__doc__, formatter_class=argparse.RawDescriptionHelpFormatter)
+    parser.add_argument('programs', nargs='*', metavar='PROGRAM')
+    program = str(programs(parser.parse_args().programs)[0])
+
+    def a_line(row):
+        title, first, count, form, usual = row
+
+        def make(form, count):
+            return lambda lines: steps(first, count, form, lines)
+        line = each(program, make(form, count), most(make(form, count)))
+        return title, line, line / each(program, make(usual, TEN), most(make(usual, TEN))), each(program, make(form, count), 1000)
+
+    def a_register(row):
+        title, kind, words, gap = row
+
+        def make(count):
+            return registers(kind, words, gap, count)
+        whole = each(program, make, most(make))
+        return title, whole, whole / len((words[0] + gap).encode()), each(program, make, 1000)
+
+    with ThreadPoolExecutor(os.cpu_count()) as pool:
+        print('| Line of a step | instructions | of the usual line | of 1,000 lines |\n|---|---:|---:|---:|')
+        for title, line, ratio, few in pool.map(a_line, STEPS):
+            print(f'| {title} | {line:.0f} | {ratio:.2f} | {few:.0f} |')
+        print('\n| Register | instructions | for each byte | of 1,000 registers |\n|---|---:|---:|---:|')
+        for title, whole, ratio, few in pool.map(a_register, REGISTERS):
+            print(f'| {title} | {whole:.0f} | {ratio:.1f} | {few:.0f} |')
+
+
+if __name__ == '__main__':
+    main()
