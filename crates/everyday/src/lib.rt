@@ -6,6 +6,7 @@ pub mod arithmetic;
 pub mod bits;
 pub mod conversions;
 pub mod counters;
+pub mod fields;
 pub mod generic;
 pub mod indices;
 pub mod structs;
