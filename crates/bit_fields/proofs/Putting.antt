@@ -1,15 +1,15 @@
 -- What a put leaves, from the pattern of the value's 128 bits.
-use Rattle.std.specs.Prelude.{◌≡◌, ℕ, ℤ, Bool, pos, ◌+◌, ◌-◌, ◌≤◌, ◌^◌, length}
-use Rattle.std.proofs.Common.{arith, ap, sym, bit_and, ◌∙◌}
+use Rattle.std.specs.Prelude.{◌≡◌, ℕ, ℤ, Bool, List, pos, ◌+◌, ◌-◌, ◌≤◌, ◌<◌, ◌^◌, ◌++◌, length, take, drop}
+use Rattle.std.proofs.Common.{arith, ap, sym, bit_and, ◌∙◌, take-append-drop, drop-drop, append_assoc, length-drop, length-take}
 use Rattle.std.proofs.lemmas.Nat.{and_mask}
 use Rattle.arbitrary_int.specs.Range.{InRange}
 use Rattle.arbitrary_int.specs.Residue.{residue}
-use Rattle.arbitrary_int.specs.BitList.{bits, val}
+use Rattle.arbitrary_int.specs.BitList.{bits, num, val, items}
 use Rattle.arbitrary_int.specs.BitField.{field_bits, with_field}
 use Rattle.arbitrary_int.proofs.Narrow.{cut-residue}
-use Rattle.arbitrary_int.proofs.BitNumber.{length-bits}
-use Rattle.arbitrary_int.proofs.BitValue.{bits-residue, val-bits_in_range}
-use Rattle.arbitrary_int.proofs.BitField.{field-put, field-put_above, field-put_below}
+use Rattle.arbitrary_int.proofs.BitNumber.{length-bits, num-bits_small}
+use Rattle.arbitrary_int.proofs.BitValue.{bits-residue, bits-val, val-bits_in_range}
+use Rattle.arbitrary_int.proofs.BitField.{field-put, field-put_above, field-put_below, length-field}
 
 -- the low bits of a number's 128 are its residue
 pub masked-is : (width p mask : ℕ) (x : ℤ) → (1 ≤ width) × (width ≤ 128) → p ≡ residue 128 x → mask + 1 ≡ 2 ^ width → bit_and p mask ≡ residue width x
@@ -19,6 +19,22 @@ masked-is width p mask x w e m =
 pub put-is : (word start width count p new : ℕ) (x : ℤ) → count ≡ width → new ≡ with_field word start (bits count (pos p)) → p ≡ residue width x
     → new ≡ with_field word start (bits width x)
 put-is word start width count p new x c f e = f ∙ ap (λ (n : ℕ). with_field word start (bits n (pos p))) c ∙ ap (with_field word start) (bits-residue width p x e)
+
+-- a list with its own middle put into its middle
+put-back : (start count : ℕ) (l : List Bool) → take start l ++ items start count l ++ drop (start + count) l ≡ l
+put-back start count l =
+    append_assoc (take start l) (items start count l) (drop (start + count) l)
+    ∙ ap (λ (m : List Bool). take start l ++ (items start count l ++ m)) (sym (drop-drop count start l))
+    ∙ ap (λ (m : List Bool). take start l ++ m) (take-append-drop count (drop start l))
+    ∙ take-append-drop start l
+
+same-field : (word start width : ℕ) → word < 2 ^ 128 → start + width ≤ 128 → with_field word start (field_bits word start width) ≡ word
+unfolding with_field field_bits
+same-field word start width h g =
+    let n : length (items start width (bits 128 (pos word))) ≡ width = let all = length-bits 128 (pos word) in simp (length-drop, length-take) (omega arith) in
+    ap num (ap (λ (k : ℕ). take start (bits 128 (pos word)) ++ items start width (bits 128 (pos word)) ++ drop (start + k) (bits 128 (pos word))) n
+    ∙ put-back start width (bits 128 (pos word)))
+    ∙ num-bits_small 128 word h
 
 module _ (word start width new : ℕ) (x : ℤ) (put : new ≡ with_field word start (bits width x)) (fits : start + width ≤ 128) where
   room : start + length (bits width x) ≤ 128
@@ -34,3 +50,9 @@ module _ (word start width new : ℕ) (x : ℤ) (put : new ≡ with_field word s
 
   pub read-above : (other count : ℕ) → start + width ≤ other → field_bits new other count ≡ field_bits word other count
   read-above other count h = let n = length-bits width x in rw put (field-put_below word start (bits width x) other count room (omega arith))
+
+  pub read-same : (s : Bool) → word < 2 ^ 128 → val s (field_bits word start width) ≡ x → new ≡ word
+  read-same s h e =
+      put ∙ ap (λ (z : ℤ). with_field word start (bits width z)) (sym e)
+      ∙ ap (with_field word start) (bits-val s width (field_bits word start width) (length-field word start width fits))
+      ∙ same-field word start width h fits

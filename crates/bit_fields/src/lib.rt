@@ -1,13 +1,15 @@
 //! Fields in a record of 128 bits: a packet's header, a device's register, an instruction.
 #![tactic(auto)]
 
-ghost use Rattle.std.specs.Prelude.{◌≡◌, ◌+◌, ◌≤◌, ◌<◌, ◌^◌, ◌↔◌, ℕ, pos, IsTrue};
+ghost use Rattle.std.specs.Prelude.{◌≡◌, ◌+◌, ◌/◌, ◌≤◌, ◌<◌, ◌^◌, ◌↔◌, ℕ, false, pos, IsTrue};
 ghost use Rattle.arbitrary_int.specs.BitField.{AreDisjoint, field_bits, with_field};
 ghost use Rattle.arbitrary_int.specs.BitList.{bits as bits_of, val};
+ghost use Rattle.arbitrary_int.specs.Field.{field};
 ghost use Rattle.arbitrary_int.specs.Range.{InRange};
-ghost use Rattle.arbitrary_int.specs.Residue.{residue};
+ghost use Rattle.arbitrary_int.specs.Residue.{residue, Congruent};
+ghost use Rattle.bit_fields.specs.HasNumber.{HasNumber};
 
-use arbitrary_int::traits::{Extraction, FixedWidth};
+use arbitrary_int::traits::Integer;
 
 #[cfg(test)]
 mod worked;
@@ -19,22 +21,27 @@ pub struct Record {
 }
 
 impl Record {
-    /// The value of the field of `F::BITS` bits from bit `start` on. The field ends at or before bit 128, and
-    /// the width is valid.
-    pub fn get<F: FixedWidth>(&self, start: usize) -> F
+    /// The value of the field of `F::BITS` bits from bit `start` on, of any of the types and of a primitive. The
+    /// field ends at or before bit 128, and the width is valid.
+    pub fn get<F: Integer>(&self, start: usize) -> F
         requires width { F.valid }
         requires within { start + F.BITS ≤ 128 }
-        ensures { F.number result ≡ val F.IS_SIGNED (field_bits self.now.bits start F.BITS) }
+        ensures value { F.number result ≡ val F.IS_SIGNED (field_bits self.now.bits start F.BITS) }
+        ensures plain { F.IS_SIGNED ≡ false → F.number result ≡ field self.now.bits start F.BITS }
+        ensures congruent { Congruent F.BITS (F.number result) (pos (self.now.bits / 2 ^ start)) }
     {
-        F::extract_u128(self.bits, start)
+        F::from_extended(self.bits >> start)
     }
 
-    /// Puts the value's bits into the field of `F::BITS` bits from bit `start` on. The field ends at or before
-    /// bit 128. All other bits stay.
-    pub fn put<F: FixedWidth>(&mut self, start: usize, value: F)
+    /// Puts the value's bits into the field of `F::BITS` bits from bit `start` on, of any of the types and of a
+    /// primitive. The field ends at or before bit 128. All other bits stay.
+    pub fn put<F: Integer>(&mut self, start: usize, value: F)
         requires { start + F.BITS ≤ 128 }
         ensures bits { self.new.bits ≡ with_field self.old.bits start (bits_of F.BITS (F.number value)) }
-        ensures read_back { val F.IS_SIGNED (field_bits self.new.bits start F.BITS) ≡ F.number value }
+        ensures read_back { HasNumber F.IS_SIGNED self.new.bits start F.BITS (F.number value) }
+
+        // What was there already changes nothing.
+        ensures same { HasNumber F.IS_SIGNED self.old.bits start F.BITS (F.number value) → self.new.bits ≡ self.old.bits }
 
         // Each field below this one, and each above, reads as before.
         ensures below { (other width : ℕ) → other + width ≤ start
@@ -60,7 +67,7 @@ fn ones(count: usize) -> u128
 
 /// The value's bits, and none above them.
 // A number of a type with no sign has none above, so nothing is masked there.
-fn bits_alone<F: FixedWidth>(value: F) -> u128
+fn bits_alone<F: Integer>(value: F) -> u128
     ensures value { result ≡ residue F.BITS (F.number value) }
     ensures short { result < 2 ^ F.BITS }
     ensures range { InRange F.IS_SIGNED F.BITS (F.number value) }

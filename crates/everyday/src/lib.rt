@@ -7,6 +7,7 @@ pub mod bits;
 pub mod conversions;
 pub mod counters;
 pub mod defaults;
+pub mod fields;
 pub mod generic;
 pub mod indices;
 pub mod structs;

@@ -1,5 +1,22 @@
-use Rattle.bit_fields.proofs.Getting.{field-items}
+use Rattle.std.specs.Prelude.{◌<◌, ◌^◌}
+use Rattle.std.proofs.Common.{rules}
+use Rattle.bit_fields.proofs.Getting.{read-field, read-plain, read-congruent}
 use Rattle.bit_fields.proofs.Record.get.Goals as goal
 
-pub returns : goal.returns
-returns g c = field-items g.F.Integer.IS_SIGNED c.args.self.now.bits c.args.start g.F.Integer.BITS (g.F.Integer.number c.extract_u128.result) c.extract_u128.ensures.value
+pub returns-clause-value : goal.returns-clause-value
+returns-clause-value g c =
+    let small : c.args.self.now.bits < 2 ^ 128 = search rules in
+    read-field g.F.Integer.IS_SIGNED g.F.Integer.BITS c.args.start c.args.self.now.bits (g.F.Integer.number c.from_extended.result)
+    (g.met.F.Integer.width_law c.requires.width) c.requires.within small c.from_extended.ensures
+
+pub returns-clause-plain : goal.returns-clause-plain
+returns-clause-plain g c =
+    let small : c.args.self.now.bits < 2 ^ 128 = search rules in
+    read-plain g.F.Integer.IS_SIGNED g.F.Integer.BITS c.args.start c.args.self.now.bits (g.F.Integer.number c.from_extended.result)
+    (g.met.F.Integer.width_law c.requires.width) c.requires.within small c.from_extended.ensures
+
+pub returns-clause-congruent : goal.returns-clause-congruent
+returns-clause-congruent g c =
+    let small : c.args.self.now.bits < 2 ^ 128 = search rules in
+    read-congruent g.F.Integer.IS_SIGNED g.F.Integer.BITS c.args.start c.args.self.now.bits (g.F.Integer.number c.from_extended.result)
+    (g.met.F.Integer.width_law c.requires.width) c.requires.within small c.from_extended.ensures

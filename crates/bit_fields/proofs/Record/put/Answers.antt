@@ -1,4 +1,6 @@
-use Rattle.bit_fields.proofs.Putting.{put-is, read-back, read-below, read-above}
+use Rattle.std.specs.Prelude.{◌<◌, ◌^◌}
+use Rattle.std.proofs.Common.{rules}
+use Rattle.bit_fields.proofs.Putting.{put-is, read-back, read-below, read-above, read-same}
 use Rattle.bit_fields.proofs.Record.put.Goals as goal
 
 pub returns-clause-bits : goal.returns-clause-bits
@@ -18,3 +20,9 @@ returns-clause-below g c =
 pub returns-clause-above : goal.returns-clause-above
 returns-clause-above g c =
     read-above c.args.self.now.bits c.args.start g.F.Integer.BITS c.replaced-self.result (g.F.Integer.number c.args.value) (returns-clause-bits g c) c.requires
+
+pub returns-clause-same : goal.returns-clause-same
+returns-clause-same g c =
+    let small : c.args.self.now.bits < 2 ^ 128 = search rules in
+    read-same c.args.self.now.bits c.args.start g.F.Integer.BITS c.replaced-self.result (g.F.Integer.number c.args.value) (returns-clause-bits g c) c.requires
+    g.F.Integer.IS_SIGNED small
