@@ -1,9 +1,8 @@
 //! The lines and the words of a text, in one pass.
 
-ghost use Rattle.std.specs.Prelude.{◌≡◌, ◌==◌, ◌<◌, ◌-◌, [], ◌∷◌, true, drop, length, position, Some, None, IfSome, MatchOption, if◌then◌else◌};
-ghost use Rattle.std.specs.Char.{is_ascii_digit};
+ghost use Rattle.std.specs.Prelude.{◌≡◌, ◌==◌, ◌<◌, [], ◌∷◌, true, drop, length, position, Some, None, IfSome, MatchOption, if◌then◌else◌};
 ghost use Rattle.std.specs.List.{position_or_len, before_first, after_first};
-ghost use Rattle.step_text.specs.Numeral.{Reads, number_below, first_number};
+ghost use Rattle.step_text.specs.Numeral.{number_below, first_number};
 ghost use Rattle.step_text.specs.Text.{ends_line, is_blank, is_solid, ends_word, word_lines, Left, left_of};
 
 use std::marker::Model;
@@ -103,10 +102,6 @@ impl<'a> Cursor<'a> {
 fn without_blanks(text: &[u8]) -> &[u8]
     ensures { result.now ≡ drop (position_or_len is_solid text.now) text.now }
 {
-    // One blank before a word is the rule.
-    if let [first, rest @ ..] = text && is_blank(*first) && begins_with_word(rest) {
-        return rest;
-    }
     match word_start(text) {
         Some(start) => {
             let (_, rest) = text.split_at(start);
@@ -114,13 +109,6 @@ fn without_blanks(text: &[u8]) -> &[u8]
         }
         None => b"",
     }
-}
-
-/// Whether the text surely begins with a byte that isn't a blank: no blank is above a space.
-fn begins_with_word(text: &[u8]) -> bool
-    ensures { result ≡ true → position_or_len is_solid text.now ≡ 0 }
-{
-    matches!(text, [first, ..] if *first > b' ')
 }
 
 /// The word that the text begins with, which may be empty, and what follows it.
@@ -141,7 +129,8 @@ fn split_number(text: &[u8], limit: u64) -> Option<(u64, &[u8])>
     ensures below { IfSome result (λ p. p.0 < limit) }
     ensures rest { IfSome result (λ p. p.1.now ≡ drop (position_or_len ends_word text.now) text.now) }
 {
-    let (mut number, mut at) = first_digits(text);
+    let mut number = 0u64;
+    let mut at = 0;
     while at < text.len() && text[at].is_ascii_digit() {
         number = number
             .checked_mul(10)?
@@ -153,30 +142,6 @@ fn split_number(text: &[u8], limit: u64) -> Option<(u64, &[u8])>
         return None;
     }
     Some((number, rest))
-}
-
-/// The number that the first digits of the text write, and how many these are: three at most. Most numbers have no more.
-#[inline(always)]
-fn first_digits(text: &[u8]) -> (u64, usize)
-    ensures { Reads text.now result.1 result.0 }
-{
-    match text {
-        [a @ b'0'..=b'9', b @ b'0'..=b'9', c @ b'0'..=b'9', ..] => {
-            (100 * digit(*a) + 10 * digit(*b) + digit(*c), 3)
-        }
-        [a @ b'0'..=b'9', b @ b'0'..=b'9', ..] => (10 * digit(*a) + digit(*b), 2),
-        [a @ b'0'..=b'9', ..] => (digit(*a), 1),
-        _ => (0, 0),
-    }
-}
-
-/// The value of a digit.
-#[inline(always)]
-fn digit(byte: u8) -> u64
-    requires { is_ascii_digit byte ≡ true }
-    ensures { result ≡ byte - 48 }
-{
-    u64::from(byte - b'0')
 }
 
 /// Whether no word goes on at the beginning of the text.
