@@ -1,8 +1,10 @@
 -- The bytes of a number, and the number of bytes. Everything goes through the bytes by division.
+use Rattle.std.specs.Prelude.{true, negsuc, unsigned_abs, reverse, ◌-◌}
 use Rattle.std.proofs.Common.{get_or, ◌≡◌, ℕ, zero, suc, ◌+◌, ◌*◌, ◌/◌, ◌%◌, ◌^◌, ◌<◌, ◌≤◌, Bool, List, [], ◌∷◌, length, take, drop, pos, ℤ, refl, sym, ap, ◌∙◌, subst, arith, false, mod-eq_of_lt}
 use Rattle.std.proofs.Math.Nat.{pow-suc, div-div-eq-div-mul, div-one, mod-one}
-use Rattle.std.proofs.lemmas.Nat.{pow-add, mod-pow-add}
-use Rattle.std.proofs.lemmas.List.{get_or-drop, length-drop, reverse-reverse}
+use Rattle.std.proofs.lemmas.Int.{ints}
+use Rattle.std.proofs.lemmas.Nat.{pow-add, pow_pos, mod-pow-add}
+use Rattle.std.proofs.lemmas.List.{get_or-drop, get_or-reverse, length-drop, reverse-reverse}
 use Rattle.std.specs.Int.{w128, byte_at, bytes_low_first, to_le_bytes}
 use Rattle.arbitrary_base.specs.Range.{InRange}
 use Rattle.arbitrary_base.specs.Residue.{residue, wrap}
@@ -171,6 +173,36 @@ pub number_of-unsigned : (s : Bool) (B n : ℕ) (x : ℤ) (l : List ℕ) → B �
 number_of-unsigned s B n x l w h f e u =
     let small : bytes_number l < 2 ^ (8 * n) = subst (λ (k : ℕ). k < 2 ^ (8 * n)) (sym (ap bytes_number e ∙ bytes_number-bytes n x)) (residue-lt (8 * n) x) in
     sym (unsigned-number_of s B n x l w h (sym (wrap-number_of s B n x l w h f (sym e))) small u)
+
+-- ---- a byte at a place
+
+low-at : (n p i : ℕ) → i < n → get_or (low_bytes n p) i 0 ≡ p / 256 ^ i % 256
+unfolding low_bytes
+low-at zero p i h = absurd (omega arith)
+low-at (suc n) p zero h = ap (λ (q : ℕ). q % 256) (sym (div-one p))
+low-at (suc n) p (suc i) h =
+    let e : 256 * 256 ^ i ≡ 256 ^ suc i = omega (arith, pow-suc 256 i) in
+    low-at n (p / 256) i (omega arith) ∙ ap (λ (q : ℕ). q % 256) (div-div-eq-div-mul p 256 (256 ^ i) ∙ ap (λ (d : ℕ). p / d) e)
+
+-- of a number with no sign, by division
+pub byte-at : (s : Bool) (B n i : ℕ) (x : ℤ) (l : List ℕ) → B ≡ 8 * n → InRange s B x → l ≡ bytes n x → s ≡ false → i < n
+    → get_or l i 0 ≡ unsigned_abs x / 256 ^ i % 256
+byte-at true B n i x l w f e u h = cc
+byte-at false B n i (negsuc m) l w f e u h = let k = f.low in absurd (omega (arith, ints))
+byte-at false B n i (pos m) l w f e u h =
+    let t = f.high in
+    let p = pow_pos B in
+    let small : m < 2 ^ (8 * n) = subst (λ (k : ℕ). m < 2 ^ k) w (omega (arith, ints)) in
+    ap (λ (k : List ℕ). get_or k i 0) (e ∙ bytes-low n (pos m)) ∙ low-at n (residue (8 * n) (pos m)) i h
+    ∙ ap (λ (q : ℕ). q / 256 ^ i % 256) (residue-pos (8 * n) m small)
+
+pub byte-at_reversed : (s : Bool) (B n i : ℕ) (x : ℤ) (l : List ℕ) → B ≡ 8 * n → InRange s B x → l ≡ reverse (bytes n x) → s ≡ false → i < n
+    → get_or l i 0 ≡ unsigned_abs x / 256 ^ (n - 1 - i) % 256
+byte-at_reversed s B n i x l w f e u h =
+    let len = length-bytes n x in
+    ap (λ (k : List ℕ). get_or k i 0) e ∙ get_or-reverse (bytes n x) i 0 (omega arith)
+    ∙ ap (λ (k : ℕ). get_or (bytes n x) k 0) (let d : length (bytes n x) - 1 - i ≡ n - 1 - i = omega arith in d)
+    ∙ byte-at s B n (n - 1 - i) x (bytes n x) w f refl u (omega arith)
 
 -- ---- the laws of specs/Laws
 

@@ -11,7 +11,7 @@ use Rattle.arbitrary_base.specs.BitList.{bits, num, val, fill, items}
 use Rattle.arbitrary_base.specs.Field.{IsField, field}
 use Rattle.arbitrary_base.proofs.Ring.{sub-mul_z, mul_assoc_z, neg-mul_z, pos-unsigned_abs}
 use Rattle.arbitrary_base.proofs.Wrap.{residue-congruent, wrap-same}
-use Rattle.arbitrary_base.proofs.Primitive.{residue-pos, wrap-pos}
+use Rattle.arbitrary_base.proofs.Primitive.{mod-congruent, residue-pos, wrap-pos}
 use Rattle.arbitrary_base.proofs.Narrow.{residue-mod}
 use Rattle.arbitrary_base.proofs.BitNumber.{length-bits, num-take}
 use Rattle.arbitrary_base.proofs.BitShift.{length-items}
@@ -31,6 +31,10 @@ items-congruent s B W start n h g f = wrapped-congruent s B (pos (n / 2 ^ start)
 
 pub field-items : (W start B n : ℕ) → 1 ≤ B → start + B ≤ W → n < 2 ^ W → val false (items start B (bits W (pos n))) ≡ field n start B
 field-items W start B n h g f = val-items false B W start n h g f ∙ wrap-pos B (n / 2 ^ start) h
+
+pub items-wrapped : (s : Bool) (B W start n : ℕ) → 1 ≤ B → start + B ≤ W → n < 2 ^ W
+    → val s (items start B (bits W (pos n))) ≡ wrap s B (field n start B)
+items-wrapped s B W start n h g f = val-items s B W start n h g f ∙ sym (wrap-same s B _ _ h (mod-congruent B (n / 2 ^ start)))
 
 pub items-plain : (s : Bool) (B W start n : ℕ) → s ≡ false → 1 ≤ B → start + B ≤ W → n < 2 ^ W
     → val s (items start B (bits W (pos n))) ≡ pos (n / 2 ^ start % 2 ^ B)
@@ -79,4 +83,4 @@ field-of start B x z c =
 pub items-field : (s : Bool) (B W start : ℕ) (x : ℤ) → 1 ≤ B → start + B ≤ W → InRange true W x → IsField start B x (val s (items start B (bits W x)))
 items-field s B W start x h g r = field-of start B x _ (wrapped-congruent s B (int_shr x start) _ (items-wrap s B W start x _ h g r refl))
 
-pub ruleset fields = (items-congruent, items-plain, items-field)
+pub ruleset fields = (items-congruent, items-plain, items-field, items-wrapped)

@@ -38,5 +38,6 @@ pub mod RingLaws
 pub mod ShiftLaws
 pub mod RotationLaws
 pub mod CountLaws
+pub mod CountBounds
 pub mod MixedLaws
 pub mod ExactLaws

@@ -1,8 +1,8 @@
 //! The value of some bits of a wider word.
 
 ghost use Rattle.std.specs.Prelude.{◌≡◌, ◌≤◌, ◌+◌, ◌/◌, ◌%◌, ◌^◌, pos, false};
-ghost use Rattle.arbitrary_base.specs.Residue.{Congruent};
-ghost use Rattle.arbitrary_base.specs.Field.{IsField};
+ghost use Rattle.arbitrary_base.specs.Residue.{Congruent, wrap};
+ghost use Rattle.arbitrary_base.specs.Field.{field, IsField};
 ghost use Rattle.arbitrary_base.specs.BitList.{bits, val, items};
 
 use crate::fixed_width::FixedWidth;
@@ -18,6 +18,7 @@ pub trait Extraction: FixedWidth {
         ensures value { Self.number result ≡ val Self.IS_SIGNED (items start_bit Self.BITS (bits 8 (pos value))) }
         ensures plain { Self.IS_SIGNED ≡ false → Self.number result ≡ pos (value / 2 ^ start_bit % 2 ^ Self.BITS) }
         ensures congruent { Congruent Self.BITS (Self.number result) (pos (value / 2 ^ start_bit)) }
+        ensures wrapped { Self.number result ≡ wrap Self.IS_SIGNED Self.BITS (field value start_bit Self.BITS) }
     {
         Self::from_kept(extraction::extract(value, start_bit, Self::BITS))
     }
@@ -30,6 +31,7 @@ pub trait Extraction: FixedWidth {
         ensures value { Self.number result ≡ val Self.IS_SIGNED (items start_bit Self.BITS (bits 16 (pos value))) }
         ensures plain { Self.IS_SIGNED ≡ false → Self.number result ≡ pos (value / 2 ^ start_bit % 2 ^ Self.BITS) }
         ensures congruent { Congruent Self.BITS (Self.number result) (pos (value / 2 ^ start_bit)) }
+        ensures wrapped { Self.number result ≡ wrap Self.IS_SIGNED Self.BITS (field value start_bit Self.BITS) }
     {
         Self::from_kept(extraction::extract(value, start_bit, Self::BITS))
     }
@@ -42,6 +44,7 @@ pub trait Extraction: FixedWidth {
         ensures value { Self.number result ≡ val Self.IS_SIGNED (items start_bit Self.BITS (bits 32 (pos value))) }
         ensures plain { Self.IS_SIGNED ≡ false → Self.number result ≡ pos (value / 2 ^ start_bit % 2 ^ Self.BITS) }
         ensures congruent { Congruent Self.BITS (Self.number result) (pos (value / 2 ^ start_bit)) }
+        ensures wrapped { Self.number result ≡ wrap Self.IS_SIGNED Self.BITS (field value start_bit Self.BITS) }
     {
         Self::from_kept(extraction::extract(value, start_bit, Self::BITS))
     }
@@ -54,6 +57,7 @@ pub trait Extraction: FixedWidth {
         ensures value { Self.number result ≡ val Self.IS_SIGNED (items start_bit Self.BITS (bits 64 (pos value))) }
         ensures plain { Self.IS_SIGNED ≡ false → Self.number result ≡ pos (value / 2 ^ start_bit % 2 ^ Self.BITS) }
         ensures congruent { Congruent Self.BITS (Self.number result) (pos (value / 2 ^ start_bit)) }
+        ensures wrapped { Self.number result ≡ wrap Self.IS_SIGNED Self.BITS (field value start_bit Self.BITS) }
     {
         Self::from_kept(extraction::extract(value, start_bit, Self::BITS))
     }
@@ -66,6 +70,7 @@ pub trait Extraction: FixedWidth {
         ensures value { Self.number result ≡ val Self.IS_SIGNED (items start_bit Self.BITS (bits 128 (pos value))) }
         ensures plain { Self.IS_SIGNED ≡ false → Self.number result ≡ pos (value / 2 ^ start_bit % 2 ^ Self.BITS) }
         ensures congruent { Congruent Self.BITS (Self.number result) (pos (value / 2 ^ start_bit)) }
+        ensures wrapped { Self.number result ≡ wrap Self.IS_SIGNED Self.BITS (field value start_bit Self.BITS) }
     {
         Self::from_kept(extraction::extract(value, start_bit, Self::BITS))
     }

@@ -1,6 +1,6 @@
 //! What every integer of fixed width can do, each call written once for both types.
 
-ghost use Rattle.std.specs.Prelude.{◌≡◌, ◌≢◌, ◌↔◌, ◌≤◌, ◌+◌, ◌-◌, ◌*◌, ◌%◌, ◌^◌, ◌≤ℤ◌, ◌<ℤ◌, ◌+ℤ◌, ◌-ℤ◌, ◌*ℤ◌, ℤ, pos, unsigned_abs, IsTrue, IsNone, IfSome, false, true, int_div, reverse};
+ghost use Rattle.std.specs.Prelude.{◌≡◌, ◌≢◌, ◌↔◌, ◌≤◌, ◌<◌, ◌+◌, ◌-◌, ◌*◌, ◌%◌, ◌^◌, ◌≤ℤ◌, ◌<ℤ◌, ◌+ℤ◌, ◌-ℤ◌, ◌*ℤ◌, ℤ, pos, unsigned_abs, IsTrue, IsNone, IfSome, false, true, int_div, reverse};
 ghost use Rattle.arbitrary_base.specs.Range.{InRange, lo, hi};
 ghost use Rattle.arbitrary_base.specs.Residue.{Congruent, wrap};
 ghost use Rattle.arbitrary_base.specs.Saturation.{clamp};
@@ -373,10 +373,12 @@ pub trait FixedWidth: Integer + Patterned {
     }
 
     /// How many of the bits are one.
-    #[tactic(auto, using(arbitrary_base::proofs::BitResult::count_laws))]
+    #[tactic(auto, using(arbitrary_base::proofs::BitResult::count_laws, arbitrary_base::proofs::CountBounds::ones_bounds))]
     final fn count_ones(self) -> u32
         ensures value { result ≡ ones (bits Self.BITS (Self.number self)) }
         ensures bound { result ≤ Self.BITS }
+        ensures none { Self.number self ≡ pos 0 → result ≡ 0 }
+        ensures some { Self.number self ≢ pos 0 → 1 ≤ result }
     {
         patterns::count_ones(self.pattern(), Self::BITS)
     }
@@ -405,6 +407,11 @@ pub trait FixedWidth: Integer + Patterned {
     final fn leading_zeros(self) -> u32
         ensures value { result ≡ tail false (bits Self.BITS (Self.number self)) }
         ensures bound { result ≤ Self.BITS }
+        ensures none { Self.number self ≡ pos 0 → result ≡ Self.BITS }
+        ensures found { Self.number self ≢ pos 0 → result < Self.BITS }
+        ensures negative { Self.number self <ℤ pos 0 → result ≡ 0 }
+        ensures low { pos 0 <ℤ Self.number self → pos (2 ^ (Self.BITS - 1 - result)) ≤ℤ Self.number self }
+        ensures high { pos 0 ≤ℤ Self.number self → Self.number self <ℤ pos (2 ^ (Self.BITS - result)) }
     {
         patterns::leading_zeros(cut(self.pattern(), Self::BITS), Self::BITS)
     }
@@ -419,10 +426,14 @@ pub trait FixedWidth: Integer + Patterned {
     }
 
     /// How many bits at the low end are zero before the first that is one, or all of them.
-    #[tactic(auto, using(arbitrary_base::proofs::BitResult::count_laws))]
+    #[tactic(auto, using(arbitrary_base::proofs::BitResult::count_laws, arbitrary_base::proofs::CountBounds::trailing_bounds))]
     final fn trailing_zeros(self) -> u32
         ensures value { result ≡ front false (bits Self.BITS (Self.number self)) }
         ensures bound { result ≤ Self.BITS }
+        ensures none { Self.number self ≡ pos 0 → result ≡ Self.BITS }
+        ensures found { Self.number self ≢ pos 0 → result < Self.BITS }
+        ensures low { Congruent result (Self.number self) (pos 0) }
+        ensures one { Self.number self ≢ pos 0 → Congruent (result + 1) (Self.number self) (pos (2 ^ result)) }
     {
         patterns::trailing_zeros(self.pattern(), Self::BITS)
     }

@@ -1,6 +1,6 @@
 //! Integers of whole bytes, and their bytes.
 
-ghost use Rattle.std.specs.Prelude.{◌≡◌, ◌*◌, ℤ, pos, false, refl, reverse};
+ghost use Rattle.std.specs.Prelude.{◌≡◌, ◌-◌, ◌*◌, ◌/◌, ◌%◌, ◌^◌, ◌<◌, ℕ, ℤ, pos, false, get_or, refl, reverse, unsigned_abs};
 ghost use Rattle.std.proofs.Common.{lit≤};
 ghost use Rattle.arbitrary_base.specs.Range.{InRange};
 ghost use Rattle.arbitrary_base.specs.Residue.{wrap};
@@ -25,6 +25,8 @@ pub trait ByteOrders<const N: usize>: FixedWidth {
     final fn to_le_bytes(self) -> [u8; N]
         ensures bytes { result ≡ bytes N (Self.number self) }
         ensures unsigned { Self.IS_SIGNED ≡ false → pos (bytes_number result) ≡ Self.number self }
+        ensures plain { Self.IS_SIGNED ≡ false → (i : ℕ) → i < N → get_or result i 0 ≡ unsigned_abs (Self.number self) / 256 ^ i % 256 }
+        ensures range { InRange Self.IS_SIGNED Self.BITS (Self.number self) }
     {
         let all = all_bytes(self.extended());
         let mut list = [0; N];
@@ -36,6 +38,8 @@ pub trait ByteOrders<const N: usize>: FixedWidth {
     final fn to_be_bytes(self) -> [u8; N]
         ensures bytes { result ≡ reverse (bytes N (Self.number self)) }
         ensures unsigned { Self.IS_SIGNED ≡ false → pos (bytes_number (reverse result)) ≡ Self.number self }
+        ensures plain { Self.IS_SIGNED ≡ false → (i : ℕ) → i < N → get_or result i 0 ≡ unsigned_abs (Self.number self) / 256 ^ (N - 1 - i) % 256 }
+        ensures range { InRange Self.IS_SIGNED Self.BITS (Self.number self) }
     {
         let mut list = self.to_le_bytes();
         list.reverse();
@@ -46,6 +50,8 @@ pub trait ByteOrders<const N: usize>: FixedWidth {
     final fn to_ne_bytes(self) -> [u8; N]
         ensures bytes { result ≡ bytes N (Self.number self) }
         ensures unsigned { Self.IS_SIGNED ≡ false → pos (bytes_number result) ≡ Self.number self }
+        ensures plain { Self.IS_SIGNED ≡ false → (i : ℕ) → i < N → get_or result i 0 ≡ unsigned_abs (Self.number self) / 256 ^ i % 256 }
+        ensures range { InRange Self.IS_SIGNED Self.BITS (Self.number self) }
     {
         self.to_le_bytes()
     }
@@ -84,7 +90,9 @@ pub trait ByteOrders<const N: usize>: FixedWidth {
 
     /// The value that has the same bytes in the other order.
     final fn swap_bytes(self) -> Self
-        ensures { bytes N (Self.number result) ≡ reverse (bytes N (Self.number self)) }
+        ensures bytes { bytes N (Self.number result) ≡ reverse (bytes N (Self.number self)) }
+        ensures undo { (y : ℤ) → InRange Self.IS_SIGNED Self.BITS y → bytes N (Self.number self) ≡ reverse (bytes N y) → Self.number result ≡ y }
+        ensures range { InRange Self.IS_SIGNED Self.BITS (Self.number self) }
     {
         Self::from_be_bytes(self.to_le_bytes())
     }

@@ -140,8 +140,9 @@ pub trait Integer: Copy
     /// The same number, which is in range of this type, from any other. The width is valid.
     final fn from_<T: Integer>(value: T) -> Self
         requires width { valid }
-        requires range { InRange IS_SIGNED BITS (T.number value) }
-        ensures { number result ≡ T.number value }
+        requires range { InRange T.IS_SIGNED T.BITS (T.number value) → InRange IS_SIGNED BITS (T.number value) }
+        ensures value { number result ≡ T.number value }
+        ensures range { InRange T.IS_SIGNED T.BITS (T.number value) }
     {
         Self::masked_new(value)
     }

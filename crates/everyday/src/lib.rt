@@ -4,6 +4,7 @@
 
 pub mod arithmetic;
 pub mod bits;
+pub mod bytes;
 pub mod conversions;
 pub mod counters;
 pub mod defaults;

@@ -20,6 +20,28 @@ pub fn count(x: &mut u7)
     }
 }
 
+/// Counts by one where the caller shows that there is room.
+pub fn incremented(x: &mut u24)
+    requires { x.old <ℤ pos 16777215 }
+    ensures { x.new ≡ x.old +ℤ pos 1 }
+{
+    *x += u24::new(1);
+}
+
+/// Counts up to the greatest number, by a comparison of what stands behind the reference.
+pub fn count_to_the_end(x: &mut u12) {
+    if *x < u12::max_value() {
+        *x += u12::new(1);
+    }
+}
+
+/// A converted number behind a reference.
+pub fn widened(x: &u7) -> u12
+    ensures { result ≡ x.now }
+{
+    u12::from_(*x)
+}
+
 #[derive(Clone, Copy, Debug, PartialEq, Eq)]
 pub struct Timer {
     pub count: u7,
@@ -35,6 +57,19 @@ impl Timer {
         if self.count.value() < 127 {
             self.count += u7::new(1);
         }
+    }
+
+    pub fn byte(&self) -> u8
+        ensures { pos result ≡ self.now.count }
+    {
+        u8::from_(self.count)
+    }
+
+    /// The count so many steps later, and then from 0 on.
+    pub fn wrapped(&mut self, by: u7)
+        ensures inside { (self.old.count +ℤ by) <ℤ pos 128 → self.new.count ≡ self.old.count +ℤ by }
+    {
+        self.count = self.count.wrapping_add(by);
     }
 
     pub fn steps(self) -> u3

@@ -4,7 +4,7 @@ use arbitrary_int::prelude::*;
 
 /// Counts one more, where there is room.
 pub fn count(counter: &mut u12) {
-    if counter.value() < 4095 {
+    if *counter < u12::max_value() {
         *counter += u12::new(1);
     }
 }
@@ -27,7 +27,7 @@ pub fn count_by_value(counter: &mut u12) {
 pub fn total(samples: &[u4]) -> u12 {
     let mut total = u12::new(0);
     for sample in samples {
-        total = total.saturating_add(u12::new(u16::from(sample.value())));
+        total = total.saturating_add(u12::from_(*sample));
     }
     total
 }
@@ -36,7 +36,7 @@ pub fn total(samples: &[u4]) -> u12 {
 pub fn steps(count: u32) -> u12 {
     let mut total = u12::new(0);
     for _ in 0..count {
-        if total.value() < 4095 {
+        if total < u12::max_value() {
             total += u12::new(1);
         }
     }

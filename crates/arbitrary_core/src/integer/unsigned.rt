@@ -100,15 +100,15 @@ where
 
     ghost debug_output_law = { λ a. refl };
 
-    ghost can_add_law = { λ a b h. h };
+    ghost can_add_law = { λ a b h _ _. h };
 
     ghost add_law = { λ a b r h f. h };
 
-    ghost can_sub_law = { λ a b h. h };
+    ghost can_sub_law = { λ a b h _ _. h };
 
     ghost sub_law = { λ a b r h f. h };
 
-    ghost can_mul_law = { λ a b h. h };
+    ghost can_mul_law = { λ a b h _ _. h };
 
     ghost mul_law = { λ a b r h f. h };
 

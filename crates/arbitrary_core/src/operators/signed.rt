@@ -1,5 +1,5 @@
 //! `+ - * /` and unary minus of `Int`, exact: the caller shows that the result is in range, and that a
-//! divisor is not zero.
+//! divisor is not zero. That the operands are in range is given.
 
 ghost use Rattle.std.specs.Prelude.{◌≡◌, ◌≢◌, ◌+ℤ◌, ◌-ℤ◌, ◌*ℤ◌, neg_ℤ, pos, int_div};
 ghost use Rattle.arbitrary_base.specs.Range.{InRange};
@@ -15,7 +15,7 @@ where
 {
     type Output = Int<T, BITS>;
 
-    ghost can_add = { λ a b. InRange T.SIGNED BITS (a +ℤ b) };
+    ghost can_add = { λ a b. InRange T.SIGNED BITS a → InRange T.SIGNED BITS b → InRange T.SIGNED BITS (a +ℤ b) };
 
     ghost add_gives = { λ a b r. r ≡ a +ℤ b };
 
@@ -29,7 +29,7 @@ impl<T: BuiltinInteger + SignedStorage, const BITS: usize> AddAssign<Int<T, BITS
 where
     T::Unsigned: PatternOf<T>,
 {
-    ghost can_add_assign = { λ a b. InRange T.SIGNED BITS (a +ℤ b) };
+    ghost can_add_assign = { λ a b. InRange T.SIGNED BITS a → InRange T.SIGNED BITS b → InRange T.SIGNED BITS (a +ℤ b) };
 
     ghost add_assign_gives = { λ a b r. r ≡ a +ℤ b };
 
@@ -44,7 +44,7 @@ where
 {
     type Output = Int<T, BITS>;
 
-    ghost can_sub = { λ a b. InRange T.SIGNED BITS (a -ℤ b) };
+    ghost can_sub = { λ a b. InRange T.SIGNED BITS a → InRange T.SIGNED BITS b → InRange T.SIGNED BITS (a -ℤ b) };
 
     ghost sub_gives = { λ a b r. r ≡ a -ℤ b };
 
@@ -58,7 +58,7 @@ impl<T: BuiltinInteger + SignedStorage, const BITS: usize> SubAssign<Int<T, BITS
 where
     T::Unsigned: PatternOf<T>,
 {
-    ghost can_sub_assign = { λ a b. InRange T.SIGNED BITS (a -ℤ b) };
+    ghost can_sub_assign = { λ a b. InRange T.SIGNED BITS a → InRange T.SIGNED BITS b → InRange T.SIGNED BITS (a -ℤ b) };
 
     ghost sub_assign_gives = { λ a b r. r ≡ a -ℤ b };
 
@@ -73,7 +73,7 @@ where
 {
     type Output = Int<T, BITS>;
 
-    ghost can_mul = { λ a b. InRange T.SIGNED BITS (a *ℤ b) };
+    ghost can_mul = { λ a b. InRange T.SIGNED BITS a → InRange T.SIGNED BITS b → InRange T.SIGNED BITS (a *ℤ b) };
 
     ghost mul_gives = { λ a b r. r ≡ a *ℤ b };
 
@@ -87,7 +87,7 @@ impl<T: BuiltinInteger + SignedStorage, const BITS: usize> MulAssign<Int<T, BITS
 where
     T::Unsigned: PatternOf<T>,
 {
-    ghost can_mul_assign = { λ a b. InRange T.SIGNED BITS (a *ℤ b) };
+    ghost can_mul_assign = { λ a b. InRange T.SIGNED BITS a → InRange T.SIGNED BITS b → InRange T.SIGNED BITS (a *ℤ b) };
 
     ghost mul_assign_gives = { λ a b r. r ≡ a *ℤ b };
 

@@ -1,5 +1,5 @@
 //! `+ - * /` of `UInt`, exact: the caller shows that the result is in range, and that a
-//! divisor is not zero.
+//! divisor is not zero. That the operands are in range is given.
 
 ghost use Rattle.std.specs.Prelude.{◌≡◌, ◌≢◌, ◌+ℤ◌, ◌-ℤ◌, ◌*ℤ◌, pos, int_div};
 ghost use Rattle.arbitrary_base.specs.Range.{InRange};
@@ -12,7 +12,7 @@ use std::ops::{Add, AddAssign, Div, DivAssign, Mul, MulAssign, Sub, SubAssign};
 impl<T: UnsignedStorage, const BITS: usize> Add<UInt<T, BITS>> for UInt<T, BITS> {
     type Output = UInt<T, BITS>;
 
-    ghost can_add = { λ a b. InRange T.SIGNED BITS (a +ℤ b) };
+    ghost can_add = { λ a b. InRange T.SIGNED BITS a → InRange T.SIGNED BITS b → InRange T.SIGNED BITS (a +ℤ b) };
 
     ghost add_gives = { λ a b r. r ≡ a +ℤ b };
 
@@ -23,7 +23,7 @@ impl<T: UnsignedStorage, const BITS: usize> Add<UInt<T, BITS>> for UInt<T, BITS>
 }
 
 impl<T: UnsignedStorage, const BITS: usize> AddAssign<UInt<T, BITS>> for UInt<T, BITS> {
-    ghost can_add_assign = { λ a b. InRange T.SIGNED BITS (a +ℤ b) };
+    ghost can_add_assign = { λ a b. InRange T.SIGNED BITS a → InRange T.SIGNED BITS b → InRange T.SIGNED BITS (a +ℤ b) };
 
     ghost add_assign_gives = { λ a b r. r ≡ a +ℤ b };
 
@@ -35,7 +35,7 @@ impl<T: UnsignedStorage, const BITS: usize> AddAssign<UInt<T, BITS>> for UInt<T,
 impl<T: UnsignedStorage, const BITS: usize> Sub<UInt<T, BITS>> for UInt<T, BITS> {
     type Output = UInt<T, BITS>;
 
-    ghost can_sub = { λ a b. InRange T.SIGNED BITS (a -ℤ b) };
+    ghost can_sub = { λ a b. InRange T.SIGNED BITS a → InRange T.SIGNED BITS b → InRange T.SIGNED BITS (a -ℤ b) };
 
     ghost sub_gives = { λ a b r. r ≡ a -ℤ b };
 
@@ -46,7 +46,7 @@ impl<T: UnsignedStorage, const BITS: usize> Sub<UInt<T, BITS>> for UInt<T, BITS>
 }
 
 impl<T: UnsignedStorage, const BITS: usize> SubAssign<UInt<T, BITS>> for UInt<T, BITS> {
-    ghost can_sub_assign = { λ a b. InRange T.SIGNED BITS (a -ℤ b) };
+    ghost can_sub_assign = { λ a b. InRange T.SIGNED BITS a → InRange T.SIGNED BITS b → InRange T.SIGNED BITS (a -ℤ b) };
 
     ghost sub_assign_gives = { λ a b r. r ≡ a -ℤ b };
 
@@ -58,7 +58,7 @@ impl<T: UnsignedStorage, const BITS: usize> SubAssign<UInt<T, BITS>> for UInt<T,
 impl<T: UnsignedStorage, const BITS: usize> Mul<UInt<T, BITS>> for UInt<T, BITS> {
     type Output = UInt<T, BITS>;
 
-    ghost can_mul = { λ a b. InRange T.SIGNED BITS (a *ℤ b) };
+    ghost can_mul = { λ a b. InRange T.SIGNED BITS a → InRange T.SIGNED BITS b → InRange T.SIGNED BITS (a *ℤ b) };
 
     ghost mul_gives = { λ a b r. r ≡ a *ℤ b };
 
@@ -69,7 +69,7 @@ impl<T: UnsignedStorage, const BITS: usize> Mul<UInt<T, BITS>> for UInt<T, BITS>
 }
 
 impl<T: UnsignedStorage, const BITS: usize> MulAssign<UInt<T, BITS>> for UInt<T, BITS> {
-    ghost can_mul_assign = { λ a b. InRange T.SIGNED BITS (a *ℤ b) };
+    ghost can_mul_assign = { λ a b. InRange T.SIGNED BITS a → InRange T.SIGNED BITS b → InRange T.SIGNED BITS (a *ℤ b) };
 
     ghost mul_assign_gives = { λ a b r. r ≡ a *ℤ b };
 

@@ -6,6 +6,7 @@ use arbitrary_int::prelude::*;
 #[test]
 fn fields_in_a_record(rt: HostRuntime) {
     assert_eq!(rt; Record { bits: 168 }.get::<i5>(3), i5::new(-11));
+    assert_eq!(rt; Record { bits: 0x1234 }.get::<u8>(4), 0x23);
     assert_eq!(rt;
         {
             let mut record = Record { bits: 0 };

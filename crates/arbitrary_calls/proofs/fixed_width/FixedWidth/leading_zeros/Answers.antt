@@ -1,19 +1,29 @@
-use Rattle.std.specs.Prelude.{◌≡◌, ◌≤◌, ◌%◌, ◌^◌, ℕ, pos, false}
+use Rattle.std.specs.Prelude.{◌≡◌, ◌≤◌, ◌<◌, ◌-◌, ◌%◌, ◌^◌, ◌<ℤ◌, ◌≤ℤ◌, ℕ, pos, false}
 use Rattle.std.proofs.Common.{ap, sym, subst, ◌∙◌}
 use Rattle.std.proofs.Math.Nat.{mod-eq_of_lt}
 use Rattle.arbitrary_base.specs.BitList.{bits, tail}
 use Rattle.arbitrary_base.proofs.BitCount.{tail-fits}
 use Rattle.arbitrary_base.proofs.BitValue.{bits-residue}
+use Rattle.arbitrary_base.proofs.CountBounds.{leading-none, leading-found, leading-negative, leading-low, leading-high}
 use Rattle.arbitrary_calls.proofs.fixed_width.FixedWidth.leading_zeros.Goals as goal
 
 pub returns : goal.returns
 returns g c =
+    let s = g.Self.Integer.IS_SIGNED in
+    let B = g.Self.Integer.BITS in
     let x = g.Self.Integer.number c.args.self in
-    let n : c.cut.result ≡ c.pattern.result % 2 ^ g.Self.Integer.BITS = cc in
+    let h = c.pattern.ensures.some in
+    let f = c.pattern.ensures.range in
+    let n : c.cut.result ≡ c.pattern.result % 2 ^ B = cc in
     let p = n ∙ mod-eq_of_lt c.pattern.ensures.fits ∙ c.pattern.ensures.value in
-    let v : c.leading_zeros.result ≡ tail false (bits g.Self.Integer.BITS (pos c.cut.result)) = cc in
-    let e = v ∙ ap (tail false) (bits-residue g.Self.Integer.BITS _ x p) in
+    let v : c.leading_zeros.result ≡ tail false (bits B (pos c.cut.result)) = cc in
+    let e = v ∙ ap (tail false) (bits-residue B _ x p) in
     record {
       value = e;
-      bound = subst (λ (m : ℕ). m ≤ g.Self.Integer.BITS) (sym e) (tail-fits false g.Self.Integer.BITS x);
+      bound = subst (λ (m : ℕ). m ≤ B) (sym e) (tail-fits false B x);
+      none = λ z. e ∙ leading-none s B x h f z;
+      found = λ d. subst (λ (m : ℕ). m < B) (sym e) (leading-found s B x h f d);
+      negative = λ l. e ∙ leading-negative s B x h f l;
+      low = λ l. subst (λ (m : ℕ). pos (2 ^ (B - 1 - m)) ≤ℤ x) (sym e) (leading-low s B x h f l);
+      high = λ l. subst (λ (m : ℕ). x <ℤ pos (2 ^ (B - m))) (sym e) (leading-high s B x h f l);
     }

@@ -1,5 +1,5 @@
 use Rattle.std.proofs.Common.{◌∙◌, arith}
-use Rattle.arbitrary_base.proofs.ByteNumber.{bytes-residue, number_of-unsigned}
+use Rattle.arbitrary_base.proofs.ByteNumber.{byte-at, bytes-residue, number_of-unsigned}
 use Rattle.arbitrary_int.proofs.byte_orders.ByteOrders.to_le_bytes.Goals as goal
 
 pub returns-clause-bytes : goal.returns-clause-bytes
@@ -11,3 +11,7 @@ returns-clause-bytes g c =
 pub returns-clause-unsigned : goal.returns-clause-unsigned
 returns-clause-unsigned g c u =
     number_of-unsigned _ _ _ _ _ g.met.Self.ByteOrders.width_law (g.met.Self.Integer.width_law c.extended.ensures.width).0 c.extended.ensures.range (returns-clause-bytes g c) u
+
+pub returns-clause-plain : goal.returns-clause-plain
+returns-clause-plain g c u i h =
+    byte-at _ _ _ _ _ _ g.met.Self.ByteOrders.width_law c.extended.ensures.range (returns-clause-bytes g c) u h
