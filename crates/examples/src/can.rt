@@ -9,7 +9,7 @@
 //! | 8 to 15  | PDU specific       | `u8`  |
 //! | 0 to 7   | source address     | `u8`  |
 
-ghost use Rattle.std.specs.Prelude.{◌≡◌, false};
+ghost use Rattle.std.specs.Prelude.{◌≡◌, pos, false};
 ghost use Rattle.arbitrary_int.specs.BitField.{field_bits};
 ghost use Rattle.arbitrary_int.specs.BitList.{val};
 
@@ -23,10 +23,10 @@ pub struct Identifier {
     pub priority: u3,
     pub extended_data_page: u1,
     pub data_page: u1,
-    pub format: UInt<u8, 8>,
+    pub format: u8,
     /// The destination's address where the format is below 240.
-    pub specific: UInt<u8, 8>,
-    pub source: UInt<u8, 8>,
+    pub specific: u8,
+    pub source: u8,
 }
 
 impl Identifier {
@@ -35,9 +35,9 @@ impl Identifier {
         ensures priority { result.priority ≡ val false (field_bits word.now.bits 26 3) }
         ensures extended_data_page { result.extended_data_page ≡ val false (field_bits word.now.bits 25 1) }
         ensures data_page { result.data_page ≡ val false (field_bits word.now.bits 24 1) }
-        ensures format { result.format ≡ val false (field_bits word.now.bits 16 8) }
-        ensures specific { result.specific ≡ val false (field_bits word.now.bits 8 8) }
-        ensures source { result.source ≡ val false (field_bits word.now.bits 0 8) }
+        ensures format { pos result.format ≡ val false (field_bits word.now.bits 16 8) }
+        ensures specific { pos result.specific ≡ val false (field_bits word.now.bits 8 8) }
+        ensures source { pos result.source ≡ val false (field_bits word.now.bits 0 8) }
     {
         Identifier {
             priority: word.get(26),
@@ -54,9 +54,9 @@ impl Identifier {
         ensures priority { val false (field_bits word.new.bits 26 3) ≡ self.priority }
         ensures extended_data_page { val false (field_bits word.new.bits 25 1) ≡ self.extended_data_page }
         ensures data_page { val false (field_bits word.new.bits 24 1) ≡ self.data_page }
-        ensures format { val false (field_bits word.new.bits 16 8) ≡ self.format }
-        ensures specific { val false (field_bits word.new.bits 8 8) ≡ self.specific }
-        ensures source { val false (field_bits word.new.bits 0 8) ≡ self.source }
+        ensures format { val false (field_bits word.new.bits 16 8) ≡ pos self.format }
+        ensures specific { val false (field_bits word.new.bits 8 8) ≡ pos self.specific }
+        ensures source { val false (field_bits word.new.bits 0 8) ≡ pos self.source }
         ensures others { field_bits word.new.bits 29 99 ≡ field_bits word.old.bits 29 99 }
     {
         word.put(26, self.priority);

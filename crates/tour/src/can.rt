@@ -19,6 +19,6 @@ pub fn show(rt: &impl Print) -> io::Result<()> {
         identifier.source
     )?;
     record.put(26, u3::new(7));
-    record.put(0, UInt::<u8, 8>::new(0x21));
+    record.put::<u8>(0, 0x21);
     println!(rt; "{:x}", record.bits)
 }
