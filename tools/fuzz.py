@@ -166,25 +166,40 @@ def an_amount(chance, bits):
 
 
 def spelled(chance, x):
-    """The number, now and then with zeros before it, or as -0."""
+    """The number, on half of the calls with zeros before it, or as -0."""
     sign = '-' if x < 0 or x == 0 and chance.random() < 0.1 else ''
-    return sign + '0' * chance.choice([0] * 20 + [1, 7, 60]) + str(abs(x))
+    return sign + '0' * chance.choice([0] * 8 + [1, 1, 1, 2, 2, 3, 7, 60]) + str(abs(x))
+
+
+def unsigned(chance, x):
+    """The number, with or without zeros before it."""
+    return '0' * chance.choice([0, 0, 1, 1, 2, 3, 9, 25]) + str(x)
 
 
 def a_step(chance, word, count, bits):
-    registers = [str(chance.randrange(count)) for _ in range(3 if word in TWO else 2)]
-    return [word, *registers, *[str(an_amount(chance, bits))] * (word in BY)]
+    registers = [chance.randrange(count) for _ in range(3 if word in TWO else 2)]
+    numbers = registers + [an_amount(chance, bits)] * (word in BY)
+    # zeros before a number on half of the lines
+    plain = chance.random() < 0.5
+    return [word, *[str(it) if plain else unsigned(chance, it) for it in numbers]]
+
+
+def spaced(chance, words):
+    """The words of a line: one space between them as often as any other gaps."""
+    if chance.random() < 0.5:
+        return ' '.join(words)
+    gaps = [' ', '  ', '\t', ' \r', '\r', ' \t ', '     ']
+    # on half of these lines all gaps are the same, as in a text that was made by a program
+    same = chance.choice(gaps) if chance.random() < 0.5 else None
+    front, end = chance.choice(['', '', '  ', '\t']), chance.choice(['', '', '\r', '  '])
+    return front + ''.join(word + (same or chance.choice(gaps)) for word in words[:-1]) + ''.join(words[-1:]) + end
 
 
 def text(chance, lines):
-    """The lines with one space or more between their words, and now and then a blank line or no last LF."""
+    """The lines, now and then with a blank line between or no last LF."""
     rows = []
     for words in lines:
-        if chance.random() < 0.9:
-            rows.append(' '.join(words))
-        else:
-            gaps = [chance.choice([' ', '  ', '\t', ' \r', '\r']) for _ in words]
-            rows.append(''.join(chance.choice([gap, '']) * (at == 0) + word + gap for at, (word, gap) in enumerate(zip(words, gaps))))
+        rows.append(spaced(chance, words))
         rows += [chance.choice(['', ' ', '\t\r'])] * (len(rows) > 1 and chance.random() < 0.05)
     return '\n'.join(rows).encode('latin-1') + chance.choice([b'\n', b'\n', b''])
 
@@ -242,7 +257,7 @@ def inputs(chance):
         yield damaged(chance, good(chance, first, ['wadd', 'xor', 'not', 'neg'], [9], [5000]))
         yield good(chance, first, ['wadd'], [1500], [1])
     while True:
-        data = good(chance, chance.choice(HEADERS), words, [0, 1, 2, 3, 3, 5, 30], [0, 1, 2, 5, 20])
+        data = good(chance, chance.choice(HEADERS), words, [0, 1, 2, 3, 3, 5, 10, 11, 30, 100, 101, 300], [0, 1, 2, 5, 20])
         yield data if chance.random() < 0.4 else damaged(chance, data)
 
 

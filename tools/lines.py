@@ -10,6 +10,7 @@ that it has more. So the start of the process does not count. The last column ha
 is apart from the column before, a line costs more in a long input. The answers are compared with the model of fuzz.py first.
 """
 import argparse
+import functools
 import os
 import re
 import subprocess
@@ -19,7 +20,7 @@ from concurrent.futures import ThreadPoolExecutor
 from fuzz import LIMIT, model
 from program import programs
 
-ONE, TEN, HUNDRED, THOUSAND = 1, 10, 100, 1000
+TEN, HUNDRED, THOUSAND = 10, 100, 1000
 # Each kind of a line: its title, its first line, how many registers there are, the line, and the line that is the usual
 # one for its operation. {a}, {b} and {c} are numbers of registers, with as many digits as the largest has.
 USUAL = 'wadd {a} {b} {c}'
@@ -85,6 +86,7 @@ def most(make):
     return least
 
 
+@functools.lru_cache(None)
 def instructions(program, data):
     """How many instructions the whole process takes."""
     done = subprocess.run(['valgrind', '--tool=callgrind', '--callgrind-out-file=/dev/null', program], input=data, capture_output=True)

@@ -8,3 +8,4 @@ pub mod StepWords
 pub mod Families
 pub mod UsualLines
 pub mod LongNumbers
+pub mod Names

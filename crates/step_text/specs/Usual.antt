@@ -1,5 +1,6 @@
 -- Lines that are written the usual way.
-use Rattle.std.specs.Prelude.{◌≡◌, ℕ, ◌&&◌, Bool, true, List, [], ◌∷◌, ◌++◌, drop, not, Some}
+use Rattle.std.specs.Prelude.{◌≡◌, ℕ, ◌&&◌, Bool, true, List, [], ◌∷◌, ◌++◌, take, drop, codes, not, Some, None}
+use Rattle.std.specs.Int.{w32, to_be_bytes}
 use Rattle.std.specs.List.{position_or_len, before_first}
 use Rattle.step_text.specs.Text.{ends_word, left_of}
 use Rattle.step_text.specs.Numeral.{number_below}
@@ -16,6 +17,10 @@ is_whole (byte ∷ bytes) = not (ends_word byte) && is_whole bytes
 pub record IsName (name : List ℕ) (operation : Operation) : Type 0 where
   pub whole : is_whole name ≡ true
   pub names : operation_named name ≡ Some operation
+
+-- no operation has a name with which the four bytes begin, where a space and a 0 stand after a shorter one
+abbrev pub BeginsNoName : ℕ → Type 0
+BeginsNoName bytes = (name : List ℕ) → to_be_bytes w32 bytes ≡ take 4 (name ++ codes " 0") → operation_named name ≡ None
 
 -- the text begins with the name of the operation
 pub record BeginsWithName (text : List ℕ) (operation : Operation) (rest : List ℕ) : Type 0 where

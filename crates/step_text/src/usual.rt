@@ -2,13 +2,13 @@
 //! number of one digit, and nothing else before the LF. Such a line is read at once. An answer of
 //! `None` says nothing of a line, so whoever asks goes on with its words.
 
-ghost use Rattle.std.specs.Prelude.{◌≡◌, ◌≤◌, ◌<◌, ◌+◌, ◌^◌, ◌∷◌, drop, take, Some, IfSome};
+ghost use Rattle.std.specs.Prelude.{◌≡◌, ◌≤◌, ◌<◌, ◌+◌, ◌^◌, ◌∷◌, drop, take, Some, IfSome, MatchOption, ⊤};
 ghost use Rattle.std.specs.Int.{w32, to_be_bytes};
 ghost use Rattle.arbitrary_int.specs.Step.{StepWithin};
 ghost use Rattle.std.specs.List.{position_or_len, before_first};
 ghost use Rattle.step_text.specs.Text.{ends_word};
 ghost use Rattle.step_text.specs.Numeral.{number_below};
-ghost use Rattle.step_text.specs.Usual.{IsName, BeginsWithName, BeginsWithNumber, NamesStep};
+ghost use Rattle.step_text.specs.Usual.{IsName, BeginsNoName, BeginsWithName, BeginsWithNumber, NamesStep};
 
 use crate::operation::Operation;
 use crate::text::begins_with_lf;
@@ -125,12 +125,13 @@ fn last_amount(text: &[u8]) -> Option<(u32, &[u8])>
 }
 
 /// The operation that the first letters of four bytes name, and how many letters it has. The first
-/// byte is the highest.
+/// byte is the highest. Each name is known: there is no answer only where no name begins so.
 #[tactic(auto, unfolding(crate::specs::Operation::operation_named))]
 #[inline(always)]
 fn short_name(bytes: u32) -> Option<(Operation, usize)>
     ensures name { IfSome result (λ p. IsName (take p.1 (to_be_bytes w32 bytes)) p.0) }
     ensures short { IfSome result (λ p. p.1 ≤ 4) }
+    ensures each { MatchOption result (BeginsNoName bytes) (λ _. ⊤) }
 {
     const WADD: u32 = 0x7761_6464;
     const WSUB: u32 = 0x7773_7562;
