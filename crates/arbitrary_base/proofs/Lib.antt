@@ -28,6 +28,7 @@ pub mod Extracted
 pub mod Spare
 pub mod Size
 pub mod SmallNumber
+pub mod Multiple
 pub mod ByteNumber
 pub mod StreamSteps
 pub mod Pointwise

@@ -6,10 +6,11 @@ ghost use Rattle.arbitrary_base.specs.Exact.{ExactOrNone, QuotientOrNone, turned
 
 use crate::ends::{is_below, is_below_zero, is_within, is_zero, zero};
 use crate::storage::Storage;
-use crate::{small, wrapping};
+use crate::{raised, small, wrapping};
 
 /// The sum where the type has it.
-// With a bit to spare the storage's sum is in range exactly where the exact one is.
+// With a bit to spare the storage's sum is in range exactly where the exact one is. Small signed numbers have
+// the processor's flag, which costs less.
 #[tactic(auto, using(crate::proofs::Sum::arithmetic))]
 pub fn add<T: Storage>(x: T, y: T, bits: usize) -> Option<T>
     requires width { 1 ≤ bits }
@@ -18,7 +19,10 @@ pub fn add<T: Storage>(x: T, y: T, bits: usize) -> Option<T>
     requires y_in { InRange T.SIGNED bits (T.number y) }
     ensures { ExactOrNone T.number T.SIGNED bits (T.number x +ℤ T.number y) result }
 {
-    if bits < T::WIDTH {
+    if T::SIGNED && T::WIDTH <= 16 {
+        let (sum, overflow) = raised::add(x, y, bits);
+        if overflow { None } else { Some(sum) }
+    } else if bits < T::WIDTH {
         let sum = x.wrapping_add(y);
         if is_within(&sum, bits) {
             Some(sum)
