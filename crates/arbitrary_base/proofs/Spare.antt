@@ -80,3 +80,7 @@ flag-exact s B e z b h m f n =
 
 pub flag-none : (s : Bool) (B : ℕ) (e : ℤ) (b : Bool) → (IsTrue b ↔ ¬ (InRange s B e)) → b ≡ true → InRange s B e → ⊥
 flag-none s B e b f n i = f.0 (subst (λ (c : Bool). IsTrue c) (sym n) refl) i
+
+-- a product that the storage has, and that is in range there
+pub mul-kept : (s : Bool) (B W : ℕ) (e w : ℤ) (o : Bool) → 1 ≤ B → B ≤ W → w ≡ wrap s W e → (IsTrue o ↔ ¬ (InRange s W e)) → o ≡ false → InRange s B w → InRange s B e × (w ≡ e)
+mul-kept s B W e w o h g m p n i = let k = (flag-exact s W e w o (omega arith) m p n).1 in (subst (λ (v : ℤ). InRange s B v) k i, k)

@@ -1,4 +1,4 @@
-use Rattle.std.proofs.Common.{◌∙◌, ◌≡◌, to_z-of_z}
+use Rattle.std.proofs.Common.{◌∙◌, to_z-of_z}
 use Rattle.std.specs.Prelude.{◌+ℤ◌, ◌-◌}
 use Rattle.std.specs.Int.{w64}
 use Rattle.arbitrary_base.specs.Residue.{wrap}
