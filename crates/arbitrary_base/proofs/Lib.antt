@@ -28,6 +28,8 @@ pub mod Extracted
 pub mod Spare
 pub mod Size
 pub mod SmallNumber
+pub mod Multiple
+pub mod Product
 pub mod ByteNumber
 pub mod StreamSteps
 pub mod Pointwise

@@ -1,5 +1,5 @@
 -- Numbers of at most 16 bits, kept in 64.
-use Rattle.std.specs.Prelude.{◌≡◌, ◌↔◌, ℕ, ℤ, Bool, true, false, ◌&&◌, pos, negsuc, ◌*ℤ◌, ◌<ℤ◌, ◌-◌, ◌≤◌, int_lt, int_le, IsTrue, unsigned_abs, FitsSigned}
+use Rattle.std.specs.Prelude.{◌≡◌, ◌↔◌, ℕ, ℤ, Bool, true, false, ◌&&◌, pos, negsuc, ◌+ℤ◌, ◌*ℤ◌, ◌<ℤ◌, ◌-◌, ◌≤◌, int_lt, int_le, IsTrue, unsigned_abs, FitsSigned}
 use Rattle.std.specs.Int.{w64}
 use Rattle.std.proofs.Common.{arith, sym, subst, ◌∙◌, lit≤}
 use Rattle.std.proofs.lemmas.Int.{ints, fits_signed_mul}
@@ -9,6 +9,7 @@ use Rattle.arbitrary_base.specs.Saturation.{clamp}
 use Rattle.arbitrary_base.proofs.Congruence.{pow_le}
 use Rattle.arbitrary_base.proofs.Wrap.{wrap-of_in_range}
 use Rattle.arbitrary_base.proofs.Narrow.{InRange-wider}
+use Rattle.arbitrary_base.proofs.Primitive.{signed-fits}
 use Rattle.arbitrary_base.proofs.Clamp.{clamp-in_range, clamp-below, clamp-above}
 
 -- 64 bits have each number of either sign
@@ -34,6 +35,19 @@ small-product s W x y a b h g i j e f =
     (fits_signed_mul w64 x y 65536 65536 (small-size s W x h g i) (small-size s W y h g j) (lit≤ tt))
 
 pub ruleset products = (small-product)
+
+-- and each sum
+InRange-17 : (s : Bool) (W : ℕ) (x : ℤ) → 1 ≤ W → W ≤ 16 → InRange s W x → InRange true 17 x
+InRange-17 false W x h g i =
+    let a = pow_le W 16 g in let l = i.low in let u = i.high in
+    record { low = omega (arith, ints); high = omega (arith, ints) }
+InRange-17 true W x h g i = InRange-wider true W 17 x h (omega arith) i
+
+pub small-sum : (s : Bool) (W : ℕ) (x y a b : ℤ) → 1 ≤ W → W ≤ 16 → InRange s W x → InRange s W y → a ≡ x → b ≡ y → FitsSigned w64 (a +ℤ b)
+small-sum s W x y a b h g i j e f =
+    let m = InRange-17 s W x h g i in let n = InRange-17 s W y h g j in
+    let p = m.low in let q = m.high in let r = n.low in let t = n.high in
+    signed-fits w64 (a +ℤ b) (record { low = omega (arith, ints); high = omega (arith, ints) })
 
 -- in range, by both ends
 pub within_test : (s : Bool) (B : ℕ) (x l h : ℤ) → l ≡ lo s B → h ≡ hi s B → IsTrue (int_le l x && int_le x h) ↔ InRange s B x

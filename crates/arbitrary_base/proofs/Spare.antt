@@ -69,3 +69,18 @@ mul-overflow_told s B W e w false true h g m p q =
     ((λ t. cc), (λ n. p.1 (λ i. n (subst (λ (v : ℤ). InRange s B v) (m ∙ wrap-of_in_range s W e (omega arith) i) (q.0 refl)))))
 mul-overflow_told s B W e w false false h g m p q =
     ((λ t i. let u : IsTrue false = q.1 (subst (λ (v : ℤ). InRange s B v) (sym (m ∙ wrap-of_in_range s W e (omega arith) (InRange-wider s B W e h g i))) i) in cc), (λ t. refl))
+
+-- the checked answer, by the flag of an overflow
+pub flag-exact : (s : Bool) (B : ℕ) (e z : ℤ) (b : Bool) → 1 ≤ B → z ≡ wrap s B e → (IsTrue b ↔ ¬ (InRange s B e)) → b ≡ false → InRange s B e × (z ≡ e)
+flag-exact s B e z b h m f n =
+    let i : InRange s B e = ⊎_elim (λ j. j)
+    (⊎_elim (λ u. let t : IsTrue b = f.1 (λ j. let l = j.low in omega (arith, ints)) in cc) (λ u. let t : IsTrue b = f.1 (λ j. let l = j.high in omega (arith, ints)) in cc))
+    (three_ways s B e) in
+    (i, m ∙ wrap-of_in_range s B e h i)
+
+pub flag-none : (s : Bool) (B : ℕ) (e : ℤ) (b : Bool) → (IsTrue b ↔ ¬ (InRange s B e)) → b ≡ true → InRange s B e → ⊥
+flag-none s B e b f n i = f.0 (subst (λ (c : Bool). IsTrue c) (sym n) refl) i
+
+-- a product that the storage has, and that is in range there
+pub mul-kept : (s : Bool) (B W : ℕ) (e w : ℤ) (o : Bool) → 1 ≤ B → B ≤ W → w ≡ wrap s W e → (IsTrue o ↔ ¬ (InRange s W e)) → o ≡ false → InRange s B w → InRange s B e × (w ≡ e)
+mul-kept s B W e w o h g m p n i = let k = (flag-exact s W e w o (omega arith) m p n).1 in (subst (λ (v : ℤ). InRange s B v) k i, k)

@@ -5,11 +5,13 @@ ghost use Rattle.arbitrary_base.specs.Range.{InRange};
 ghost use Rattle.arbitrary_base.specs.Exact.{ExactOrNone, QuotientOrNone, turned};
 
 use crate::ends::{is_below, is_below_zero, is_within, is_zero, zero};
+use crate::narrowing::is_in_range;
 use crate::storage::Storage;
-use crate::{small, wrapping};
+use crate::{raised, small, wrapping};
 
 /// The sum where the type has it.
-// With a bit to spare the storage's sum is in range exactly where the exact one is.
+// With a bit to spare the storage's sum is in range exactly where the exact one is. Small signed numbers have
+// the processor's flag, which costs less.
 #[tactic(auto, using(crate::proofs::Sum::arithmetic))]
 pub fn add<T: Storage>(x: T, y: T, bits: usize) -> Option<T>
     requires width { 1 ≤ bits }
@@ -18,7 +20,10 @@ pub fn add<T: Storage>(x: T, y: T, bits: usize) -> Option<T>
     requires y_in { InRange T.SIGNED bits (T.number y) }
     ensures { ExactOrNone T.number T.SIGNED bits (T.number x +ℤ T.number y) result }
 {
-    if bits < T::WIDTH {
+    if T::SIGNED && T::WIDTH <= 16 {
+        let (sum, overflow) = raised::add(x, y, bits);
+        if overflow { None } else { Some(sum) }
+    } else if bits < T::WIDTH {
         let sum = x.wrapping_add(y);
         if is_within(&sum, bits) {
             Some(sum)
@@ -88,14 +93,18 @@ pub(crate) fn sub_by_order<T: Storage>(x: T, y: T, bits: usize) -> Option<T>
 }
 
 /// The product where the type has it.
-// In 64 bits the product of two small numbers is exact; elsewhere the storage multiplies once.
+// In 64 bits the product of two small numbers is exact; elsewhere the storage multiplies once. A signed number with a
+// bit to spare has the processor's flag. Callers have `x` in range, and the compiler sees it: there the test of it costs nothing.
 #[tactic(auto, using(crate::proofs::Sum::arithmetic))]
 pub fn mul<T: Storage>(x: T, y: T, bits: usize) -> Option<T>
     requires width { 1 ≤ bits }
     requires storage { bits ≤ T.WIDTH }
     ensures { ExactOrNone T.number T.SIGNED bits (T.number x *ℤ T.number y) result }
 {
-    if T::WIDTH <= 16 {
+    if T::SIGNED && (bits < T::WIDTH && is_in_range(x, bits)) {
+        let (product, overflow) = raised::mul(x, y, bits);
+        if overflow { None } else { Some(product) }
+    } else if T::WIDTH <= 16 {
         let product = small::product(x, y);
         if small::is_number_of::<T>(product, bits) {
             Some(small::kept(product))

@@ -14,6 +14,7 @@ pub mod narrowing;
 pub mod overflowing;
 pub mod patterns;
 pub mod power;
+mod raised;
 pub mod saturating;
 pub mod shifts;
 mod small;

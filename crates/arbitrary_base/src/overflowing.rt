@@ -8,7 +8,7 @@ ghost use Rattle.arbitrary_base.specs.Residue.{wrap};
 use crate::ends::zero;
 use crate::narrowing::{convert, equal, is_in_range, narrow};
 use crate::storage::Storage;
-use crate::{checked, small, wrapping};
+use crate::{checked, raised, small, wrapping};
 
 /// The sum, wrapped, and whether the exact one is out of range.
 #[tactic(auto, using(crate::proofs::Clamp::overflow_laws))]
@@ -21,7 +21,9 @@ pub fn add<T: Storage>(x: T, y: T, bits: usize) -> (T, bool)
     ensures range { InRange T.SIGNED bits (T.number result.0) }
     ensures overflow { IsTrue result.1 ↔ ¬ (InRange T.SIGNED bits (T.number x +ℤ T.number y)) }
 {
-    if T::SIGNED && bits < T::WIDTH {
+    if T::SIGNED && T::WIDTH <= 16 {
+        raised::add(x, y, bits)
+    } else if T::SIGNED && bits < T::WIDTH {
         let spare = x.wrapping_add(y);
         let sum = narrow(spare, bits);
         (sum, !equal(&sum, &spare))
@@ -53,6 +55,7 @@ pub fn sub<T: Storage>(x: T, y: T, bits: usize) -> (T, bool)
 }
 
 /// The product, wrapped, and whether the exact one is out of range.
+// Callers have `x` in range, and the compiler sees it: there the test of it costs nothing.
 #[tactic(auto, using(crate::proofs::Clamp::overflow_laws))]
 pub fn mul<T: Storage>(x: T, y: T, bits: usize) -> (T, bool)
     requires width { 1 ≤ bits }
@@ -61,7 +64,9 @@ pub fn mul<T: Storage>(x: T, y: T, bits: usize) -> (T, bool)
     ensures range { InRange T.SIGNED bits (T.number result.0) }
     ensures overflow { IsTrue result.1 ↔ ¬ (InRange T.SIGNED bits (T.number x *ℤ T.number y)) }
 {
-    if T::WIDTH <= 16 {
+    if T::SIGNED && (bits < T::WIDTH && is_in_range(x, bits)) {
+        raised::mul(x, y, bits)
+    } else if T::WIDTH <= 16 {
         let product = small::product(x, y);
         (
             convert(product, bits),

@@ -8,6 +8,7 @@ ghost use Rattle.arbitrary_base.specs.Power.{power, binary_digits, PowersOfSums,
 
 use crate::ends::{end, is_below_zero};
 use crate::narrowing::{equal, is_in_range};
+use crate::raised;
 use crate::storage::Storage;
 
 /// The laws of powers, for callers' proofs. It does nothing.
@@ -24,27 +25,50 @@ fn one<T: Storage>() -> T
     T::from_pattern(1)
 }
 
-/// The product, where the storage has it. Nothing else here multiplies.
+/// At how many bits the products on the way are tested, which is at least as many as 1 takes.
+// Small signed numbers stop at the range of their type: its flag costs no more than the storage's.
+fn tested_bits<T: Storage>(bits: usize) -> usize
+    requires { bits ≤ T.WIDTH }
+    ensures low { bits ≤ result }
+    ensures some { 2 ≤ result }
+    ensures high { result ≤ T.WIDTH }
+{
+    if T::SIGNED && (T::WIDTH <= 16 && 2 <= bits) {
+        bits
+    } else {
+        T::WIDTH
+    }
+}
+
+/// The product, where the type of `bits` bits has it. Nothing else here multiplies.
 // In 128 bits a product of two numbers of 64 is exact, and multiplying without a test is much cheaper.
-fn multiply<T: Storage>(x: T, y: T, count: &mut u32) -> Option<T>
-    requires { count.old < 64 }
+fn multiply<T: Storage>(x: T, y: T, bits: usize, count: &mut u32) -> Option<T>
+    requires width { 1 ≤ bits }
+    requires storage { bits ≤ T.WIDTH }
+    requires x_in { InRange T.SIGNED bits (T.number x) }
+    requires room { count.old < 64 }
     ensures counted { count.new ≡ count.old + 1 }
-    ensures product { ExactOrNone T.number T.SIGNED T.WIDTH (T.number x *ℤ T.number y) result }
+    ensures product { ExactOrNone T.number T.SIGNED bits (T.number x *ℤ T.number y) result }
 {
     *count += 1;
-    if T::WIDTH == 128 && is_in_range(x, 64) && is_in_range(y, 64) {
+    if bits < T::WIDTH {
+        let (product, overflow) = raised::mul(x, y, bits);
+        if overflow { None } else { Some(product) }
+    } else if T::WIDTH == 128 && is_in_range(x, 64) && is_in_range(y, 64) {
         Some(x.wrapping_mul(y))
     } else {
         x.checked_mul(y)
     }
 }
 
-/// The power, by squaring, and `None` only where it is further from 0 than the storage's greatest
-/// number.
-fn exact_power<T: Storage>(x: T, exp: u32, count: &mut u32) -> Option<T>
+/// The power, by squaring, and `None` only where it is further from 0 than the greatest number of `bits`
+/// bits.
+fn exact_power<T: Storage>(x: T, exp: u32, bits: usize, count: &mut u32) -> Option<T>
     requires started { count.old ≡ 0 }
-    requires range { InRange T.SIGNED T.WIDTH (T.number x) }
-    ensures value { MatchOption result (hi T.SIGNED T.WIDTH <ℤ pos (unsigned_abs (power (T.number x) exp))) (λ y. T.number y ≡ power (T.number x) exp) }
+    requires some { 2 ≤ bits }
+    requires storage { bits ≤ T.WIDTH }
+    requires range { InRange T.SIGNED bits (T.number x) }
+    ensures value { MatchOption result (hi T.SIGNED bits <ℤ pos (unsigned_abs (power (T.number x) exp))) (λ y. T.number y ≡ power (T.number x) exp) }
     ensures counted { count.new ≤ 2 * binary_digits exp }
 {
     let mut product = one::<T>();
@@ -54,18 +78,18 @@ fn exact_power<T: Storage>(x: T, exp: u32, count: &mut u32) -> Option<T>
     let mut base = x;
     let mut left = exp;
     while 1 < left {
-        let square = multiply(base, base, count)?;
+        let square = multiply(base, base, bits, count)?;
         if equal(&square, &base) {
             // 0 and 1 are all their powers.
-            return multiply(product, base, count);
+            return multiply(product, base, bits, count);
         }
         if left % 2 == 1 {
-            product = multiply(product, base, count)?;
+            product = multiply(product, base, bits, count)?;
         }
         base = square;
         left /= 2;
     }
-    multiply(product, base, count)
+    multiply(product, base, bits, count)
 }
 
 /// Whether the power is below zero: an odd one has the base's sign.
@@ -105,7 +129,7 @@ pub fn saturating_pow_counted<T: Storage>(x: T, exp: u32, bits: usize) -> (T, u3
     ensures bound { result.1 ≤ 64 }
 {
     let mut count = 0;
-    let power = match exact_power(x, exp, &mut count) {
+    let power = match exact_power(x, exp, tested_bits::<T>(bits), &mut count) {
         Some(power) => clamped(power, bits),
         None => end(is_power_below_zero(&x, exp), bits),
     };

@@ -1,6 +1,6 @@
-//! The numbers of storages of at most 16 bits, in 64 bits, where their products are exact.
+//! The numbers of storages of at most 16 bits, in 64 bits, where their sums and products are exact.
 
-ghost use Rattle.std.specs.Prelude.{◌≡◌, ◌↔◌, ◌≤◌, ◌*ℤ◌, IsTrue};
+ghost use Rattle.std.specs.Prelude.{◌≡◌, ◌↔◌, ◌≤◌, ◌+ℤ◌, ◌*ℤ◌, IsTrue};
 ghost use Rattle.arbitrary_base.specs.Range.{InRange};
 ghost use Rattle.arbitrary_base.specs.Saturation.{clamp};
 
@@ -26,6 +26,14 @@ pub(crate) fn product<T: Storage>(x: T, y: T) -> i64
     ensures { result ≡ T.number x *ℤ T.number y }
 {
     number(x) * number(y)
+}
+
+/// The exact sum.
+pub(crate) fn sum<T: Storage>(x: T, y: T) -> i64
+    requires small { T.WIDTH ≤ 16 }
+    ensures { result ≡ T.number x +ℤ T.number y }
+{
+    number(x) + number(y)
 }
 
 /// Whether the type of `bits` bits over the storage has the number.

@@ -7,6 +7,10 @@
 //!
 //! Of the kind `field` the types are `u5`, `u9` and `i14`, and for shifts and masks by hand `u8`, `u16` and
 //! `i16`; the calls are `get` and `put`, for which the limit says nothing.
+//!
+//! Of the kinds `moved` and `ends` each call is a function of its own, on numbers in their storage. A line `moved TYPE CALL LIMIT
+//! ROUNDS PLACES` moves the operands so many places toward 0 first, so that sums and products are in range. `ends TYPE
+//! CALL LIMIT ROUNDS` takes operands next to the ends of the range. The types are those of `fixed` but for `i128`.
 #![tactic(auto)]
 
 ghost use Rattle.std.specs.Prelude.{◌≤◌};
@@ -14,6 +18,7 @@ ghost use Rattle.std.specs.Prelude.{◌≤◌};
 use crate::fields::{gets, puts};
 use crate::rounds::{Operands, values};
 use anyhow::Context;
+use arbitrary_calls::fixed_width::FixedWidth;
 use arbitrary_core::aliases::signed::{i7, i14, i120};
 use arbitrary_core::aliases::unsigned::{u5, u7, u9, u14, u120};
 use arbitrary_core::signed::Int;
@@ -23,6 +28,7 @@ mod fields;
 mod fixed;
 mod primitive;
 mod rounds;
+mod single;
 
 fn show<V: Display + Copy + Drop>(rt: &impl Print, answers: Option<[V; 16]>) -> anyhow::Result<()> {
     let answers = answers.context("no such call")?;
@@ -79,6 +85,74 @@ fn measure_fixed(
         ("i128", _) => show(
             rt,
             fixed::answers::<Int<i128, 128>>(call, &Operands::new(limit), rounds),
+        ),
+        _ => anyhow::bail!("no such type"),
+    }
+}
+
+/// Operands for calls in functions of their own: moved toward 0, or next to the ends of the range.
+fn chosen<V: FixedWidth>(limit: u32, places: Option<u32>) -> Operands<V>
+    requires width { V.valid }
+    requires some { 1 ≤ limit }
+{
+    let mut operands = Operands::new(limit);
+    match places {
+        Some(places) => operands.moved(places),
+        None => operands.at_ends(),
+    }
+    operands
+}
+
+fn measure_single(
+    rt: &impl Print,
+    name: &str,
+    call: &str,
+    limit: u32,
+    rounds: u32,
+    places: Option<u32>,
+) -> anyhow::Result<()>
+    requires { 1 ≤ limit }
+{
+    match (name, call) {
+        ("u7", "extract_u32") => show(
+            rt,
+            Some(single::taken::<u7>(&chosen(limit, places), rounds)),
+        ),
+        ("i7", "extract_u32") => show(
+            rt,
+            Some(single::taken::<i7>(&chosen(limit, places), rounds)),
+        ),
+        ("u14", "extract_u32") => show(
+            rt,
+            Some(single::taken::<u14>(&chosen(limit, places), rounds)),
+        ),
+        ("i14", "extract_u32") => show(
+            rt,
+            Some(single::taken::<i14>(&chosen(limit, places), rounds)),
+        ),
+        ("u7", _) => show(
+            rt,
+            single::answers::<u7>(call, &chosen(limit, places), rounds),
+        ),
+        ("i7", _) => show(
+            rt,
+            single::answers::<i7>(call, &chosen(limit, places), rounds),
+        ),
+        ("u14", _) => show(
+            rt,
+            single::answers::<u14>(call, &chosen(limit, places), rounds),
+        ),
+        ("i14", _) => show(
+            rt,
+            single::answers::<i14>(call, &chosen(limit, places), rounds),
+        ),
+        ("u120", _) => show(
+            rt,
+            single::answers::<u120>(call, &chosen(limit, places), rounds),
+        ),
+        ("i120", _) => show(
+            rt,
+            single::answers::<i120>(call, &chosen(limit, places), rounds),
         ),
         _ => anyhow::bail!("no such type"),
     }
@@ -171,6 +245,11 @@ fn main(rt: HostRuntime) -> anyhow::Result<()> {
     match kind {
         "fixed" => measure_fixed(&rt, name, call, limit, rounds),
         "primitive" => measure_primitive(&rt, name, call, limit, rounds),
+        "moved" => {
+            let places = words.next().context("no number of places")?.parse::<u32>()?;
+            measure_single(&rt, name, call, limit, rounds, Some(places))
+        }
+        "ends" => measure_single(&rt, name, call, limit, rounds, None),
         "field" => measure_field(&rt, name, call, rounds),
         _ => anyhow::bail!("no such kind"),
     }

@@ -2,6 +2,7 @@
 
 ghost use Rattle.std.specs.Prelude.{◌≤◌};
 
+use arbitrary_calls::fixed_width::FixedWidth;
 use arbitrary_traits::integer::Integer;
 
 /// A call on two values.
@@ -23,9 +24,9 @@ impl<V: Drop> Call<V> for Nothing {
 /// The values that the calls are made on.
 #[derive(Drop)]
 pub struct Operands<V> {
-    left: [V; 16],
-    right: [V; 16],
-    amounts: [u32; 16],
+    pub left: [V; 16],
+    pub right: [V; 16],
+    pub amounts: [u32; 16],
 }
 
 /// Values of all sizes. The width is valid.
@@ -64,6 +65,31 @@ impl<V: Integer> Operands<V> {
             left: values(1),
             right: values(3),
             amounts: amounts_below(limit),
+        }
+    }
+}
+
+impl<V: FixedWidth> Operands<V> {
+    /// The same values, moved so many places toward 0.
+    pub fn moved(&mut self, places: u32) {
+        for i in 0..16 {
+            self.left[i] = self.left[i].wrapping_shr(places);
+            self.right[i] = self.right[i].wrapping_shr(places);
+        }
+    }
+
+    /// Values next to the ends of the range, those of a pair next to the same end.
+    pub fn at_ends(&mut self)
+        requires { V.valid }
+    {
+        for i in 0..16 {
+            let near = V::from_extended(i as u128 % 4);
+            self.left[i] = if i % 2 == 0 {
+                V::max_value().wrapping_sub(near)
+            } else {
+                V::min_value().wrapping_add(near)
+            };
+            self.right[i] = self.left[i];
         }
     }
 }

@@ -8,7 +8,7 @@ returns-then-bits-WIDTH-clause-value g c =
 
 pub returns-then-bits-WIDTH-clause-overflow : goal.returns-then-bits-WIDTH-clause-overflow
 returns-then-bits-WIDTH-clause-overflow g c =
-    let room : c.args.bits < g.T.Storage.WIDTH = omega (arith, c.WIDTH.ensures, c.if-bits-WIDTH.true) in
+    let room : c.args.bits < g.T.Storage.WIDTH = omega (arith, c.WIDTH-then-SIGNED-2.ensures, c.if-bits-WIDTH.true) in
     overflow-told g.T.Storage.SIGNED c.args.bits _ _ _ _ c.requires.width
     (add-tells g.T.Storage.SIGNED c.args.bits g.T.Storage.WIDTH _ _ _ c.requires.width room c.requires.x_in c.requires.y_in c.wrapping_add-spare.ensures)
     c.narrow-sum.ensures.value c.equal.ensures

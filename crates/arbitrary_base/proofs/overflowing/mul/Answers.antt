@@ -8,4 +8,4 @@ returns-else-WIDTH-le16-clause-value g c =
 pub returns-else-WIDTH-le16-clause-overflow : goal.returns-else-WIDTH-le16-clause-overflow
 returns-else-WIDTH-le16-clause-overflow g c =
     mul-overflow_told g.T.Storage.SIGNED c.args.bits g.T.Storage.WIDTH _ _ _ _ c.requires.width c.requires.storage c.overflowing_mul-product.ensures.value
-    c.overflowing_mul-product.ensures.overflow c.is_in_range.ensures
+    c.overflowing_mul-product.ensures.overflow c.is_in_range-else-WIDTH-le16.ensures

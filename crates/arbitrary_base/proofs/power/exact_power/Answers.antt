@@ -10,12 +10,12 @@ returns-then-exp-eq0-clause-value g c = power-none _ _ _ c.one-product.ensures c
 pub loop-left-init : goal.loop-left-init
 loop-left-init g c = record {
   squaring = rw c.requires.started (begun _ _ _ (omega arith) c.one-product.ensures);
-  product_in = InRange-equal c.one-product.ensures (one-in_range _ _ g.met.T.Storage.one_law);
+  product_in = InRange-equal c.one-product.ensures (one-in_range _ _ c.requires.some);
   base_in = c.requires.range;
 }
 
-pub multiply-requires : goal.multiply-requires
-multiply-requires g c = let k = room c.loop-left.invariant.squaring c.ranges.exp.fits in omega arith
+pub multiply-requires-clause-room : goal.multiply-requires-clause-room
+multiply-requires-clause-room g c = let k = room c.loop-left.invariant.squaring c.ranges.exp.fits in omega arith
 
 pub returns-in_err-square-clause-value : goal.returns-in_err-square-clause-value
 returns-in_err-square-clause-value g c =
@@ -25,8 +25,8 @@ returns-in_err-square-clause-value g c =
 pub returns-in_err-square-clause-counted : goal.returns-in_err-square-clause-counted
 returns-in_err-square-clause-counted g c = let k = spent c.loop-left.invariant.squaring in omega arith
 
-pub multiply-requires-then-equal : goal.multiply-requires-then-equal
-multiply-requires-then-equal g c = let k = room c.loop-left.invariant.squaring c.ranges.exp.fits in omega arith
+pub multiply-requires-then-equal-clause-room : goal.multiply-requires-then-equal-clause-room
+multiply-requires-then-equal-clause-room g c = let k = room c.loop-left.invariant.squaring c.ranges.exp.fits in omega arith
 
 pub returns-then-equal-clause-value : goal.returns-then-equal-clause-value
 returns-then-equal-clause-value g c =
@@ -36,8 +36,8 @@ returns-then-equal-clause-value g c =
 pub returns-then-equal-clause-counted : goal.returns-then-equal-clause-counted
 returns-then-equal-clause-counted g c = let k = spent c.loop-left.invariant.squaring in omega arith
 
-pub multiply-requires-then-left-eq1 : goal.multiply-requires-then-left-eq1
-multiply-requires-then-left-eq1 g c = let k = room c.loop-left.invariant.squaring c.ranges.exp.fits in omega arith
+pub multiply-requires-then-left-eq1-clause-room : goal.multiply-requires-then-left-eq1-clause-room
+multiply-requires-then-left-eq1-clause-room g c = let k = room c.loop-left.invariant.squaring c.ranges.exp.fits in omega arith
 
 pub returns-in_err-product-clause-value : goal.returns-in_err-product-clause-value
 returns-in_err-product-clause-value g c =
@@ -52,7 +52,7 @@ loop-left-preserved g c =
     let i = c.loop-left.invariant in
     let n = g.T.Storage.number in
     let square = c.in_ok-square.ensures.product in
-    let next : Squaring (n c.args.x) c.args.exp (n c.if-left-eq1.product) (n c.in_ok-square.square) (c.loop-left.left / 2) c.if-left-eq1.count × InRange g.T.Storage.SIGNED g.T.Storage.WIDTH (n c.if-left-eq1.product) =
+    let next : Squaring (n c.args.x) c.args.exp (n c.if-left-eq1.product) (n c.in_ok-square.square) (c.loop-left.left / 2) c.if-left-eq1.count × InRange g.T.Storage.SIGNED c.args.bits (n c.if-left-eq1.product) =
     elim c.if-left-eq1.branch [
       | then-left-eq1+in_ok-product w ↦
           (let product = w.in_ok-product.ensures.product in
@@ -71,8 +71,8 @@ loop-left-preserved g c =
       base_in = InRange-equal {x = n c.loop-left.base *ℤ n c.loop-left.base} square.1 square.0;
     }
 
-pub multiply-requires-2 : goal.multiply-requires-2
-multiply-requires-2 g c = let k = room c.loop-left.invariant.squaring c.ranges.exp.fits in omega arith
+pub multiply-requires-2-clause-room : goal.multiply-requires-2-clause-room
+multiply-requires-2-clause-room g c = let k = room c.loop-left.invariant.squaring c.ranges.exp.fits in omega arith
 
 pub returns-clause-value : goal.returns-clause-value
 returns-clause-value g c =

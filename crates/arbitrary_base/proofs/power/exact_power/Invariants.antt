@@ -7,8 +7,8 @@ invariant-loop-left g l =
     let n = g.T.Storage.number in
     record {
       squaring : Squaring (n l.fn.x) l.exp (n l.product) (n l.base) l.left l.count;
-      product_in : InRange g.T.Storage.SIGNED g.T.Storage.WIDTH (n l.product);
-      base_in : InRange g.T.Storage.SIGNED g.T.Storage.WIDTH (n l.base);
+      product_in : InRange g.T.Storage.SIGNED l.bits (n l.product);
+      base_in : InRange g.T.Storage.SIGNED l.bits (n l.base);
     }
 
 abbrev pub decreases-loop-left : goal.decreases-loop-left

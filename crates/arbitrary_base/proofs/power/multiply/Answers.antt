@@ -1,8 +1,21 @@
-use Rattle.std.proofs.Common.{sym, refl, ◌∙◌}
+use Rattle.std.proofs.Common.{◌≡◌, ℕ, arith, sym, subst, refl, ◌∙◌}
+use Rattle.std.specs.Prelude.{◌*ℤ◌, Some}
+use Rattle.arbitrary_base.specs.Exact.{ExactOrNone}
+use Rattle.arbitrary_base.proofs.Spare.{flag-exact}
 use Rattle.arbitrary_base.proofs.Squaring.{half-product}
 use Rattle.arbitrary_base.proofs.power.multiply.Goals as goal
 
+pub returns-else-overflow-clause-product : goal.returns-else-overflow-clause-product
+returns-else-overflow-clause-product g c = flag-exact g.T.Storage.SIGNED c.args.bits _ _ _ c.requires.width c.mul-product.ensures.value c.mul-product.ensures.overflow c.if-overflow.false
+
 pub returns-then-is_in_range-2-clause-product : goal.returns-then-is_in_range-2-clause-product
 returns-then-is_in_range-2-clause-product g c =
-    half-product g.T.Storage.number g.T.Storage.SIGNED g.T.Storage.WIDTH (g.T.Storage.number c.args.x) (g.T.Storage.number c.args.y) c.wrapping_mul.result
-    (sym c.WIDTH.ensures ∙ c.if-WIDTH-eq128.true) (c.if-is_in_range.ensures.0 refl) (c.if-is_in_range-2.ensures.0 refl) c.wrapping_mul.ensures
+    let all : g.T.Storage.WIDTH ≡ c.args.bits = omega (arith, c.WIDTH.ensures, c.if-bits-WIDTH.false, c.requires.storage) in
+    subst (λ (w : ℕ). ExactOrNone g.T.Storage.number g.T.Storage.SIGNED w (g.T.Storage.number c.args.x *ℤ g.T.Storage.number c.args.y) (Some c.wrapping_mul.result)) all
+    (half-product g.T.Storage.number g.T.Storage.SIGNED g.T.Storage.WIDTH (g.T.Storage.number c.args.x) (g.T.Storage.number c.args.y) c.wrapping_mul.result
+    (sym c.WIDTH-else-bits-WIDTH.ensures ∙ c.if-WIDTH-eq128.true) (c.if-is_in_range.ensures.0 refl) (c.if-is_in_range-2.ensures.0 refl) c.wrapping_mul.ensures)
+
+pub returns-else-WIDTH-eq128-clause-product : goal.returns-else-WIDTH-eq128-clause-product
+returns-else-WIDTH-eq128-clause-product g c =
+    let all : g.T.Storage.WIDTH ≡ c.args.bits = omega (arith, c.WIDTH.ensures, c.if-bits-WIDTH.false, c.requires.storage) in
+    subst (λ (w : ℕ). ExactOrNone g.T.Storage.number g.T.Storage.SIGNED w (g.T.Storage.number c.args.x *ℤ g.T.Storage.number c.args.y) c.checked_mul.result) all c.checked_mul.ensures

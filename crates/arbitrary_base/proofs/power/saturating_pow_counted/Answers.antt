@@ -5,14 +5,14 @@ use Rattle.arbitrary_base.proofs.power.saturating_pow_counted.Goals as goal
 use Rattle.arbitrary_base.proofs.power.saturating_pow_counted.Goals.{in-Some, in-None}
 
 pub exact_power-requires-clause-range : goal.exact_power-requires-clause-range
-exact_power-requires-clause-range g c = InRange-wider _ _ _ _ c.requires.width c.requires.storage c.requires.x_in
+exact_power-requires-clause-range g c = InRange-wider _ _ _ _ c.requires.width c.tested_bits.ensures.low c.requires.x_in
 
 pub returns-clause-value : goal.returns-clause-value
 returns-clause-value g c =
     let s = g.T.Storage.SIGNED in
     elim c.match-exact_power.branch [
       | in-Some w ↦ let clamped = w.clamped-power.ensures in let exact = w.in-Some.ensures.value in rw w.power-is (cc)
-      | in-None w ↦ rw w.power-is (far-end s _ _ _ _ _ c.requires.width c.requires.storage w.in-None.ensures.value w.is_power_below_zero.ensures w.end-power.ensures)
+      | in-None w ↦ rw w.power-is (far-end s _ _ _ _ _ c.requires.width c.tested_bits.ensures.low w.in-None.ensures.value w.is_power_below_zero.ensures w.end-power.ensures)
     ]
 
 pub returns-clause-range : goal.returns-clause-range

@@ -1,0 +1,80 @@
+//! Numbers moved up to the storage's end: multiplied by `2 ^ (WIDTH - bits)`. There the range of `bits` bits is the
+//! storage's own, so that the processor tells an overflow.
+
+ghost use Rattle.std.specs.Prelude.{◌≡◌, ◌↔◌, ◌≤◌, ◌<◌, ◌≢◌, ◌^◌, ◌-◌, ◌+ℤ◌, ◌*ℤ◌, pos, negsuc, IsTrue};
+ghost use Rattle.std.specs.Int.{int_shr};
+ghost use Rattle.arbitrary_base.specs.Range.{InRange};
+ghost use Rattle.arbitrary_base.specs.Residue.{wrap};
+
+use crate::ends::is_zero;
+use crate::narrowing::{convert, equal};
+use crate::small;
+use crate::storage::Storage;
+
+/// The number, moved up.
+fn raise<T: Storage>(x: T, bits: usize) -> T
+    requires width { 1 ≤ bits }
+    requires storage { bits ≤ T.WIDTH }
+    requires x_in { InRange T.SIGNED bits (T.number x) }
+    ensures { T.number result ≡ T.number x *ℤ pos (2 ^ (T.WIDTH - bits)) }
+{
+    x.shl_by(T::WIDTH - bits)
+}
+
+/// The number, moved down again. A shift that copies the sign undoes `raise`.
+fn lower<T: Storage>(x: T, bits: usize) -> T
+    requires width { 1 ≤ bits }
+    requires storage { bits ≤ T.WIDTH }
+    requires x_in { InRange T.SIGNED T.WIDTH (T.number x) }
+    ensures { T.number result ≡ int_shr (T.number x) (T.WIDTH - bits) }
+{
+    x.shr_by(T::WIDTH - bits)
+}
+
+/// The sum, wrapped, and whether the exact one is out of range.
+// Of the test in 64 bits the compiler makes the flag of the storage's own addition.
+pub(crate) fn add<T: Storage>(x: T, y: T, bits: usize) -> (T, bool)
+    requires small { T.WIDTH ≤ 16 }
+    requires width { 1 ≤ bits }
+    requires storage { bits ≤ T.WIDTH }
+    requires x_in { InRange T.SIGNED bits (T.number x) }
+    requires y_in { InRange T.SIGNED bits (T.number y) }
+    ensures value { T.number result.0 ≡ wrap T.SIGNED bits (T.number x +ℤ T.number y) }
+    ensures range { InRange T.SIGNED bits (T.number result.0) }
+    ensures overflow { IsTrue result.1 ↔ ¬ (InRange T.SIGNED bits (T.number x +ℤ T.number y)) }
+{
+    let sum = small::sum(raise(x, bits), raise(y, bits));
+    (
+        lower(convert(sum, T::WIDTH), bits),
+        !small::is_number_of::<T>(sum, T::WIDTH),
+    )
+}
+
+/// Whether the product, wrapped, is the exact one of the factors. The first is not -1.
+// Only an exact product gives the other factor back. The compiler makes the flag of the multiplication of it.
+fn is_exact<T: Storage>(product: T, x: T, y: T) -> bool
+    requires x_in { InRange T.SIGNED T.WIDTH (T.number x) }
+    requires y_in { InRange T.SIGNED T.WIDTH (T.number y) }
+    requires factor { T.number x ≢ negsuc 0 }
+    requires product { T.number product ≡ wrap T.SIGNED T.WIDTH (T.number x *ℤ T.number y) }
+    ensures { IsTrue result ↔ InRange T.SIGNED T.WIDTH (T.number x *ℤ T.number y) }
+{
+    is_zero(&x) || equal(&product.wrapping_div(x), &y)
+}
+
+/// The product, wrapped, and whether the exact one is out of range.
+// A number that is moved up is even, so it is never -1.
+pub(crate) fn mul<T: Storage>(x: T, y: T, bits: usize) -> (T, bool)
+    requires width { 1 ≤ bits }
+    requires storage { bits < T.WIDTH }
+    requires x_in { InRange T.SIGNED bits (T.number x) }
+    ensures value { T.number result.0 ≡ wrap T.SIGNED bits (T.number x *ℤ T.number y) }
+    ensures range { InRange T.SIGNED bits (T.number result.0) }
+    ensures overflow { IsTrue result.1 ↔ ¬ (InRange T.SIGNED bits (T.number x *ℤ T.number y)) }
+{
+    // The contract of `pattern` says that the number is in the storage's range; the pattern itself is not needed.
+    let _pattern = y.pattern();
+    let raised = raise(x, bits);
+    let product = raised.wrapping_mul(y);
+    (lower(product, bits), !is_exact(product, raised, y))
+}
