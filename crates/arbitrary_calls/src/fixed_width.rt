@@ -63,7 +63,7 @@ pub trait FixedWidth: Integer + Patterned {
         ensures value { Self.number result ≡ wrap Self.IS_SIGNED Self.BITS (Self.number self +ℤ Self.number rhs) }
         ensures kept { InRange Self.IS_SIGNED Self.BITS (Self.number self +ℤ Self.number rhs) → Self.number result ≡ Self.number self +ℤ Self.number rhs }
         ensures congruent { Congruent Self.BITS (Self.number result) (Self.number self +ℤ Self.number rhs) }
-        ensures undo { (y : ℤ) → InRange Self.IS_SIGNED Self.BITS y → Self.number self ≡ wrapped_difference Self.IS_SIGNED Self.BITS y (Self.number rhs) → Self.number result ≡ y }
+        ensures undo { (y : ℤ) → InRange Self.IS_SIGNED Self.BITS y → Self.number self ≡ wrap Self.IS_SIGNED Self.BITS (y -ℤ Self.number rhs) → Self.number result ≡ y }
         ensures range { InRange Self.IS_SIGNED Self.BITS (Self.number self) }
     {
         Self::from_extended(self.pattern().wrapping_add(rhs.pattern()))
@@ -108,7 +108,7 @@ pub trait FixedWidth: Integer + Patterned {
         ensures value { Self.number result ≡ wrap Self.IS_SIGNED Self.BITS (Self.number self -ℤ Self.number rhs) }
         ensures kept { InRange Self.IS_SIGNED Self.BITS (Self.number self -ℤ Self.number rhs) → Self.number result ≡ Self.number self -ℤ Self.number rhs }
         ensures congruent { Congruent Self.BITS (Self.number result) (Self.number self -ℤ Self.number rhs) }
-        ensures undo { (y : ℤ) → InRange Self.IS_SIGNED Self.BITS y → Self.number self ≡ wrapped_sum Self.IS_SIGNED Self.BITS y (Self.number rhs) → Self.number result ≡ y }
+        ensures undo { (y : ℤ) → InRange Self.IS_SIGNED Self.BITS y → Self.number self ≡ wrap Self.IS_SIGNED Self.BITS (y +ℤ Self.number rhs) → Self.number result ≡ y }
         ensures range { InRange Self.IS_SIGNED Self.BITS (Self.number self) }
     {
         Self::from_extended(self.pattern().wrapping_sub(rhs.pattern()))
@@ -346,7 +346,7 @@ pub trait FixedWidth: Integer + Patterned {
     final fn rotate_left(self, amount: u32) -> Self
         ensures operation { Self.number result ≡ rotated_left Self.IS_SIGNED Self.BITS (Self.number self) (amount % Self.BITS) }
         ensures value { Self.number result ≡ val Self.IS_SIGNED (rotl (bits Self.BITS (Self.number self)) (amount % Self.BITS)) }
-        ensures undo { (y : ℤ) → InRange Self.IS_SIGNED Self.BITS y → Self.number self ≡ rotated_right Self.IS_SIGNED Self.BITS y (amount % Self.BITS) → Self.number result ≡ y }
+        ensures undo { (y : ℤ) → InRange Self.IS_SIGNED Self.BITS y → Self.number self ≡ val Self.IS_SIGNED (rotr (bits Self.BITS y) (amount % Self.BITS)) → Self.number result ≡ y }
         ensures range { InRange Self.IS_SIGNED Self.BITS (Self.number self) }
     {
         Self::from_extended(patterns::rotate_left(self.pattern(), Self::BITS, amount))
@@ -357,7 +357,7 @@ pub trait FixedWidth: Integer + Patterned {
     final fn rotate_right(self, amount: u32) -> Self
         ensures operation { Self.number result ≡ rotated_right Self.IS_SIGNED Self.BITS (Self.number self) (amount % Self.BITS) }
         ensures value { Self.number result ≡ val Self.IS_SIGNED (rotr (bits Self.BITS (Self.number self)) (amount % Self.BITS)) }
-        ensures undo { (y : ℤ) → InRange Self.IS_SIGNED Self.BITS y → Self.number self ≡ rotated_left Self.IS_SIGNED Self.BITS y (amount % Self.BITS) → Self.number result ≡ y }
+        ensures undo { (y : ℤ) → InRange Self.IS_SIGNED Self.BITS y → Self.number self ≡ val Self.IS_SIGNED (rotl (bits Self.BITS y) (amount % Self.BITS)) → Self.number result ≡ y }
         ensures range { InRange Self.IS_SIGNED Self.BITS (Self.number self) }
     {
         Self::from_extended(patterns::rotate_right(self.pattern(), Self::BITS, amount))
@@ -367,7 +367,7 @@ pub trait FixedWidth: Integer + Patterned {
     final fn reverse_bits(self) -> Self
         ensures operation { Self.number result ≡ reversed Self.IS_SIGNED Self.BITS (Self.number self) }
         ensures value { Self.number result ≡ val Self.IS_SIGNED (reverse (bits Self.BITS (Self.number self))) }
-        ensures undo { (y : ℤ) → InRange Self.IS_SIGNED Self.BITS y → Self.number self ≡ reversed Self.IS_SIGNED Self.BITS y → Self.number result ≡ y }
+        ensures undo { (y : ℤ) → InRange Self.IS_SIGNED Self.BITS y → Self.number self ≡ val Self.IS_SIGNED (reverse (bits Self.BITS y)) → Self.number result ≡ y }
         ensures range { InRange Self.IS_SIGNED Self.BITS (Self.number self) }
     {
         Self::from_extended(patterns::reverse_bits(self.pattern(), Self::BITS))

@@ -13,6 +13,6 @@ returns g c =
     record {
       operation = e ∙ sym (reversed-is _ _ _);
       value = e;
-      undo = λ y f d. reverse-undoes _ _ _ _ y c.pattern.ensures.some f (d ∙ reversed-is _ _ _) e;
+      undo = λ y f d. reverse-undoes _ _ _ _ y c.pattern.ensures.some f d e;
       range = c.pattern.ensures.range;
     }

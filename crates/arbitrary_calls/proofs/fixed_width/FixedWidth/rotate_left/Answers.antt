@@ -3,7 +3,7 @@ use Rattle.std.proofs.Common.{arith, sym, ◌∙◌}
 use Rattle.arbitrary_base.specs.BitList.{bits, num, rotl}
 use Rattle.arbitrary_base.proofs.BitResult.{rotl-value}
 use Rattle.arbitrary_base.proofs.Undone.{rotl-undoes}
-use Rattle.arbitrary_base.proofs.Operation.{rotl-is, rotr-is}
+use Rattle.arbitrary_base.proofs.Operation.{rotl-is}
 use Rattle.arbitrary_calls.proofs.fixed_width.FixedWidth.rotate_left.Goals as goal
 
 pub returns : goal.returns
@@ -15,6 +15,6 @@ returns g c =
     record {
       operation = e ∙ sym (rotl-is _ _ _ _);
       value = e;
-      undo = λ y f d. rotl-undoes _ _ (c.args.amount % g.Self.Integer.BITS) _ _ y o l f (d ∙ rotr-is _ _ _ _) e;
+      undo = λ y f d. rotl-undoes _ _ (c.args.amount % g.Self.Integer.BITS) _ _ y o l f d e;
       range = c.pattern.ensures.range;
     }

@@ -3,7 +3,7 @@ use Rattle.std.proofs.Common.{arith, sym, ◌∙◌}
 use Rattle.arbitrary_base.specs.BitList.{bits, num, rotr}
 use Rattle.arbitrary_base.proofs.BitResult.{rotr-value}
 use Rattle.arbitrary_base.proofs.Undone.{rotr-undoes}
-use Rattle.arbitrary_base.proofs.Operation.{rotl-is, rotr-is}
+use Rattle.arbitrary_base.proofs.Operation.{rotr-is}
 use Rattle.arbitrary_calls.proofs.fixed_width.FixedWidth.rotate_right.Goals as goal
 
 pub returns : goal.returns
@@ -15,6 +15,6 @@ returns g c =
     record {
       operation = e ∙ sym (rotr-is _ _ _ _);
       value = e;
-      undo = λ y f d. rotr-undoes _ _ (c.args.amount % g.Self.Integer.BITS) _ _ y o l f (d ∙ rotl-is _ _ _ _) e;
+      undo = λ y f d. rotr-undoes _ _ (c.args.amount % g.Self.Integer.BITS) _ _ y o l f d e;
       range = c.pattern.ensures.range;
     }
