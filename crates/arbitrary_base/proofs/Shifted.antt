@@ -7,10 +7,10 @@ use Rattle.std.proofs.Math.Pow.{shr_lt}
 use Rattle.std.proofs.lemmas.Int.{ints}
 use Rattle.std.proofs.lemmas.Nat.{pow_pos}
 use Rattle.arbitrary_base.specs.Range.{InRange}
-use Rattle.arbitrary_base.specs.Residue.{Congruent, residue}
+use Rattle.arbitrary_base.specs.Residue.{Congruent, residue, wrap}
 use Rattle.arbitrary_base.specs.BitList.{bits, val, fill, shl, shr}
 use Rattle.arbitrary_base.proofs.Congruence.{Congruent-trans, Congruent-mul_left}
-use Rattle.arbitrary_base.proofs.Wrap.{residue-congruent}
+use Rattle.arbitrary_base.proofs.Wrap.{congruent-same, residue-congruent, wrap-in_range}
 use Rattle.arbitrary_base.proofs.Primitive.{residue-pos, wrap-pos}
 use Rattle.arbitrary_base.proofs.BitSign.{val-shl, val-shr}
 use Rattle.arbitrary_base.proofs.Wrapped.{wrapped-congruent}
@@ -20,6 +20,11 @@ shl-congruent s B k x z h g e =
     Congruent-trans B z (pos (residue B x * 2 ^ k)) _
     (wrapped-congruent s B (pos (residue B x * 2 ^ k)) z (e ∙ val-shl s B k (residue B x) x h (omega arith) refl))
     (Congruent-mul_left B (pos (residue B x)) x (pos (2 ^ k)) (residue-congruent B x))
+
+pub shl-kept : (s : Bool) (B k : ℕ) (x z : ℤ) → 1 ≤ B → k < B → InRange s B (x *ℤ pos (2 ^ k)) → z ≡ val s (shl (bits B x) k) → z ≡ x *ℤ pos (2 ^ k)
+shl-kept s B k x z h g f e =
+    let d : z ≡ wrap s B (pos (residue B x * 2 ^ k)) = e ∙ val-shl s B k (residue B x) x h (omega arith) refl in
+    congruent-same s B z (x *ℤ pos (2 ^ k)) h (subst (InRange s B) (sym d) (wrap-in_range s B _ h)) f (shl-congruent s B k x z h g e)
 
 pub shl-plain : (s : Bool) (B k : ℕ) (x z : ℤ) → s ≡ false → 1 ≤ B → k < B → InRange s B x → z ≡ val s (shl (bits B x) k)
     → z ≡ pos (unsigned_abs x * 2 ^ k % 2 ^ B)

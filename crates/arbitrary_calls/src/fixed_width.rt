@@ -265,7 +265,8 @@ pub trait FixedWidth: Integer + Patterned {
         ensures operation { Self.number result ≡ shifted_left Self.IS_SIGNED Self.BITS (Self.number self) (amount % Self.BITS) }
         ensures value { Self.number result ≡ val Self.IS_SIGNED (shl (bits Self.BITS (Self.number self)) (amount % Self.BITS)) }
         ensures plain { Self.IS_SIGNED ≡ false → Self.number result ≡ pos (unsigned_abs (Self.number self) * 2 ^ (amount % Self.BITS) % 2 ^ Self.BITS) }
-        ensures congruent { Congruent Self.BITS (Self.number result) (Self.number self *ℤ pos (2 ^ (amount % Self.BITS))) }
+        ensures kept { InRange Self.IS_SIGNED Self.BITS (Self.number self *ℤ pos (2 ^ (amount % Self.BITS))) → Self.number result ≡ Self.number self *ℤ pos (2 ^ (amount % Self.BITS)) }
+        ensures congruent { (y : ℤ) → y ≡ Self.number self *ℤ pos (2 ^ (amount % Self.BITS)) → Congruent Self.BITS (Self.number result) y }
     {
         Self::from_kept(shifts::shl(self.kept(), shifts::places(amount, Self::BITS), Self::BITS))
     }
@@ -303,7 +304,7 @@ pub trait FixedWidth: Integer + Patterned {
         ensures value { Self.number result ≡ val Self.IS_SIGNED (shr (bits Self.BITS (Self.number self)) (amount % Self.BITS) (fill Self.IS_SIGNED (bits Self.BITS (Self.number self)))) }
         ensures quotient { Self.IS_SIGNED ≡ false → Self.number result ≡ int_div (Self.number self) (pos (2 ^ (amount % Self.BITS))) }
         ensures low { (Self.number result *ℤ pos (2 ^ (amount % Self.BITS))) ≤ℤ Self.number self }
-        ensures high { Self.number self <ℤ (Self.number result *ℤ pos (2 ^ (amount % Self.BITS)) +ℤ pos (2 ^ (amount % Self.BITS))) }
+        ensures high { (y : ℤ) → Self.number self ≡ y → y <ℤ (Self.number result *ℤ pos (2 ^ (amount % Self.BITS)) +ℤ pos (2 ^ (amount % Self.BITS))) }
         ensures range { InRange Self.IS_SIGNED (Self.BITS - (amount % Self.BITS)) (Self.number result) }
     {
         Self::from_kept(shifts::shr(self.kept(), shifts::places(amount, Self::BITS), Self::BITS))

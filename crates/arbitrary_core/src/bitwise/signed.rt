@@ -1,6 +1,6 @@
 //! `& | ^ !` of `Int`, bit by bit.
 
-ghost use Rattle.std.specs.Prelude.{◌≡◌, ◌≤ℤ◌, ◌-ℤ◌, ℤ, pos, neg_ℤ, unsigned_abs};
+ghost use Rattle.std.specs.Prelude.{◌≡◌, ◌≤◌, ◌-ℤ◌, ℕ, ℤ, pos, neg_ℤ};
 ghost use Rattle.std.specs.Int.Bits.{bit_and, bit_or, bit_xor};
 ghost use Rattle.arbitrary_base.specs.Range.{InRange};
 ghost use Rattle.arbitrary_base.specs.Operation.{bitwise_and, bitwise_not, bitwise_or, bitwise_xor};
@@ -22,9 +22,9 @@ where
     fn bitand(self, rhs: Int<T, BITS>) -> Int<T, BITS>
         ensures operation { result ≡ bitwise_and T.SIGNED BITS self rhs }
         ensures bits { result ≡ val T.SIGNED (bits_and (bits BITS self) (bits BITS rhs)) }
-        ensures plain { pos 0 ≤ℤ self → pos 0 ≤ℤ rhs → result ≡ pos (bit_and (unsigned_abs self) (unsigned_abs rhs)) }
-        ensures left { pos 0 ≤ℤ self → (pos 0 ≤ℤ result) × (result ≤ℤ self) }
-        ensures right { pos 0 ≤ℤ rhs → (pos 0 ≤ℤ result) × (result ≤ℤ rhs) }
+        ensures plain { (m n : ℕ) → self ≡ pos m → rhs ≡ pos n → result ≡ pos (bit_and m n) }
+        ensures left { (k : ℕ) → self ≡ pos k → (n : ℕ) × ((result ≡ pos n) × (n ≤ k)) }
+        ensures right { (k : ℕ) → rhs ≡ pos k → (n : ℕ) × ((result ≡ pos n) × (n ≤ k)) }
     {
         Int::<T, BITS>::from_bits(bitwise::and(self.to_bits(), rhs.to_bits(), BITS))
     }
@@ -40,9 +40,9 @@ where
     fn bitand_assign(&mut self, rhs: Int<T, BITS>)
         ensures operation { self.new ≡ bitwise_and T.SIGNED BITS self.old rhs }
         ensures bits { self.new ≡ val T.SIGNED (bits_and (bits BITS self.old) (bits BITS rhs)) }
-        ensures plain { pos 0 ≤ℤ self.old → pos 0 ≤ℤ rhs → self.new ≡ pos (bit_and (unsigned_abs self.old) (unsigned_abs rhs)) }
-        ensures left { pos 0 ≤ℤ self.old → (pos 0 ≤ℤ self.new) × (self.new ≤ℤ self.old) }
-        ensures right { pos 0 ≤ℤ rhs → (pos 0 ≤ℤ self.new) × (self.new ≤ℤ rhs) }
+        ensures plain { (m n : ℕ) → self.old ≡ pos m → rhs ≡ pos n → self.new ≡ pos (bit_and m n) }
+        ensures left { (k : ℕ) → self.old ≡ pos k → (n : ℕ) × ((self.new ≡ pos n) × (n ≤ k)) }
+        ensures right { (k : ℕ) → rhs ≡ pos k → (n : ℕ) × ((self.new ≡ pos n) × (n ≤ k)) }
     {
         *self = *self & rhs;
     }
@@ -59,7 +59,7 @@ where
     fn bitor(self, rhs: Int<T, BITS>) -> Int<T, BITS>
         ensures operation { result ≡ bitwise_or T.SIGNED BITS self rhs }
         ensures bits { result ≡ val T.SIGNED (bits_or (bits BITS self) (bits BITS rhs)) }
-        ensures plain { pos 0 ≤ℤ self → pos 0 ≤ℤ rhs → result ≡ pos (bit_or (unsigned_abs self) (unsigned_abs rhs)) }
+        ensures plain { (m n : ℕ) → self ≡ pos m → rhs ≡ pos n → result ≡ pos (bit_or m n) }
     {
         Int::<T, BITS>::from_bits(bitwise::or(self.to_bits(), rhs.to_bits(), BITS))
     }
@@ -75,7 +75,7 @@ where
     fn bitor_assign(&mut self, rhs: Int<T, BITS>)
         ensures operation { self.new ≡ bitwise_or T.SIGNED BITS self.old rhs }
         ensures bits { self.new ≡ val T.SIGNED (bits_or (bits BITS self.old) (bits BITS rhs)) }
-        ensures plain { pos 0 ≤ℤ self.old → pos 0 ≤ℤ rhs → self.new ≡ pos (bit_or (unsigned_abs self.old) (unsigned_abs rhs)) }
+        ensures plain { (m n : ℕ) → self.old ≡ pos m → rhs ≡ pos n → self.new ≡ pos (bit_or m n) }
     {
         *self = *self | rhs;
     }
@@ -92,9 +92,9 @@ where
     fn bitxor(self, rhs: Int<T, BITS>) -> Int<T, BITS>
         ensures operation { result ≡ bitwise_xor T.SIGNED BITS self rhs }
         ensures bits { result ≡ val T.SIGNED (bits_xor (bits BITS self) (bits BITS rhs)) }
-        ensures plain { pos 0 ≤ℤ self → pos 0 ≤ℤ rhs → result ≡ pos (bit_xor (unsigned_abs self) (unsigned_abs rhs)) }
+        ensures plain { (m n : ℕ) → self ≡ pos m → rhs ≡ pos n → result ≡ pos (bit_xor m n) }
         ensures same { self ≡ rhs → result ≡ pos 0 }
-        ensures undo { (y : ℤ) → InRange T.SIGNED BITS y → self ≡ val T.SIGNED (bits_xor (bits BITS y) (bits BITS rhs)) → result ≡ y }
+        ensures undo { (y : ℤ) → InRange T.SIGNED BITS y → self ≡ bitwise_xor T.SIGNED BITS y rhs → result ≡ y }
     {
         Int::<T, BITS>::from_bits(bitwise::xor(self.to_bits(), rhs.to_bits(), BITS))
     }
@@ -110,7 +110,7 @@ where
     fn bitxor_assign(&mut self, rhs: Int<T, BITS>)
         ensures operation { self.new ≡ bitwise_xor T.SIGNED BITS self.old rhs }
         ensures bits { self.new ≡ val T.SIGNED (bits_xor (bits BITS self.old) (bits BITS rhs)) }
-        ensures undo { (y : ℤ) → InRange T.SIGNED BITS y → self.old ≡ val T.SIGNED (bits_xor (bits BITS y) (bits BITS rhs)) → self.new ≡ y }
+        ensures undo { (y : ℤ) → InRange T.SIGNED BITS y → self.old ≡ bitwise_xor T.SIGNED BITS y rhs → self.new ≡ y }
     {
         *self = *self ^ rhs;
     }

@@ -77,7 +77,7 @@ impl<T: UnsignedStorage, const BITS: usize> BitXor<UInt<T, BITS>> for UInt<T, BI
         ensures bits { result ≡ val T.SIGNED (bits_xor (bits BITS self) (bits BITS rhs)) }
         ensures plain { result ≡ pos (bit_xor (unsigned_abs self) (unsigned_abs rhs)) }
         ensures same { self ≡ rhs → result ≡ pos 0 }
-        ensures undo { (y : ℤ) → InRange T.SIGNED BITS y → self ≡ val T.SIGNED (bits_xor (bits BITS y) (bits BITS rhs)) → result ≡ y }
+        ensures undo { (y : ℤ) → InRange T.SIGNED BITS y → self ≡ bitwise_xor T.SIGNED BITS y rhs → result ≡ y }
     {
         UInt::new(bitwise::xor(self.value(), rhs.value(), BITS))
     }
@@ -89,7 +89,7 @@ impl<T: UnsignedStorage, const BITS: usize> BitXorAssign<UInt<T, BITS>> for UInt
     fn bitxor_assign(&mut self, rhs: UInt<T, BITS>)
         ensures operation { self.new ≡ bitwise_xor T.SIGNED BITS self.old rhs }
         ensures bits { self.new ≡ val T.SIGNED (bits_xor (bits BITS self.old) (bits BITS rhs)) }
-        ensures undo { (y : ℤ) → InRange T.SIGNED BITS y → self.old ≡ val T.SIGNED (bits_xor (bits BITS y) (bits BITS rhs)) → self.new ≡ y }
+        ensures undo { (y : ℤ) → InRange T.SIGNED BITS y → self.old ≡ bitwise_xor T.SIGNED BITS y rhs → self.new ≡ y }
     {
         *self = *self ^ rhs;
     }

@@ -1,8 +1,9 @@
 use Rattle.std.specs.Prelude.{◌≡◌, Bool, ◌<◌, ◌%◌}
 use Rattle.std.proofs.Common.{arith, subst, sym, ◌∙◌}
 use Rattle.arbitrary_base.specs.Range.{InRange}
+use Rattle.arbitrary_base.specs.Residue.{Congruent}
 use Rattle.arbitrary_base.specs.BitList.{bits, val, shl}
-use Rattle.arbitrary_base.proofs.Shifted.{shl-congruent, shl-plain}
+use Rattle.arbitrary_base.proofs.Shifted.{shl-congruent, shl-kept, shl-plain}
 use Rattle.arbitrary_base.proofs.Operation.{left-is}
 use Rattle.arbitrary_calls.proofs.fixed_width.FixedWidth.wrapping_shl.Goals as goal
 
@@ -17,5 +18,6 @@ returns g c =
       operation = e ∙ sym (left-is _ _ _ _);
       value = e;
       plain = λ d. shl-plain _ _ _ _ _ d o l r e;
-      congruent = shl-congruent _ _ _ _ _ o l e;
+      kept = λ f. shl-kept _ _ _ _ _ o l f e;
+      congruent = λ y d. subst (Congruent g.Self.Integer.BITS (g.Self.Integer.number c.from_kept.result)) (sym d) (shl-congruent _ _ _ _ _ o l e);
     }

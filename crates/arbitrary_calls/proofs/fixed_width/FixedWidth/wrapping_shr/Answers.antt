@@ -1,4 +1,4 @@
-use Rattle.std.specs.Prelude.{◌≡◌, Bool, ◌<◌, ◌%◌}
+use Rattle.std.specs.Prelude.{◌≡◌, Bool, ℤ, pos, ◌<◌, ◌%◌, ◌^◌, ◌<ℤ◌, ◌+ℤ◌, ◌*ℤ◌}
 use Rattle.std.proofs.Common.{arith, subst, sym, ◌∙◌}
 use Rattle.arbitrary_base.specs.Range.{InRange}
 use Rattle.arbitrary_base.specs.BitList.{bits, val, fill, shr}
@@ -18,6 +18,6 @@ returns g c =
       value = e;
       quotient = λ d. shr-quotient _ _ _ _ _ d o l r e;
       low = shr-low _ _ _ _ _ o l r e;
-      high = shr-high _ _ _ _ _ o l r e;
+      high = λ y d. subst (λ (x : ℤ). x <ℤ (g.Self.Integer.number c.from_kept.result *ℤ pos (2 ^ (c.args.amount % g.Self.Integer.BITS)) +ℤ pos (2 ^ (c.args.amount % g.Self.Integer.BITS)))) d (shr-high _ _ _ _ _ o l r e);
       range = shr-range _ _ _ _ _ o l r e;
     }

@@ -1,7 +1,9 @@
+use Rattle.std.specs.Int.Bits.{bit_and}
 use Rattle.std.proofs.Common.{◌∙◌, sym}
 use Rattle.arbitrary_base.specs.BitList.{bits_and}
 use Rattle.arbitrary_base.proofs.BitArithmetic.{and-plain, and-left, and-right}
 use Rattle.arbitrary_base.proofs.BitNumber.{length-bits, same_length, length-and}
+use Rattle.arbitrary_core.proofs.Naturals.{at_most, naturals}
 use Rattle.arbitrary_core.proofs.Patterns.{bits-kept, number-of_list}
 use Rattle.arbitrary_base.proofs.Operation.{and-is}
 use Rattle.arbitrary_core.proofs.bitwise.signed.IntBitAnd.bitand.Goals as goal
@@ -18,7 +20,7 @@ returns g c =
     record {
       operation = e ∙ sym (and-is _ _ _ _);
       bits = e;
-      plain = and-plain _ _ _ _ _ w x y e;
-      left = and-left _ _ _ _ _ w x e;
-      right = and-right _ _ _ _ _ w y e;
+      plain = naturals bit_and _ _ _ (and-plain _ _ _ _ _ w x y e);
+      left = at_most _ _ (and-left _ _ _ _ _ w x e);
+      right = at_most _ _ (and-right _ _ _ _ _ w y e);
     }

@@ -1,7 +1,9 @@
+use Rattle.std.specs.Int.Bits.{bit_or}
 use Rattle.std.proofs.Common.{◌∙◌, sym}
 use Rattle.arbitrary_base.specs.BitList.{bits_or}
 use Rattle.arbitrary_base.proofs.BitArithmetic.{or-plain}
 use Rattle.arbitrary_base.proofs.BitNumber.{length-bits, same_length, length-or}
+use Rattle.arbitrary_core.proofs.Naturals.{naturals}
 use Rattle.arbitrary_core.proofs.Patterns.{bits-kept, number-of_list}
 use Rattle.arbitrary_base.proofs.Operation.{or-is}
 use Rattle.arbitrary_core.proofs.bitwise.signed.IntBitOr.bitor.Goals as goal
@@ -18,5 +20,5 @@ returns g c =
     record {
       operation = e ∙ sym (or-is _ _ _ _);
       bits = e;
-      plain = or-plain _ _ _ _ _ w x y e;
+      plain = naturals bit_or _ _ _ (or-plain _ _ _ _ _ w x y e);
     }

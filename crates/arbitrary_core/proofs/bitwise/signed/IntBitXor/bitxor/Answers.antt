@@ -1,8 +1,10 @@
+use Rattle.std.specs.Int.Bits.{bit_xor}
 use Rattle.std.proofs.Common.{◌∙◌, sym}
 use Rattle.arbitrary_base.specs.BitList.{bits_xor}
 use Rattle.arbitrary_base.proofs.BitArithmetic.{xor-plain, xor-same}
 use Rattle.arbitrary_base.proofs.BitNumber.{length-bits, same_length, length-xor}
 use Rattle.arbitrary_base.proofs.Undone.{xor-undoes}
+use Rattle.arbitrary_core.proofs.Naturals.{naturals}
 use Rattle.arbitrary_core.proofs.Patterns.{bits-kept, number-of_list}
 use Rattle.arbitrary_base.proofs.Operation.{xor-is}
 use Rattle.arbitrary_core.proofs.bitwise.signed.IntBitXor.bitxor.Goals as goal
@@ -19,7 +21,7 @@ returns g c =
     record {
       operation = e ∙ sym (xor-is _ _ _ _);
       bits = e;
-      plain = xor-plain _ _ _ _ _ w x y e;
+      plain = naturals bit_xor _ _ _ (xor-plain _ _ _ _ _ w x y e);
       same = xor-same _ _ _ _ _ w e;
-      undo = λ z f d. xor-undoes _ _ _ _ _ z w f d e;
+      undo = λ z f d. xor-undoes _ _ _ _ _ z w f (d ∙ xor-is _ _ _ _) e;
     }

@@ -20,5 +20,5 @@ returns g c =
       bits = e;
       plain = xor-plain _ _ _ _ _ w x y e a b;
       same = xor-same _ _ _ _ _ w e;
-      undo = λ z f d. xor-undoes _ _ _ _ _ z w f d e;
+      undo = λ z f d. xor-undoes _ _ _ _ _ z w f (d ∙ xor-is _ _ _ _) e;
     }
