@@ -8,8 +8,6 @@ mod arithmetic;
 #[cfg(test)]
 mod bits;
 #[cfg(test)]
-mod bounds;
-#[cfg(test)]
 mod counted;
 #[cfg(test)]
 mod mates;
