@@ -1,4 +1,5 @@
 -- The laws of counts: how many bits of a number are one, and how many alike stand at either end.
+-- The set `counts` of `arbitrary_int::proofs::BitVector` has them; what a count bounds of a number stands in CountBounds.antt.
 use Rattle.std.specs.Prelude.{◌≡◌, ℕ, ℤ, zero, suc, Bool, true, false, not, List, [], ◌∷◌, ◌++◌, drop, length, replicate, reverse, take, pos, negsuc, ◌≤◌, ◌+◌, ◌-◌, ◌^◌, ◌-ℤ◌}
 use Rattle.std.proofs.Common.{refl, sym, ap, ap₂, ◌∙◌, arith, take-append-drop}
 use Rattle.std.proofs.lemmas.Int.{ints}

@@ -1,3 +1,5 @@
+-- The shared lemmas, a file for each subject, listed so that other crates may cite them. Beside them stand the replies of each function
+-- to its own goals, in the folder of its module.
 pub mod Ring
 pub mod Congruence
 pub mod Wrap

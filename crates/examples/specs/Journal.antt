@@ -1,4 +1,4 @@
--- A record of a log, as bytes.
+-- A record of a log, as bytes: the words of the contracts in src/journal.rt, with lemmas in proofs/Records.antt.
 use Rattle.std.specs.Prelude.{◌≡◌, ℕ, ℤ, Bool, List, ◌++◌, Option, Some, IsTrue}
 use Rattle.arbitrary_int.specs.Bytes.{BorshBytes}
 

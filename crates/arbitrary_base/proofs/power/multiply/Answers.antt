@@ -1,3 +1,5 @@
+-- For `multiply` in src/power.rt, a reply for each of its three ways: with a bit to spare by the flag (Spare.antt), at 128 bits by factors of 64
+-- (Squaring.antt), else by `checked_mul`.
 use Rattle.std.proofs.Common.{◌≡◌, ℕ, arith, sym, subst, refl, ◌∙◌}
 use Rattle.std.specs.Prelude.{◌*ℤ◌, Some}
 use Rattle.arbitrary_base.specs.Exact.{ExactOrNone}

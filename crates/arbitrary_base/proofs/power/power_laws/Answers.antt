@@ -1,3 +1,4 @@
+-- For `power_laws` in src/power.rt: each clause is a lemma of Powers.antt, where they are proved.
 use Rattle.arbitrary_base.proofs.Powers.{power-add, power-mul}
 use Rattle.arbitrary_base.proofs.power.power_laws.Goals as goal
 

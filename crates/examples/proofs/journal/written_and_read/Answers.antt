@@ -1,3 +1,5 @@
+-- For `written_and_read` in src/journal.rt: the bytes that were written are those that are read, and no two records share theirs
+-- (`records-same` of Records.antt).
 use Rattle.std.specs.Prelude.{◌≡◌, ◌++◌, []}
 use Rattle.std.proofs.Common.{rules, sym, append-nil, ◌∙◌}
 use Rattle.arbitrary_int.specs.Watching.{inner_of}

@@ -1,3 +1,5 @@
+-- For `write_signed` in src/decimal.rt: the digits leave room for the minus sign, which is put before them. The lengths of digits are laws of
+-- Decimals.antt.
 use Rattle.std.proofs.Common.{◌≡◌, ◌+◌, ◌-◌, ◌∙◌, ap, arith, to_z-of_z, unsigned_abs}
 use Rattle.std.proofs.lemmas.List.{drop-set}
 use Rattle.step_service.proofs.Decimals.{length-decimal, minus_first}
