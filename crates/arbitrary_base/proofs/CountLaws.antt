@@ -104,6 +104,9 @@ front-of_not_zero s B = ap (front true) (bits-not_zero s B) ∙ front-alike true
 pub front-of_highest : (B : ℕ) (x : ℤ) → x ≡ pos (2 ^ B) -ℤ pos 1 → front true (bits B x) ≡ B
 front-of_highest B x e = ap (λ (z : ℤ). front true (bits B z)) e ∙ ap (front true) (bits-highest B) ∙ front-alike true B
 
+pub front-of_minus_one : (B : ℕ) → front true (bits B (negsuc 0)) ≡ B
+front-of_minus_one B = ap (front true) (bits-minus_one B) ∙ front-alike true B
+
 pub front_ones-of_not : (s : Bool) (B : ℕ) (x : ℤ) → front true (bits B (bitwise_not s B x)) ≡ front false (bits B x)
 front_ones-of_not s B x = ap (front true) (bits-not s B x) ∙ sym (front-false_of_not (bits B x))
 
@@ -118,6 +121,9 @@ tail-of_not_zero s B = ap (tail true) (bits-not_zero s B) ∙ ap (front true) (r
 
 pub tail-of_highest : (B : ℕ) (x : ℤ) → x ≡ pos (2 ^ B) -ℤ pos 1 → tail true (bits B x) ≡ B
 tail-of_highest B x e = ap (λ (z : ℤ). tail true (bits B z)) e ∙ ap (tail true) (bits-highest B) ∙ ap (front true) (reverse-alike B true) ∙ front-alike true B
+
+pub tail-of_minus_one : (B : ℕ) → tail true (bits B (negsuc 0)) ≡ B
+tail-of_minus_one B = ap (tail true) (bits-minus_one B) ∙ ap (front true) (reverse-alike B true) ∙ front-alike true B
 
 pub tail_ones-of_not : (s : Bool) (B : ℕ) (x : ℤ) → tail true (bits B (bitwise_not s B x)) ≡ tail false (bits B x)
 tail_ones-of_not s B x = ap (tail true) (bits-not s B x) ∙ sym (tail-false_of_not (bits B x))

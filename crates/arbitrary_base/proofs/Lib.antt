@@ -43,5 +43,6 @@ pub mod ShiftLaws
 pub mod RotationLaws
 pub mod CountLaws
 pub mod CountBounds
+pub mod OnesBounds
 pub mod MixedLaws
 pub mod ExactLaws

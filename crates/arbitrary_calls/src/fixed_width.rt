@@ -1,6 +1,6 @@
 //! What every integer of fixed width can do, each call written once for both types.
 
-ghost use Rattle.std.specs.Prelude.{◌≡◌, ◌≢◌, ◌↔◌, ◌≤◌, ◌<◌, ◌+◌, ◌-◌, ◌*◌, ◌%◌, ◌^◌, ◌≤ℤ◌, ◌<ℤ◌, ◌+ℤ◌, ◌-ℤ◌, ◌*ℤ◌, ℤ, pos, unsigned_abs, IsTrue, IsNone, IfSome, false, true, int_div, reverse};
+ghost use Rattle.std.specs.Prelude.{◌≡◌, ◌≢◌, ◌↔◌, ◌≤◌, ◌<◌, ◌+◌, ◌-◌, ◌*◌, ◌%◌, ◌^◌, ◌≤ℤ◌, ◌<ℤ◌, ◌+ℤ◌, ◌-ℤ◌, ◌*ℤ◌, ℤ, pos, neg_ℤ, unsigned_abs, IsTrue, IsNone, IfSome, false, true, int_div, reverse};
 ghost use Rattle.arbitrary_base.specs.Range.{InRange, lo, hi};
 ghost use Rattle.arbitrary_base.specs.Residue.{Congruent, wrap};
 ghost use Rattle.arbitrary_base.specs.Saturation.{clamp};
@@ -76,6 +76,8 @@ pub trait FixedWidth: Integer + Patterned {
         ensures kept { InRange Self.IS_SIGNED Self.BITS (Self.number self +ℤ Self.number rhs) → Self.number result ≡ Self.number self +ℤ Self.number rhs }
         ensures above { hi Self.IS_SIGNED Self.BITS <ℤ (Self.number self +ℤ Self.number rhs) → Self.number result ≡ hi Self.IS_SIGNED Self.BITS }
         ensures below { (Self.number self +ℤ Self.number rhs) <ℤ lo Self.IS_SIGNED Self.BITS → Self.number result ≡ lo Self.IS_SIGNED Self.BITS }
+        ensures range { InRange Self.IS_SIGNED Self.BITS (Self.number self) }
+        ensures bounded { InRange Self.IS_SIGNED Self.BITS (Self.number result) }
     {
         Self::from_kept(saturating::add(self.kept(), rhs.kept(), Self::BITS))
     }
@@ -121,6 +123,8 @@ pub trait FixedWidth: Integer + Patterned {
         ensures kept { InRange Self.IS_SIGNED Self.BITS (Self.number self -ℤ Self.number rhs) → Self.number result ≡ Self.number self -ℤ Self.number rhs }
         ensures above { hi Self.IS_SIGNED Self.BITS <ℤ (Self.number self -ℤ Self.number rhs) → Self.number result ≡ hi Self.IS_SIGNED Self.BITS }
         ensures below { (Self.number self -ℤ Self.number rhs) <ℤ lo Self.IS_SIGNED Self.BITS → Self.number result ≡ lo Self.IS_SIGNED Self.BITS }
+        ensures range { InRange Self.IS_SIGNED Self.BITS (Self.number self) }
+        ensures bounded { InRange Self.IS_SIGNED Self.BITS (Self.number result) }
     {
         Self::from_kept(saturating::sub(self.kept(), rhs.kept(), Self::BITS))
     }
@@ -164,6 +168,8 @@ pub trait FixedWidth: Integer + Patterned {
         ensures kept { InRange Self.IS_SIGNED Self.BITS (Self.number self *ℤ Self.number rhs) → Self.number result ≡ Self.number self *ℤ Self.number rhs }
         ensures above { hi Self.IS_SIGNED Self.BITS <ℤ (Self.number self *ℤ Self.number rhs) → Self.number result ≡ hi Self.IS_SIGNED Self.BITS }
         ensures below { (Self.number self *ℤ Self.number rhs) <ℤ lo Self.IS_SIGNED Self.BITS → Self.number result ≡ lo Self.IS_SIGNED Self.BITS }
+        ensures range { InRange Self.IS_SIGNED Self.BITS (Self.number self) }
+        ensures bounded { InRange Self.IS_SIGNED Self.BITS (Self.number result) }
     {
         Self::from_kept(saturating::mul(self.kept(), rhs.kept(), Self::BITS))
     }
@@ -374,21 +380,29 @@ pub trait FixedWidth: Integer + Patterned {
     }
 
     /// How many of the bits are one.
-    #[tactic(auto, using(arbitrary_base::proofs::BitResult::count_laws, arbitrary_base::proofs::CountBounds::ones_bounds))]
+    #[tactic(auto, using(arbitrary_base::proofs::BitResult::count_laws, arbitrary_base::proofs::CountBounds::ones_bounds, arbitrary_base::proofs::OnesBounds::ones_ends))]
     final fn count_ones(self) -> u32
         ensures value { result ≡ ones (bits Self.BITS (Self.number self)) }
         ensures bound { result ≤ Self.BITS }
         ensures none { Self.number self ≡ pos 0 → result ≡ 0 }
         ensures some { Self.number self ≢ pos 0 → 1 ≤ result }
+        ensures highest { Self.number self ≡ pos (2 ^ Self.BITS) -ℤ pos 1 → result ≡ Self.BITS }
+        ensures minus_one { Self.number self ≡ neg_ℤ (pos 1) → result ≡ Self.BITS }
+        ensures found { Self.number self ≢ pos (2 ^ Self.BITS) -ℤ pos 1 → Self.number self ≢ neg_ℤ (pos 1) → result < Self.BITS }
     {
         patterns::count_ones(self.pattern(), Self::BITS)
     }
 
     /// How many of the bits are zero.
-    #[tactic(auto, using(arbitrary_base::proofs::BitResult::count_laws))]
+    #[tactic(auto, using(arbitrary_base::proofs::BitResult::count_laws, arbitrary_base::proofs::OnesBounds::zeros_ends))]
     final fn count_zeros(self) -> u32
         ensures value { result ≡ Self.BITS - ones (bits Self.BITS (Self.number self)) }
         ensures bound { result ≤ Self.BITS }
+        ensures none { Self.number self ≡ pos 0 → result ≡ Self.BITS }
+        ensures found { Self.number self ≢ pos 0 → result < Self.BITS }
+        ensures highest { Self.number self ≡ pos (2 ^ Self.BITS) -ℤ pos 1 → result ≡ 0 }
+        ensures minus_one { Self.number self ≡ neg_ℤ (pos 1) → result ≡ 0 }
+        ensures some { Self.number self ≢ pos (2 ^ Self.BITS) -ℤ pos 1 → Self.number self ≢ neg_ℤ (pos 1) → 1 ≤ result }
     {
         let pattern = self.pattern();
         Self::BITS as u32 - patterns::count_ones(pattern, Self::BITS)
@@ -399,6 +413,12 @@ pub trait FixedWidth: Integer + Patterned {
     final fn leading_ones(self) -> u32
         ensures value { result ≡ tail true (bits Self.BITS (Self.number self)) }
         ensures bound { result ≤ Self.BITS }
+        ensures highest { Self.number self ≡ pos (2 ^ Self.BITS) -ℤ pos 1 → result ≡ Self.BITS }
+        ensures minus_one { Self.number self ≡ neg_ℤ (pos 1) → result ≡ Self.BITS }
+        ensures found { Self.number self ≢ pos (2 ^ Self.BITS) -ℤ pos 1 → Self.number self ≢ neg_ℤ (pos 1) → result < Self.BITS }
+        ensures none { pos 0 ≤ℤ Self.number self → Self.number self <ℤ pos (2 ^ (Self.BITS - 1)) → result ≡ 0 }
+        ensures some { pos (2 ^ (Self.BITS - 1)) ≤ℤ Self.number self → 1 ≤ result }
+        ensures negative { Self.number self <ℤ pos 0 → 1 ≤ result }
     {
         patterns::leading_ones(cut(self.pattern(), Self::BITS), Self::BITS)
     }
@@ -418,16 +438,21 @@ pub trait FixedWidth: Integer + Patterned {
     }
 
     /// How many bits at the low end are one before the first that is zero, or all of them.
-    #[tactic(auto, using(arbitrary_base::proofs::BitResult::count_laws))]
+    #[tactic(auto, using(arbitrary_base::proofs::BitResult::count_laws, arbitrary_base::proofs::OnesBounds::trailing_ends))]
     final fn trailing_ones(self) -> u32
         ensures value { result ≡ front true (bits Self.BITS (Self.number self)) }
         ensures bound { result ≤ Self.BITS }
+        ensures highest { Self.number self ≡ pos (2 ^ Self.BITS) -ℤ pos 1 → result ≡ Self.BITS }
+        ensures minus_one { Self.number self ≡ neg_ℤ (pos 1) → result ≡ Self.BITS }
+        ensures found { Self.number self ≢ pos (2 ^ Self.BITS) -ℤ pos 1 → Self.number self ≢ neg_ℤ (pos 1) → result < Self.BITS }
+        ensures none { Congruent 1 (Self.number self) (pos 0) → result ≡ 0 }
+        ensures some { Congruent 1 (Self.number self) (pos 1) → 1 ≤ result }
     {
         patterns::trailing_ones(self.pattern(), Self::BITS)
     }
 
     /// How many bits at the low end are zero before the first that is one, or all of them.
-    #[tactic(auto, using(arbitrary_base::proofs::BitResult::count_laws, arbitrary_base::proofs::CountBounds::trailing_bounds))]
+    #[tactic(auto, using(arbitrary_base::proofs::BitResult::count_laws, arbitrary_base::proofs::CountBounds::trailing_bounds, arbitrary_base::proofs::OnesBounds::lowest_bit))]
     final fn trailing_zeros(self) -> u32
         ensures value { result ≡ front false (bits Self.BITS (Self.number self)) }
         ensures bound { result ≤ Self.BITS }
@@ -435,6 +460,8 @@ pub trait FixedWidth: Integer + Patterned {
         ensures found { Self.number self ≢ pos 0 → result < Self.BITS }
         ensures low { Congruent result (Self.number self) (pos 0) }
         ensures one { Self.number self ≢ pos 0 → Congruent (result + 1) (Self.number self) (pos (2 ^ result)) }
+        ensures odd { Congruent 1 (Self.number self) (pos 1) → result ≡ 0 }
+        ensures even { Congruent 1 (Self.number self) (pos 0) → 1 ≤ result }
     {
         patterns::trailing_zeros(self.pattern(), Self::BITS)
     }

@@ -1,19 +1,31 @@
-use Rattle.std.specs.Prelude.{◌≡◌, ◌≤◌, ◌%◌, ◌^◌, ℕ, pos, true}
+use Rattle.std.specs.Prelude.{◌≡◌, ◌≤◌, ◌<◌, ◌%◌, ◌^◌, ℕ, pos, true}
 use Rattle.std.proofs.Common.{ap, sym, subst, ◌∙◌}
 use Rattle.std.proofs.Math.Nat.{mod-eq_of_lt}
 use Rattle.arbitrary_base.specs.BitList.{bits, tail}
 use Rattle.arbitrary_base.proofs.BitCount.{tail-fits}
 use Rattle.arbitrary_base.proofs.BitValue.{bits-residue}
+use Rattle.arbitrary_base.proofs.CountLaws.{tail-of_highest}
+use Rattle.arbitrary_base.proofs.OnesBounds.{leading_ones-found, leading_ones-minus_one, leading_ones-negative, leading_ones-none, leading_ones-some}
 use Rattle.arbitrary_calls.proofs.fixed_width.FixedWidth.leading_ones.Goals as goal
 
 pub returns : goal.returns
 returns g c =
+    let s = g.Self.Integer.IS_SIGNED in
+    let B = g.Self.Integer.BITS in
     let x = g.Self.Integer.number c.args.self in
-    let n : c.cut.result ≡ c.pattern.result % 2 ^ g.Self.Integer.BITS = cc in
+    let h = c.pattern.ensures.some in
+    let f = c.pattern.ensures.range in
+    let n : c.cut.result ≡ c.pattern.result % 2 ^ B = cc in
     let p = n ∙ mod-eq_of_lt c.pattern.ensures.fits ∙ c.pattern.ensures.value in
-    let v : c.leading_ones.result ≡ tail true (bits g.Self.Integer.BITS (pos c.cut.result)) = cc in
-    let e = v ∙ ap (tail true) (bits-residue g.Self.Integer.BITS _ x p) in
+    let v : c.leading_ones.result ≡ tail true (bits B (pos c.cut.result)) = cc in
+    let e = v ∙ ap (tail true) (bits-residue B _ x p) in
     record {
       value = e;
-      bound = subst (λ (m : ℕ). m ≤ g.Self.Integer.BITS) (sym e) (tail-fits true g.Self.Integer.BITS x);
+      bound = subst (λ (m : ℕ). m ≤ B) (sym e) (tail-fits true B x);
+      highest = λ t. e ∙ tail-of_highest B x t;
+      minus_one = λ t. e ∙ leading_ones-minus_one B x t;
+      found = λ d t. subst (λ (m : ℕ). m < B) (sym e) (leading_ones-found s B x h f d t);
+      none = λ l t. e ∙ leading_ones-none s B x h f l t;
+      some = λ l. subst (λ (m : ℕ). 1 ≤ m) (sym e) (leading_ones-some s B x h f l);
+      negative = λ l. subst (λ (m : ℕ). 1 ≤ m) (sym e) (leading_ones-negative s B x h f l);
     }
