@@ -28,8 +28,11 @@ pub ruleset reversals = (reversed-zero, reversed-highest, reversed-minus_one, re
 -- counts of bits
 pub ruleset counts = (ones-of_zero, ones-of_highest, ones-of_minus_one, ones-of_not, ones-of_reversed, ones-of_left, ones-of_right, zero-of_no_ones, no_ones-of_zero, front-of_zero, front-of_not_zero, front-of_highest, front_ones-of_not, front_zeros-of_not, tail-of_zero, tail-of_not_zero, tail-of_highest, tail_ones-of_not, tail_zeros-of_not, tail-of_reversed, front-of_reversed, bitwise_not-zero, bitwise_not-zero_signed)
 
--- sums, differences and products that wrap
-pub ruleset ring = (wrapped_sum-commutes, wrapped_sum-associates, wrapped_sum-zero, wrapped_difference-self, wrapped_difference-zero, wrapped_difference-is_sum, difference-of_sum, difference-of_sum_left, sum-of_difference, sum-to_difference, difference-to_difference, difference-twice, difference-turned, negated-twice, negated-sum, wrapped_product-commutes, wrapped_product-associates, wrapped_product-zero, wrapped_product-one, wrapped_product-two, product-of_sum, product-of_difference, product-of_negated)
+-- sums and differences that wrap
+pub ruleset ring = (wrapped_sum-commutes, wrapped_sum-associates, wrapped_sum-zero, wrapped_difference-self, wrapped_difference-zero, wrapped_difference-is_sum, difference-of_sum, difference-of_sum_left, sum-of_difference, sum-to_difference, difference-to_difference, difference-twice, difference-turned, negated-twice, negated-sum)
+
+-- products that wrap, also of sums and differences
+pub ruleset products = (wrapped_product-commutes, wrapped_product-associates, wrapped_product-zero, wrapped_product-one, wrapped_product-two, product-of_sum, product-of_difference, product-of_negated, wrapped_sum-commutes)
 
 -- small powers, a number by itself, and a number that is extended and cut again
 pub ruleset exact = (power-none, power-one, power-twice, quotient-self, extended-back, wrap-of_in_range, clamp-fits)
