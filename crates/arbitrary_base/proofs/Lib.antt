@@ -42,4 +42,6 @@ pub mod RotationLaws
 pub mod CountLaws
 pub mod CountBounds
 pub mod MixedLaws
+pub mod MaskLaws
+pub mod ComplementLaws
 pub mod ExactLaws
