@@ -1,19 +1,19 @@
 -- The laws of counts: how many bits of a number are one, and how many alike stand at either end.
 -- The set `counts` of `arbitrary_int::proofs::BitVector` has them; what a count bounds of a number stands in CountBounds.antt.
-use Rattle.std.specs.Prelude.{◌≡◌, ℕ, ℤ, zero, suc, Bool, true, false, not, List, [], ◌∷◌, ◌++◌, drop, length, replicate, reverse, take, pos, negsuc, ◌≤◌, ◌+◌, ◌-◌, ◌^◌, ◌-ℤ◌}
+use Rattle.std.specs.Prelude.{◌≡◌, ℕ, ℤ, zero, suc, Bool, true, false, not, ◌&&◌, ◌||◌, List, [], ◌∷◌, ◌++◌, drop, length, replicate, reverse, take, pos, negsuc, ◌≤◌, ◌+◌, ◌-◌, ◌^◌, ◌-ℤ◌}
 use Rattle.std.proofs.Common.{refl, sym, ap, ap₂, ◌∙◌, arith, take-append-drop}
 use Rattle.std.proofs.lemmas.Int.{ints}
 use Rattle.std.proofs.lemmas.List.{reverse-reverse}
 use Rattle.std.proofs.lemmas.List.Sums.{sum_by-append}
 use Rattle.arbitrary_base.specs.Range.{InRange}
-use Rattle.arbitrary_base.specs.BitList.{bits, digit, val, bits_not, front, ones, rotl, rotr, tail}
-use Rattle.arbitrary_base.specs.Operation.{bitwise_not, reversed, rotated_left, rotated_right}
+use Rattle.arbitrary_base.specs.BitList.{bits, digit, val, bits_and, bits_not, bits_or, front, ones, rotl, rotr, tail}
+use Rattle.arbitrary_base.specs.Operation.{bitwise_and, bitwise_not, bitwise_or, reversed, rotated_left, rotated_right}
 use Rattle.arbitrary_base.proofs.BitCount.{front-not, ones-cons, ones-not, tail-not}
-use Rattle.arbitrary_base.proofs.BitNumber.{length-bits}
+use Rattle.arbitrary_base.proofs.BitNumber.{length-bits, same_length}
 use Rattle.arbitrary_base.proofs.BitShift.{reverse-cons}
 use Rattle.arbitrary_base.proofs.BitwiseLaws.{bitwise_not-twice}
-use Rattle.arbitrary_base.proofs.Operation.{bits-highest, bits-minus_one, bits-not, bits-not_zero, bits-reversed, bits-rotl, bits-rotr, bits-zero, of-bits, zero-is}
-use Rattle.arbitrary_base.proofs.Pointwise.{not-not}
+use Rattle.arbitrary_base.proofs.Operation.{bits-and, bits-highest, bits-minus_one, bits-not, bits-not_zero, bits-or, bits-reversed, bits-rotl, bits-rotr, bits-zero, of-bits, zero-is}
+use Rattle.arbitrary_base.proofs.Pointwise.{and-comm, not-not}
 use Rattle.arbitrary_base.proofs.Rotations.{reverse-alike}
 
 -- ---- of lists
@@ -60,6 +60,27 @@ front-false_of_not l = ap (front false) (sym (not-not l)) ∙ sym (front-not (bi
 tail-false_of_not : (l : List Bool) → tail false l ≡ tail true (bits_not l)
 tail-false_of_not l = ap (tail false) (sym (not-not l)) ∙ sym (tail-not (bits_not l))
 
+ones-and_or : (l m : List Bool) → length l ≡ length m → ones (bits_and l m) + ones (bits_or l m) ≡ ones l + ones m
+ones-and_or [] [] e = refl
+ones-and_or [] (b ∷ m) e = absurd (omega arith)
+ones-and_or (a ∷ l) [] e = absurd (omega arith)
+ones-and_or (a ∷ l) (b ∷ m) e =
+    omega (arith, item a b, ones-cons (a && b) (bits_and l m), ones-cons (a || b) (bits_or l m), ones-cons a l, ones-cons b m, ones-and_or l m (omega arith))
+  where
+    item : (a b : Bool) → digit (a && b) + digit (a || b) ≡ digit a + digit b
+    item true b = omega arith
+    item false b = refl
+
+ones-and : (l m : List Bool) → ones (bits_and l m) ≤ ones l
+ones-and [] m = omega arith
+ones-and (a ∷ l) [] = omega arith
+ones-and (a ∷ l) (b ∷ m) = omega (arith, item a b, ones-cons (a && b) (bits_and l m), ones-cons a l, ones-and l m)
+  where
+    item : (a b : Bool) → digit (a && b) ≤ digit a
+    item true true = omega arith
+    item true false = omega arith
+    item false b = omega arith
+
 -- ---- how many are one
 
 pub ones-of_zero : (B : ℕ) → ones (bits B (pos 0)) ≡ 0
@@ -92,6 +113,27 @@ no_ones-of_zero B x e = ap (λ (z : ℤ). ones (bits B z)) e ∙ ones-of_zero B
 pub zero-of_no_ones : (s : Bool) (B : ℕ) (x : ℤ) → 1 ≤ B → InRange s B x → ones (bits B x) ≡ 0 → x ≡ pos 0
 zero-of_no_ones s B x h f e =
     of-bits s B x h f ∙ ap (val s) (no_ones (bits B x) e ∙ ap (λ (n : ℕ). replicate n false) (length-bits B x)) ∙ sym (zero-is s B h)
+
+pub ones-of_and_or : (s : Bool) (B : ℕ) (x y : ℤ)
+    → ones (bits B (bitwise_and s B x y)) + ones (bits B (bitwise_or s B x y)) ≡ ones (bits B x) + ones (bits B y)
+ones-of_and_or s B x y =
+    let e = ap ones (bits-and s B x y) in
+    let f = ap ones (bits-or s B x y) in
+    omega (arith, ones-and_or (bits B x) (bits B y) (same_length B x y))
+
+pub ones-of_and : (s : Bool) (B : ℕ) (x y : ℤ)
+    → (ones (bits B (bitwise_and s B x y)) ≤ ones (bits B x)) × (ones (bits B (bitwise_and s B x y)) ≤ ones (bits B y))
+ones-of_and s B x y =
+    let e = ap ones (bits-and s B x y) in
+    let f = ap ones (and-comm (bits B x) (bits B y)) in
+    (omega (arith, ones-and (bits B x) (bits B y)), omega (arith, ones-and (bits B y) (bits B x)))
+
+pub ones-of_or : (s : Bool) (B : ℕ) (x y : ℤ)
+    → (ones (bits B x) ≤ ones (bits B (bitwise_or s B x y))) × (ones (bits B y) ≤ ones (bits B (bitwise_or s B x y)))
+ones-of_or s B x y =
+    let e = ones-of_and_or s B x y in
+    let f = ones-of_and s B x y in
+    (omega arith, omega arith)
 
 -- ---- how many alike stand at an end
 

@@ -21,6 +21,16 @@ pub power-twice : (x : ℤ) → power x 2 ≡ x *ℤ x
 unfolding power
 power-twice x = ap (λ (z : ℤ). x *ℤ z) (power-one x)
 
+pub power-of_one : (n : ℕ) → power (pos 1) n ≡ pos 1
+unfolding power
+power-of_one zero = refl
+power-of_one (suc n) = let e = power-of_one n in omega (arith, ints)
+
+pub power-of_zero : (n : ℕ) → 1 ≤ n → power (pos 0) n ≡ pos 0
+unfolding power
+power-of_zero zero h = absurd (omega arith)
+power-of_zero (suc n) h = omega (arith, ints)
+
 pub quotient-self : (x : ℤ) → x ≢ pos 0 → int_div x x ≡ pos 1
 quotient-self (pos zero) h = absurd (h refl)
 quotient-self (pos (suc n)) h = ap pos (div_self (omega arith))

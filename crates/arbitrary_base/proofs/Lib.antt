@@ -45,4 +45,6 @@ pub mod CountLaws
 pub mod CountBounds
 pub mod OnesBounds
 pub mod MixedLaws
+pub mod MaskLaws
+pub mod ComplementLaws
 pub mod ExactLaws

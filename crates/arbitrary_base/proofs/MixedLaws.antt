@@ -20,7 +20,7 @@ use Rattle.arbitrary_base.proofs.Operation.{and-is, or-is, xor-is, not-is, bits-
 
 -- ---- the numbers of lists
 
-num-or_and : (l m : List Bool) → length l ≡ length m → num (bits_or l m) + num (bits_and l m) ≡ num l + num m
+pub num-or_and : (l m : List Bool) → length l ≡ length m → num (bits_or l m) + num (bits_and l m) ≡ num l + num m
 num-or_and [] [] e = refl
 num-or_and [] (b ∷ m) e = absurd (omega arith)
 num-or_and (a ∷ l) [] e = absurd (omega arith)
@@ -29,7 +29,7 @@ num-or_and (true ∷ l) (false ∷ m) e = let h = num-or_and l m (omega arith) i
 num-or_and (false ∷ l) (true ∷ m) e = let h = num-or_and l m (omega arith) in omega arith
 num-or_and (false ∷ l) (false ∷ m) e = let h = num-or_and l m (omega arith) in omega arith
 
-num-xor_and : (l m : List Bool) → length l ≡ length m → num (bits_xor l m) + num (bits_and l m) ≡ num (bits_or l m)
+pub num-xor_and : (l m : List Bool) → length l ≡ length m → num (bits_xor l m) + num (bits_and l m) ≡ num (bits_or l m)
 num-xor_and [] [] e = refl
 num-xor_and [] (b ∷ m) e = absurd (omega arith)
 num-xor_and (a ∷ l) [] e = absurd (omega arith)
@@ -38,7 +38,7 @@ num-xor_and (true ∷ l) (false ∷ m) e = let h = num-xor_and l m (omega arith)
 num-xor_and (false ∷ l) (true ∷ m) e = let h = num-xor_and l m (omega arith) in omega arith
 num-xor_and (false ∷ l) (false ∷ m) e = let h = num-xor_and l m (omega arith) in omega arith
 
-num-and_not : (l m : List Bool) → length l ≡ length m → num (bits_and l (bits_not m)) + num (bits_and l m) ≡ num l
+pub num-and_not : (l m : List Bool) → length l ≡ length m → num (bits_and l (bits_not m)) + num (bits_and l m) ≡ num l
 num-and_not [] [] e = refl
 num-and_not [] (b ∷ m) e = absurd (omega arith)
 num-and_not (a ∷ l) [] e = absurd (omega arith)
@@ -49,10 +49,10 @@ num-and_not (false ∷ l) (false ∷ m) e = let h = num-and_not l m (omega arith
 
 -- ---- what a number is congruent to
 
-natural : (B : ℕ) (x : ℤ) → Congruent B x (pos (num (bits B x)))
+pub natural : (B : ℕ) (x : ℤ) → Congruent B x (pos (num (bits B x)))
 natural B x = Congruent-sym B _ x (subst (λ (n : ℕ). Congruent B (pos n) x) (sym (num-bits_residue B x)) (residue-congruent B x))
 
-of-list : (B : ℕ) (x : ℤ) (l : List Bool) → bits B x ≡ l → Congruent B x (pos (num l))
+pub of-list : (B : ℕ) (x : ℤ) (l : List Bool) → bits B x ≡ l → Congruent B x (pos (num l))
 of-list B x l e = subst (λ (m : List Bool). Congruent B x (pos (num m))) e (natural B x)
 
 pub and-in_range : (s : Bool) (B : ℕ) (x y : ℤ) → 1 ≤ B → InRange s B (bitwise_and s B x y)
@@ -129,4 +129,22 @@ or-above B x y h f =
     let d = plain B (bitwise_or false B x y) (or-in_range false B x y h) in
     let b = ap num (bits-or false B x y) in
     let c = num-or_left (bits B x) (bits B y) (same_length B x y) in
+    omega (arith, ints)
+
+pub xor-below_or : (B : ℕ) (x y : ℤ) → 1 ≤ B → bitwise_xor false B x y ≤ℤ bitwise_or false B x y
+xor-below_or B x y h =
+    let e = plain B (bitwise_xor false B x y) (xor-in_range false B x y h) in
+    let d = plain B (bitwise_or false B x y) (or-in_range false B x y h) in
+    let a = ap num (bits-xor false B x y) in
+    let b = ap num (bits-or false B x y) in
+    let c = num-xor_and (bits B x) (bits B y) (same_length B x y) in
+    omega (arith, ints)
+
+pub and-below_or : (B : ℕ) (x y : ℤ) → 1 ≤ B → bitwise_and false B x y ≤ℤ bitwise_or false B x y
+and-below_or B x y h =
+    let e = plain B (bitwise_and false B x y) (and-in_range false B x y h) in
+    let d = plain B (bitwise_or false B x y) (or-in_range false B x y h) in
+    let a = ap num (bits-and false B x y) in
+    let b = ap num (bits-or false B x y) in
+    let c = num-xor_and (bits B x) (bits B y) (same_length B x y) in
     omega (arith, ints)

@@ -2,7 +2,7 @@ use Rattle.std.proofs.Common.{refl, sym, ◌∙◌}
 use Rattle.arbitrary_base.proofs.PatternArithmetic.{sum-of_patterns}
 use Rattle.arbitrary_base.proofs.Undone.{add-undoes}
 use Rattle.arbitrary_base.proofs.Wrapped.{wrapped-congruent, wrapped-kept}
-use Rattle.arbitrary_base.proofs.Operation.{sum-is}
+use Rattle.arbitrary_base.proofs.Operation.{difference-is, sum-is}
 use Rattle.arbitrary_calls.proofs.fixed_width.FixedWidth.wrapping_add.Goals as goal
 
 pub returns : goal.returns
@@ -14,6 +14,6 @@ returns g c =
       value = e;
       kept = λ f. wrapped-kept _ _ _ _ o f e;
       congruent = wrapped-congruent _ _ _ _ e;
-      undo = λ y f d. add-undoes _ _ _ (g.Self.Integer.number c.args.rhs) _ y o f d e;
+      undo = λ y f d. add-undoes _ _ _ (g.Self.Integer.number c.args.rhs) _ y o f (d ∙ difference-is _ _ _ _) e;
       range = c.pattern.ensures.range;
     }
