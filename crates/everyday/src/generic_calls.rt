@@ -48,3 +48,10 @@ pub fn primitive_narrowed(a: i64) -> u8
 {
     a.as_u8()
 }
+
+pub fn step_down<V: FixedWidth>(x: V, step: V) -> V
+    requires { pos 0 ≤ℤ V.number step }
+    ensures { V.number result ≤ℤ V.number x }
+{
+    x.saturating_sub(step)
+}

@@ -7,6 +7,7 @@ pub mod bits;
 pub mod bytes;
 pub mod conversions;
 pub mod counters;
+pub mod counts;
 pub mod defaults;
 pub mod fields;
 pub mod generic;

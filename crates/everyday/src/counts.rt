@@ -1,0 +1,60 @@
+//! Counts of bits at their ends, and the places that they find.
+
+ghost use Rattle.std.specs.Prelude.{◌≡◌, ◌<◌, ◌≤◌, ◌≤ℤ◌, ◌<ℤ◌, pos, neg_ℤ, IfSome};
+ghost use Rattle.arbitrary_int.specs.Residue.{Congruent};
+
+use arbitrary_int::prelude::*;
+
+pub fn zeros_of_all() -> u32
+    ensures { result ≡ 0 }
+{
+    u5::max_value().count_zeros()
+}
+
+pub fn zeros_of_none(x: u5) -> u32
+    ensures none { x ≡ pos 0 → result ≡ 5 }
+    ensures some { x ≡ pos 31 → result ≡ 0 }
+    ensures found { x <ℤ pos 31 → 1 ≤ result }
+{
+    x.count_zeros()
+}
+
+pub fn ones_at_the_front(x: i48) -> u32
+    ensures negative { x <ℤ pos 0 → 1 ≤ result }
+    ensures others { pos 0 ≤ℤ x → result ≡ 0 }
+    ensures all { x ≡ neg_ℤ (pos 1) → result ≡ 48 }
+{
+    x.leading_ones()
+}
+
+pub fn ones_at_the_end(x: u24) -> u32
+    ensures even { Congruent 1 x (pos 0) → result ≡ 0 }
+    ensures odd { Congruent 1 x (pos 1) → 1 ≤ result }
+    ensures all { x ≡ pos 16777215 → result ≡ 24 }
+    ensures found { x <ℤ pos 16777215 → result < 24 }
+{
+    x.trailing_ones()
+}
+
+pub fn zeros_at_the_end(x: u24) -> u32
+    ensures odd { Congruent 1 x (pos 1) → result ≡ 0 }
+    ensures even { Congruent 1 x (pos 0) → 1 ≤ result }
+{
+    x.trailing_zeros()
+}
+
+pub fn free_slot(bitmap: u24) -> Option<u5>
+    ensures { IfSome result (λ place. place <ℤ pos 24) }
+{
+    if bitmap == u24::max_value() {
+        None
+    } else {
+        Some(u5::new(bitmap.trailing_ones() as u8))
+    }
+}
+
+pub fn ones_of_all() -> u32
+    ensures { result ≡ 12 }
+{
+    u12::max_value().count_ones()
+}
