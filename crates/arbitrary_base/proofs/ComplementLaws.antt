@@ -1,19 +1,19 @@
 -- The laws of the complement beside sums and differences: it is what a number lacks to -1.
-use Rattle.std.specs.Prelude.{◌≡◌, ℕ, ℤ, Bool, pos, negsuc, ◌≤◌, ◌+◌, ◌^◌, ◌+ℤ◌, ◌-ℤ◌, ◌*ℤ◌}
-use Rattle.std.proofs.Common.{sym, ap, subst, ◌∙◌, arith}
+use Rattle.std.specs.Prelude.{◌≡◌, ℕ, ℤ, Bool, pos, negsuc, ◌≤◌, ◌+◌, ◌^◌, ◌-ℤ◌}
+use Rattle.std.proofs.Common.{ap, ◌∙◌, arith}
 use Rattle.std.proofs.lemmas.Int.{ints}
 use Rattle.arbitrary_base.specs.Range.{InRange}
 use Rattle.arbitrary_base.specs.Residue.{Congruent}
 use Rattle.arbitrary_base.specs.BitList.{bits, num, bits_and, bits_not}
-use Rattle.arbitrary_base.specs.Operation.{bitwise_and, bitwise_not, bitwise_or, bitwise_xor, shifted_left, wrapped_difference, wrapped_sum}
+use Rattle.arbitrary_base.specs.Operation.{bitwise_and, bitwise_not, bitwise_or, wrapped_difference, wrapped_sum}
 use Rattle.arbitrary_base.proofs.BitNumber.{length-bits, num-not, same_length}
 use Rattle.arbitrary_base.proofs.Congruence.{Congruent-refl, Congruent-sub, Congruent-sym, Congruent-trans}
-use Rattle.arbitrary_base.proofs.MixedLaws.{and-in_range, natural, num-and_not, num-or_and, num-xor_and, of-list, sum-twice, xor-in_range}
-use Rattle.arbitrary_base.proofs.Operation.{bits-and, bits-not, bits-or, bits-xor, not-in_range}
+use Rattle.arbitrary_base.proofs.MixedLaws.{and-in_range, natural, num-and_not, num-or_and, of-list}
+use Rattle.arbitrary_base.proofs.Operation.{bits-and, bits-not, bits-or, not-in_range}
 use Rattle.arbitrary_base.proofs.RingLaws.{by-congruence, difference-congruent, difference-in_range, sum-congruent, sum-in_range}
 use Rattle.arbitrary_base.proofs.Pointwise.{and-comm}
 
-pub not-congruent : (s : Bool) (B : ℕ) (x a : ℤ) → Congruent B x a → Congruent B (bitwise_not s B x) (negsuc 0 -ℤ a)
+not-congruent : (s : Bool) (B : ℕ) (x a : ℤ) → Congruent B x a → Congruent B (bitwise_not s B x) (negsuc 0 -ℤ a)
 not-congruent s B x a c =
     let e : num (bits B x) + num (bits_not (bits B x)) + 1 ≡ 2 ^ B = num-not (bits B x) ∙ ap (λ (n : ℕ). 2 ^ n) (length-bits B x) in
     let d : Congruent B (pos (num (bits_not (bits B x)))) (negsuc 0 -ℤ pos (num (bits B x))) = record { times = pos 1; apart = omega (arith, ints) } in
@@ -38,25 +38,13 @@ not-of_before s B x h =
     (not-congruent s B _ _ (difference-congruent s B _ _ _ _ (Congruent-refl B x) (Congruent-refl B (pos 1))))
     (difference-congruent s B _ _ _ _ (Congruent-refl B (pos 0)) (Congruent-refl B x)) (omega (arith, ints))
 
-pub not-of_sum : (s : Bool) (B : ℕ) (x y : ℤ) → 1 ≤ B → bitwise_not s B (wrapped_sum s B x y) ≡ wrapped_difference s B (bitwise_not s B x) y
-not-of_sum s B x y h =
-    by-congruence s B _ _ _ _ h (not-in_range s B _ h) (difference-in_range s B _ _ h)
-    (not-congruent s B _ _ (sum-congruent s B _ _ _ _ (Congruent-refl B x) (Congruent-refl B y)))
-    (difference-congruent s B _ _ _ _ (not-congruent s B x x (Congruent-refl B x)) (Congruent-refl B y)) (omega (arith, ints))
-
-pub not-of_difference : (s : Bool) (B : ℕ) (x y : ℤ) → 1 ≤ B → bitwise_not s B (wrapped_difference s B x y) ≡ wrapped_sum s B (bitwise_not s B x) y
-not-of_difference s B x y h =
-    by-congruence s B _ _ _ _ h (not-in_range s B _ h) (sum-in_range s B _ _ h)
-    (not-congruent s B _ _ (difference-congruent s B _ _ _ _ (Congruent-refl B x) (Congruent-refl B y)))
-    (sum-congruent s B _ _ _ _ (not-congruent s B x x (Congruent-refl B x)) (Congruent-refl B y)) (omega (arith, ints))
-
 pub sum-with_not : (s : Bool) (B : ℕ) (x : ℤ) → 1 ≤ B → wrapped_sum s B x (bitwise_not s B x) ≡ bitwise_not s B (pos 0)
 sum-with_not s B x h =
     by-congruence s B _ _ _ _ h (sum-in_range s B _ _ h) (not-in_range s B _ h)
     (sum-congruent s B _ _ _ _ (Congruent-refl B x) (not-congruent s B x x (Congruent-refl B x)))
     (not-congruent s B (pos 0) (pos 0) (Congruent-refl B (pos 0))) (omega (arith, ints))
 
--- ---- parts under a mask, and the carries of a sum
+-- ---- parts under a mask
 
 pub sum-of_parts : (s : Bool) (B : ℕ) (x y : ℤ) → 1 ≤ B → InRange s B x → wrapped_sum s B (bitwise_and s B x y) (bitwise_and s B x (bitwise_not s B y)) ≡ x
 sum-of_parts s B x y h f =
@@ -74,16 +62,3 @@ difference-of_or s B x y h =
     by-congruence s B _ _ _ _ h (difference-in_range s B _ _ h) (and-in_range s B y _ h)
     (difference-congruent s B _ _ _ _ (of-list B _ _ (bits-or s B x y)) (natural B x))
     (of-list B _ _ (bits-and s B y _ ∙ ap (bits_and (bits B y)) (bits-not s B x))) (omega (arith, ints))
-
-pub sum-is_xor_and_carries : (s : Bool) (B : ℕ) (x y : ℤ) → 1 ≤ B
-    → wrapped_sum s B x y ≡ wrapped_sum s B (bitwise_xor s B x y) (shifted_left s B (bitwise_and s B x y) 1)
-sum-is_xor_and_carries s B x y h =
-    let e = num-or_and (bits B x) (bits B y) (same_length B x y) in
-    let d = num-xor_and (bits B x) (bits B y) (same_length B x y) in
-    by-congruence s B _ _ _ _ h (sum-in_range s B _ _ h) (sum-in_range s B _ _ h)
-    (sum-congruent s B _ _ _ _ (natural B x) (natural B y))
-    (sum-congruent s B _ _ _ _ (of-list B _ _ (bits-xor s B x y))
-        (subst (λ (z : ℤ). Congruent B z (pos (num (bits_and (bits B x) (bits B y))) +ℤ pos (num (bits_and (bits B x) (bits B y)))))
-            (sym (sum-twice s B (bitwise_and s B x y) h))
-            (sum-congruent s B _ _ _ _ (of-list B _ _ (bits-and s B x y)) (of-list B _ _ (bits-and s B x y)))))
-    (omega (arith, ints))

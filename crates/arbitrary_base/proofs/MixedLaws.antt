@@ -29,7 +29,7 @@ num-or_and (true ∷ l) (false ∷ m) e = let h = num-or_and l m (omega arith) i
 num-or_and (false ∷ l) (true ∷ m) e = let h = num-or_and l m (omega arith) in omega arith
 num-or_and (false ∷ l) (false ∷ m) e = let h = num-or_and l m (omega arith) in omega arith
 
-pub num-xor_and : (l m : List Bool) → length l ≡ length m → num (bits_xor l m) + num (bits_and l m) ≡ num (bits_or l m)
+num-xor_and : (l m : List Bool) → length l ≡ length m → num (bits_xor l m) + num (bits_and l m) ≡ num (bits_or l m)
 num-xor_and [] [] e = refl
 num-xor_and [] (b ∷ m) e = absurd (omega arith)
 num-xor_and (a ∷ l) [] e = absurd (omega arith)
@@ -129,22 +129,4 @@ or-above B x y h f =
     let d = plain B (bitwise_or false B x y) (or-in_range false B x y h) in
     let b = ap num (bits-or false B x y) in
     let c = num-or_left (bits B x) (bits B y) (same_length B x y) in
-    omega (arith, ints)
-
-pub xor-below_or : (B : ℕ) (x y : ℤ) → 1 ≤ B → bitwise_xor false B x y ≤ℤ bitwise_or false B x y
-xor-below_or B x y h =
-    let e = plain B (bitwise_xor false B x y) (xor-in_range false B x y h) in
-    let d = plain B (bitwise_or false B x y) (or-in_range false B x y h) in
-    let a = ap num (bits-xor false B x y) in
-    let b = ap num (bits-or false B x y) in
-    let c = num-xor_and (bits B x) (bits B y) (same_length B x y) in
-    omega (arith, ints)
-
-pub and-below_or : (B : ℕ) (x y : ℤ) → 1 ≤ B → bitwise_and false B x y ≤ℤ bitwise_or false B x y
-and-below_or B x y h =
-    let e = plain B (bitwise_and false B x y) (and-in_range false B x y h) in
-    let d = plain B (bitwise_or false B x y) (or-in_range false B x y h) in
-    let a = ap num (bits-and false B x y) in
-    let b = ap num (bits-or false B x y) in
-    let c = num-xor_and (bits B x) (bits B y) (same_length B x y) in
     omega (arith, ints)

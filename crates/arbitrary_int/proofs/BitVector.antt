@@ -2,10 +2,10 @@
 -- `#![tactic(auto, using(arbitrary_int::proofs::BitVector::bits))]`. All of them at once are too many for the search.
 use Rattle.arbitrary_base.proofs.BitwiseLaws.{and-absorbs, and-distributes_or, and-distributes_xor, bitwise_and-associates, bitwise_and-commutes, bitwise_and-complement, bitwise_and-highest, bitwise_and-minus_one, bitwise_and-not_zero, bitwise_and-same, bitwise_and-zero, bitwise_not-twice, bitwise_not-zero, bitwise_not-zero_signed, bitwise_or-associates, bitwise_or-commutes, bitwise_or-complement, bitwise_or-highest, bitwise_or-minus_one, bitwise_or-not_zero, bitwise_or-same, bitwise_or-zero, bitwise_xor-associates, bitwise_xor-commutes, bitwise_xor-equal, bitwise_xor-highest, bitwise_xor-minus_one, bitwise_xor-not_zero, bitwise_xor-same, bitwise_xor-undoes, bitwise_xor-zero, not-and_parts, not-or_parts, not-xor_left, or-absorbs, or-distributes_and, xor-is_and}
 use Rattle.arbitrary_base.proofs.Clamp.{clamp-fits}
-use Rattle.arbitrary_base.proofs.ComplementLaws.{difference-of_or, negated-is_sum, not-is_difference, not-of_before, not-of_difference, not-of_sum, sum-is_xor_and_carries, sum-of_parts, sum-with_not}
+use Rattle.arbitrary_base.proofs.ComplementLaws.{difference-of_or, negated-is_sum, not-is_difference, not-of_before, sum-of_parts, sum-with_not}
 use Rattle.arbitrary_base.proofs.MaskLaws.{and-or_of_not, and_not-is_xor, choice-is_xor, or-and_of_not, or-is_xor, or-of_parts, xor-is_or}
 use Rattle.arbitrary_base.proofs.CountLaws.{front-of_highest, front-of_not_zero, front-of_reversed, front-of_zero, front_ones-of_not, front_zeros-of_not, ones-of_highest, ones-of_left, ones-of_minus_one, ones-of_not, ones-of_reversed, ones-of_right, ones-of_zero, tail-of_highest, tail-of_not_zero, tail-of_reversed, tail-of_zero, tail_ones-of_not, tail_zeros-of_not, no_ones-of_zero, zero-of_no_ones, ones-of_and, ones-of_and_or, ones-of_or}
-use Rattle.arbitrary_base.proofs.MixedLaws.{difference-of_and, difference-of_or_and, or-above, sum-of_disjoint, sum-of_or_and, sum-of_xor_and, sum-twice, and-below_or, xor-below_or}
+use Rattle.arbitrary_base.proofs.MixedLaws.{difference-of_and, difference-of_or_and, or-above, sum-of_disjoint, sum-of_or_and, sum-of_xor_and, sum-twice}
 use Rattle.arbitrary_base.proofs.RingLaws.{difference-of_sum, difference-of_sum_left, difference-to_difference, difference-turned, difference-twice, negated-sum, negated-twice, product-of_difference, product-of_negated, product-of_sum, products-of_differences, products-of_sums, sum-of_difference, sum-to_difference, wrapped_difference-is_sum, wrapped_difference-self, wrapped_difference-zero, wrapped_product-associates, wrapped_product-commutes, wrapped_product-one, wrapped_product-two, wrapped_product-zero, wrapped_sum-associates, wrapped_sum-commutes, wrapped_sum-zero}
 use Rattle.arbitrary_base.proofs.RotationLaws.{left-undoes_right, reversed-and, reversed-highest, reversed-minus_one, reversed-not, reversed-not_zero, reversed-or, reversed-rotated_left, reversed-rotated_right, reversed-shifted_left, reversed-shifted_right, reversed-twice, reversed-xor, reversed-zero, right-undoes_left, rotated_left-and, rotated_left-as_shifts, rotated_left-highest, rotated_left-minus_one, rotated_left-none, rotated_left-not, rotated_left-not_zero, rotated_left-or, rotated_left-round, rotated_left-twice, rotated_left-xor, rotated_left-zero, rotated_right-as_left, rotated_right-none}
 use Rattle.arbitrary_base.proofs.ExactLaws.{extended-back, power-none, power-one, power-twice, quotient-self, power-of_one, power-of_zero}
@@ -40,13 +40,10 @@ pub ruleset products = (wrapped_product-commutes, wrapped_product-associates, wr
 pub ruleset exact = (power-none, power-one, power-twice, quotient-self, extended-back, wrap-of_in_range, clamp-fits, power-of_one, power-of_zero)
 
 -- bits beside sums, differences and the order
-pub ruleset mixed = (sum-of_or_and, sum-of_disjoint, sum-of_xor_and, difference-of_or_and, difference-of_and, sum-twice, or-above, bitwise_and-commutes, bitwise_or-commutes, wrapped_sum-commutes, sum-is_xor_and_carries)
+pub ruleset mixed = (sum-of_or_and, sum-of_disjoint, sum-of_xor_and, difference-of_or_and, difference-of_and, sum-twice, or-above, bitwise_and-commutes, bitwise_or-commutes, wrapped_sum-commutes)
 
 -- a number taken apart and put together under a mask, and one operation told by others
 pub ruleset masks = (or-of_parts, sum-of_parts, choice-is_xor, and-or_of_not, or-and_of_not, xor-is_or, and_not-is_xor, or-is_xor, bitwise_and-commutes, bitwise_or-commutes, bitwise_xor-commutes)
 
 -- the complement beside sums and differences
-pub ruleset complements = (not-is_difference, negated-is_sum, not-of_before, not-of_sum, not-of_difference, sum-with_not, difference-of_or, difference-of_and, wrapped_sum-commutes, bitwise_not-twice)
-
--- the order of unsigned numbers beside `&`, `|` and `^`
-pub ruleset order = (or-above, and-below_or, xor-below_or, bitwise_and-commutes, bitwise_or-commutes, bitwise_xor-commutes)
+pub ruleset complements = (not-is_difference, negated-is_sum, not-of_before, sum-with_not, difference-of_or, difference-of_and, wrapped_sum-commutes, bitwise_not-twice)

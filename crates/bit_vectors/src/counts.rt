@@ -58,3 +58,21 @@ pub fn leading_of_rev(x: u12) -> bool
 {
     x.reverse_bits().leading_zeros() == x.trailing_zeros()
 }
+
+pub fn ones_of_and_and_or(x: u24, y: u24) -> bool
+    ensures { IsTrue result }
+{
+    (x & y).count_ones() + (x | y).count_ones() == x.count_ones() + y.count_ones()
+}
+
+pub fn ones_of_and(x: i48, y: i48) -> bool
+    ensures { IsTrue result }
+{
+    (x & y).count_ones() <= x.count_ones()
+}
+
+pub fn ones_of_or(x: i48, y: i48) -> bool
+    ensures { IsTrue result }
+{
+    x.count_ones() <= (x | y).count_ones()
+}

@@ -34,3 +34,15 @@ pub fn extended_and_back(x: u12) -> bool
 {
     u12::from_extended(x.extended()) == x
 }
+
+pub fn power_of_one() -> bool
+    ensures { IsTrue result }
+{
+    i48::new(1).saturating_pow(3) == i48::new(1)
+}
+
+pub fn power_of_zero() -> bool
+    ensures { IsTrue result }
+{
+    u24::zero().saturating_pow(3) == u24::zero()
+}

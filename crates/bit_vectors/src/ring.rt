@@ -1,4 +1,4 @@
-//! Laws of sums, differences and products that wrap.
+//! Laws of sums and differences that wrap.
 #![tactic(auto, using(arbitrary_int::proofs::BitVector::ring))]
 
 ghost use Rattle.std.specs.Prelude.{IsTrue};
@@ -27,16 +27,4 @@ pub fn sub_is_add_neg(x: u12, y: u12) -> bool
     ensures { IsTrue result }
 {
     x.wrapping_sub(y) == x.wrapping_add(u12::zero().wrapping_sub(y))
-}
-
-pub fn mul_assoc(x: u12, y: u12, z: u12) -> bool
-    ensures { IsTrue result }
-{
-    x.wrapping_mul(y).wrapping_mul(z) == x.wrapping_mul(y.wrapping_mul(z))
-}
-
-pub fn distributes(x: u12, y: u12, z: u12) -> bool
-    ensures { IsTrue result }
-{
-    x.wrapping_mul(y.wrapping_add(z)) == x.wrapping_mul(y).wrapping_add(x.wrapping_mul(z))
 }

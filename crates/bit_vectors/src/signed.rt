@@ -65,6 +65,20 @@ pub fn shr_shr(x: i12) -> bool
     (x.wrapping_shr(1).wrapping_shr(2)) == (x.wrapping_shr(3))
 }
 
+#[tactic(auto, using(arbitrary_int::proofs::BitVector::ring))]
+pub fn add_assoc(x: i12, y: i12, z: i12) -> bool
+    ensures { IsTrue result }
+{
+    x.wrapping_add(y).wrapping_add(z) == x.wrapping_add(y.wrapping_add(z))
+}
+
+#[tactic(auto, using(arbitrary_int::proofs::BitVector::ring))]
+pub fn sub_is_add_neg(x: i12, y: i12) -> bool
+    ensures { IsTrue result }
+{
+    x.wrapping_sub(y) == x.wrapping_add(i12::zero().wrapping_sub(y))
+}
+
 /// The bits that two masks share.
 pub fn masked(x: i12, mask: i12) -> i12
     ensures { result ≡ bitwise_and true 12 mask x }

@@ -1,0 +1,60 @@
+//! Laws of numbers under a mask, at types of both signs.
+#![tactic(auto, using(arbitrary_int::proofs::BitVector::masks))]
+
+ghost use Rattle.std.specs.Prelude.{IsTrue};
+
+use arbitrary_int::prelude::*;
+
+pub fn or_of_parts(x: i48, m: i48) -> bool
+    ensures { IsTrue result }
+{
+    ((x & m) | (x & !m)) == x
+}
+
+pub fn sum_of_parts(x: u24, m: u24) -> bool
+    ensures { IsTrue result }
+{
+    (x & m).wrapping_add(x & !m) == x
+}
+
+pub fn choice(x: i5, y: i5, m: i5) -> bool
+    ensures { IsTrue result }
+{
+    ((x & m) | (y & !m)) == (y ^ ((x ^ y) & m))
+}
+
+pub fn choice_unsigned(x: u24, y: u24, m: u24) -> bool
+    ensures { IsTrue result }
+{
+    ((x & m) | (y & !m)) == (y ^ ((x ^ y) & m))
+}
+
+pub fn and_or_not(x: u5, y: u5) -> bool
+    ensures { IsTrue result }
+{
+    (x & (!x | y)) == (x & y)
+}
+
+pub fn or_and_not(x: i48, y: i48) -> bool
+    ensures { IsTrue result }
+{
+    (x | (!x & y)) == (x | y)
+}
+
+pub fn xor_as_ands(x: u24, y: u24) -> bool
+    ensures { IsTrue result }
+{
+    (x ^ y) == ((x & !y) | (!x & y))
+}
+
+pub fn and_not_as_xor(x: i5, y: i5) -> bool
+    ensures { IsTrue result }
+{
+    (x & !y) == (x ^ (x & y))
+}
+
+pub fn or_as_xor(x: u24, y: u24) -> bool
+    ensures { IsTrue result }
+{
+    (x | y) == ((x ^ y) ^ (x & y))
+}

@@ -1,0 +1,36 @@
+//! Laws of products that wrap.
+#![tactic(auto, using(arbitrary_int::proofs::BitVector::products))]
+
+ghost use Rattle.std.specs.Prelude.{IsTrue};
+
+use arbitrary_int::prelude::*;
+
+pub fn mul_assoc(x: u12, y: u12, z: u12) -> bool
+    ensures { IsTrue result }
+{
+    x.wrapping_mul(y).wrapping_mul(z) == x.wrapping_mul(y.wrapping_mul(z))
+}
+
+pub fn distributes(x: u12, y: u12, z: u12) -> bool
+    ensures { IsTrue result }
+{
+    x.wrapping_mul(y.wrapping_add(z)) == x.wrapping_mul(y).wrapping_add(x.wrapping_mul(z))
+}
+
+pub fn distributes_from_the_right(x: u24, y: u24, z: u24) -> bool
+    ensures { IsTrue result }
+{
+    x.wrapping_add(y).wrapping_mul(z) == x.wrapping_mul(z).wrapping_add(y.wrapping_mul(z))
+}
+
+pub fn product_of_difference(x: u5, y: u5, z: u5) -> bool
+    ensures { IsTrue result }
+{
+    x.wrapping_sub(y).wrapping_mul(z) == x.wrapping_mul(z).wrapping_sub(y.wrapping_mul(z))
+}
+
+pub fn negated_on_the_left(x: u24, y: u24) -> bool
+    ensures { IsTrue result }
+{
+    u24::zero().wrapping_sub(x).wrapping_mul(y) == u24::zero().wrapping_sub(x.wrapping_mul(y))
+}
