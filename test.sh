@@ -1,5 +1,5 @@
 #!/usr/bin/env bash
-# Checks the short names, the examples of the documents, the count of the definitions and bitrun.sh, then proves, tests and runs
+# Checks the short names, the words, the examples of the documents, the count of the definitions and bitrun.sh, then proves, tests and runs
 # everything from nothing, and tries each edit that must be refused. Beside that it runs the program with each growth of memory refused
 # in turn. Then it runs the program on damaged and on random inputs, as both compilers have just built it, and tries further wrong bodies.
 # Before the last line it prints what all that took.
@@ -7,10 +7,11 @@ set -euo pipefail
 unset CDPATH
 cd -- "$(dirname -- "$0")"
 python3 tools/short_names.py
-# the pages: their links, pictures and index of public items
+# the pages: their links, pictures, index of public items and words
 python3 tools/links.py
 python3 tools/charts.py
 python3 tools/api_index.py
+python3 tools/glossary.py
 python3 tools/document_examples.py
 python3 tools/believed.py
 python3 tools/believed_apart.py
@@ -26,12 +27,12 @@ programs=(crates/bitrun/out/bitrun crates/bitrun/out/bitrun.by-rattle)
 python3 tools/endings.py "${programs[@]}"
 python3 tools/fuzz.py "${programs[@]}"
 # the conditions of the calls at each type, the lines that docs/PROVING.md calls refused, and promises of dear crates
-python3 tools/wrong_bodies.py core_edges edges proving \
+python3 tools/wrong_bodies.py test_bounds_core test_bounds test_pages \
     arbitrary_calls/{counts_the_ones_of_the_storage,right_shift_fills_with_zeros} \
     arbitrary_core/{order_is_that_of_the_bits,text_is_that_of_the_bits,valid_width_is_constant} \
     arbitrary_core/{default_of_a_signed_type_is_its_minimum,saturated_sum_by_the_trait_wraps} \
     arbitrary_core/greatest_number_by_the_trait_is_one_too_small_at_full_widths \
-    step_text/{reports_the_largest_bad_line,runs_the_steps_before_a_bad_line,status_is_always_2}
+    bitrun_text/{reports_the_largest_bad_line,runs_the_steps_before_a_bad_line,status_is_always_2}
 # of this shell and of what it waited for, each as 1m2.345s
 times > "$spent"
 awk -F '[ms ]+' -v wall="$SECONDS" '{ sum += 60 * ($1 + $3) + $2 + $4 }

@@ -16,7 +16,7 @@ from pathlib import Path
 ROOT = Path(__file__).resolve().parent.parent
 LIBRARIES = ['arbitrary_base', 'arbitrary_traits', 'arbitrary_core', 'arbitrary_calls', 'arbitrary_int']
 # Of the modules of the program and of its library, those whose contracts speak of what it does as a whole.
-PROGRAM = [ROOT / 'crates' / name for name in ['step_service/src/serving.rt', 'step_text/src/fault.rt']]
+PROGRAM = [ROOT / 'crates' / name for name in ['bitrun_service/src/serving.rt', 'bitrun_text/src/fault.rt']]
 WORD = re.compile(r'[^\s(){}\[\],.;:]+')
 PUBLIC = r'(?:pub(?:\([a-z]+\))? )?'
 HEAD = re.compile(rf'\s*(?:(?:abbrev|unfoldable) {PUBLIC}|{PUBLIC}record )(\S+)|{PUBLIC}(\S+) :(?= )|(\s*module) _')
@@ -87,7 +87,7 @@ def contracts(file):
 
 def main():
     known = {}
-    for crate in LIBRARIES + ['step_text', 'step_service']:
+    for crate in LIBRARIES + ['bitrun_text', 'bitrun_service']:
         for file in sorted((ROOT / 'crates' / crate / 'specs').rglob('*.antt')):
             known |= {(file, name): lines for name, lines in definitions(file).items()}
     sources = PROGRAM + [file for crate in LIBRARIES for file in (ROOT / 'crates' / crate / 'src').rglob('*.rt')]

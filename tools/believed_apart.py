@@ -71,7 +71,7 @@ def clauses(file):
 
 def main():
     defined, size, text = {}, {}, {}
-    for crate in [f'arbitrary_{name}' for name in LIBRARIES] + ['step_text', 'step_service']:
+    for crate in [f'arbitrary_{name}' for name in LIBRARIES] + ['bitrun_text', 'bitrun_service']:
         for file in sorted((CRATES / crate / 'specs').rglob('*.antt')):
             for lines in paragraphs(file):
                 name, is_believed = head(lines)
@@ -101,7 +101,7 @@ def main():
             follow(text[key], text[key[:2]], key[0])
 
     sources = [file for name in LIBRARIES for file in (CRATES / f'arbitrary_{name}/src').rglob('*.rt')]
-    for file in sources + [CRATES / 'step_service/src/serving.rt', CRATES / 'step_text/src/fault.rt']:
+    for file in sources + [CRATES / 'bitrun_service/src/serving.rt', CRATES / 'bitrun_text/src/fault.rt']:
         follow(clauses(file), file, '')
     count = sum(size[key] for key in seen)
     other = subprocess.run([sys.executable, HERE / 'believed.py'], capture_output=True, text=True).stdout

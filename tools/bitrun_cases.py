@@ -75,8 +75,8 @@ class Clone:
         self.root = folder / 'clone'
         (self.root / 'crates/bitrun/src').mkdir(parents=True)
         shutil.copy(ROOT / 'bitrun.sh', self.root)
-        (self.root / 'crates/step_text/src').mkdir(parents=True)
-        (self.root / 'crates.txt').write_text('step_text:\nbitrun: step_text\n')
+        (self.root / 'crates/bitrun_text/src').mkdir(parents=True)
+        (self.root / 'crates.txt').write_text('bitrun_text:\nbitrun: bitrun_text\n')
         self.source = self.root / 'crates/bitrun/src/main.rt'
         self.source.write_text('first')
         self.tools = folder / 'tools'
@@ -178,7 +178,7 @@ def a_source_that_went_is_seen(clone):
 
 
 def an_edit_of_a_library_is_seen(clone):
-    library = clone.root / 'crates/step_text/src/lib.rt'
+    library = clone.root / 'crates/bitrun_text/src/lib.rt'
     library.write_text('first')
     first = run(clone)
     library.write_text('second')

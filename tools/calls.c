@@ -1,7 +1,7 @@
 /* The calls that tools/instructions.py counts, in C, on integers of BITS bits, below 0 too where SIGNED is 1.
  *
  * By hand such an integer is kept in the next primitive; with EXACT it is C23's `_BitInt(BITS)`. Operands and loop are those of
- * crates/speed. The arguments are CALL LIMIT ROUNDS, and the last 16 answers are printed. */
+ * crates/bench_calls. The arguments are CALL LIMIT ROUNDS, and the last 16 answers are printed. */
 #include <stdbool.h>
 #include <stdint.h>
 #include <stdio.h>

@@ -2,13 +2,13 @@
 """calls_table.py [BINARY] [--only WORD]
 
 Prints what one call takes, beside three peers: instructions of a function that makes the call alone, on numbers in their storage, without
-its return, counted by callgrind. BINARY is the program of crates/speed, by default crates/speed/out/speed, which `rt run` leaves there.
+its return, counted by callgrind. BINARY is the program of crates/bench_calls, by default crates/bench_calls/out/bench_calls, which `rt run` leaves there.
 
-There are fourteen calls and six types, and for most calls operands whose answer is in range and operands whose answer is past it. The peers'
+There are fourteen calls and six types, and for most calls operands whose result is in range and operands whose result is past it. The peers'
 figures stand in calls_peers.txt, which says how they were made. Those of this library are counted anew, with what the function calls in turn.
 The operands of the peers' powers had other sizes, and a power takes as long as they say: those rows count in no mean. Nor do products of 120
 bits whose code branches on the sizes, `checked_mul` and `saturating_mul`. Of the operands at the ends half lie next to the least number, where an
-unsigned answer is in range; and a function of the program need not pass 128 bits as C does, which can save it some moves.
+unsigned result is in range; and a function of the program need not pass 128 bits as C does, which can save it some moves.
 """
 import argparse
 import math
@@ -66,11 +66,11 @@ def mean(ratios):
 
 def main():
     parser = argparse.ArgumentParser(description=__doc__, formatter_class=argparse.RawDescriptionHelpFormatter)
-    parser.add_argument('binary', nargs='?', default=os.path.join(os.path.dirname(HERE), 'crates', 'speed', 'out', 'speed'))
+    parser.add_argument('binary', nargs='?', default=os.path.join(os.path.dirname(HERE), 'crates', 'bench_calls', 'out', 'bench_calls'))
     parser.add_argument('--only', default='', help='the rows with this word alone')
     options = parser.parse_args()
     if not os.path.exists(options.binary):
-        sys.exit(f'no program {options.binary}: run `rt run` in crates/speed first')
+        sys.exit(f'no program {options.binary}: run `rt run` in crates/bench_calls first')
     lines = [line.split() for line in open(os.path.join(HERE, 'calls_peers.txt')) if not line.startswith('#')]
     rows = [row for row in lines if options.only in ' '.join(row)]
     with ThreadPoolExecutor(os.cpu_count()) as pool:

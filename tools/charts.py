@@ -206,9 +206,9 @@ def layers():
     """The crates, each box on those that it uses."""
     full, high, gap, third = 700, 44, 6, 230
     stacks = [
-        ('bitrun', 'steps of a text in, registers out'), ('step_service', 'reads, runs, writes the answer'), ('step_text', 'what the text names'),
+        ('bitrun', 'steps of a text in, registers out'), ('bitrun_service', 'reads, runs, writes the output'), ('bitrun_text', 'what the text names'),
     ], [
-        ('tour', 'prints what the examples give'), ('examples', 'registers, frames, sensors, logs'), ('bit_fields', 'fields in a record of 128 bits'),
+        ('examples_tour', 'prints what the examples give'), ('examples', 'registers, frames, sensors, logs'), ('bit_fields', 'fields in a record of 128 bits'),
     ]
     libraries = [
         ('arbitrary_int', 'run, run_wide, bytes, streams, sums, ranges: what you import'),
@@ -227,7 +227,7 @@ def layers():
             crate(10 + across * (third + gap), 10 + down * (high + gap), third - gap / 2, name, what, (ORANGE, GREEN)[across])
     x, width = 10 + 2 * (third + gap), full - 2 * (third + gap)
     parts.append(box(x, 10, width, 3 * high + 2 * gap, 'none', GREY, 5))
-    others = ['facts, edges and tests', 'everyday, bit_vectors', 'proving, edges', 'sweeps, worked_values', 'worked_texts, call_examples', 'speed']
+    others = ['tests and a benchmark', 'test_facts, test_laws, test_pages', 'test_bounds, test_bounds_core', 'test_differential', 'test_vectors_..', 'test_call_examples', 'bench_calls']
     for place, said in enumerate(others):
         parts.append(text(x + width / 2, 34 + 22 * place, said, 'middle', 12, GREY, 'normal' if place else 'bold'))
     for down, (name, what) in enumerate(libraries):

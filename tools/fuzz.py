@@ -28,7 +28,7 @@ HEADERS = [f'run {name}' for name in TYPES] + ['wide u14 u7', 'wide u14 i7', 'wi
 # ---- the model
 
 class Stop(Exception):
-    """Why a step has no answer."""
+    """Why a step has no result."""
 
 
 class Bad(Exception):
@@ -82,7 +82,7 @@ def rearranged(word, x, amount, kind):
     return wrapped(int(made[word], 2), kind)
 
 
-def answer(word, x, y, kind):
+def result_of(word, x, y, kind):
     """What a step gives. y is the second number, or the amount."""
     if word in ('and', 'or', 'xor'):
         return {'and': x & y, 'or': x | y, 'xor': x ^ y}[word]
@@ -144,7 +144,7 @@ def model(data):
     last = 'done'
     for at, (word, to, left, right, *_) in enumerate(steps):
         try:
-            registers[to] = answer(word, registers[left], registers[right] if word in TWO else right, kind)
+            registers[to] = result_of(word, registers[left], registers[right] if word in TWO else right, kind)
         except Stop as stop:
             last = f'stopped at {at}: {stop}'
             break
@@ -263,7 +263,7 @@ def inputs(chance):
 
 def words_defined():
     """The words of `operation_named`, the definition of what a word of a step names."""
-    text = (ROOT / 'crates/step_text/specs/Operation.antt').read_text()
+    text = (ROOT / 'crates/bitrun_text/specs/Operation.antt').read_text()
     return set(re.findall(r'codes "(\w+)"', text))
 
 
@@ -276,7 +276,7 @@ def main():
     options = parser.parse_args()
     apart = words_defined() ^ set(TWO + ONE + BY)
     if apart:
-        print(f'not both defined in step_text and known to this model: {sorted(apart)}')
+        print(f'not both defined in bitrun_text and known to this model: {sorted(apart)}')
         return 1
     for program in programs(options.programs):
         start, count, faults = time.monotonic(), 0, 0

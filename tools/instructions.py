@@ -3,7 +3,7 @@
 
 Prints, as Markdown tables, how many instructions each call takes, counted by callgrind, and then those of a field of a
 record beside shifts and masks by hand: there the loop and the reading of the operands count on both sides.
-BINARY is the program of crates/speed, by default crates/speed/out/speed, which `rt run` leaves there.
+BINARY is the program of crates/bench_calls, by default crates/bench_calls/out/bench_calls, which `rt run` leaves there.
 
 Beside it the script builds tools/calls.c on the spot, which makes the same calls in C: by hand over a primitive, with
 each of gcc and clang that is there, and over C23's `_BitInt`, with clang where it has it. It sees that all of them
@@ -55,7 +55,7 @@ START = 256
 
 
 class Library:
-    """The program of crates/speed at one type: a call's words go to its standard input."""
+    """The program of crates/bench_calls at one type: a call's words go to its standard input."""
 
     def __init__(self, binary, kind, name):
         self.binary, self.kind, self.name = binary, kind, name
@@ -121,13 +121,13 @@ def check_answers(programs, width):
 
 def main():
     parser = argparse.ArgumentParser(description=__doc__, formatter_class=argparse.RawDescriptionHelpFormatter)
-    speed = os.path.join(os.path.dirname(HERE), 'crates', 'speed', 'out', 'speed')
-    parser.add_argument('binary', nargs='?', default=speed)
+    bench = os.path.join(os.path.dirname(HERE), 'crates', 'bench_calls', 'out', 'bench_calls')
+    parser.add_argument('binary', nargs='?', default=bench)
     parser.add_argument('--rounds', type=int, default=256 * 64)
-    parser.add_argument('--without-c', action='store_true', help='only the program of crates/speed')
+    parser.add_argument('--without-c', action='store_true', help='only the program of crates/bench_calls')
     options = parser.parse_args()
     if not os.path.exists(options.binary):
-        sys.exit(f'no program {options.binary}: run `rt run` in crates/speed first')
+        sys.exit(f'no program {options.binary}: run `rt run` in crates/bench_calls first')
 
     def a_cell(row, column):
         """What a call takes in the best of the column's programs. Below 0 the compiler made several rounds at once."""

@@ -2,12 +2,12 @@
 """lines.py [PROGRAM]
 
 Prints, as Markdown tables, how many instructions `bitrun` takes for a line of a step of each kind, and for a register of
-the second line, beside the usual one: a name of four letters, one space before each operand, register numbers of one digit,
+the second line, beside the fast one: a name of four letters, one space before each operand, register numbers of one digit,
 and the LF. PROGRAM is by default what `bitrun.sh` builds.
 
 What a line takes is counted by callgrind: an input of 65,536 bytes less another of half as many lines, divided by the lines
 that it has more. So the start of the process does not count. The last column has the same of 1,000 lines less 500: where it
-is apart from the column before, a line costs more in a long input. The answers are compared with the model of fuzz.py first.
+is apart from the column before, a line costs more in a long input. The outputs are compared with the model of fuzz.py first.
 """
 import argparse
 import functools
@@ -21,24 +21,24 @@ from fuzz import LIMIT, model
 from program import programs
 
 TEN, HUNDRED, THOUSAND = 10, 100, 1000
-# Each kind of a line: its title, its first line, how many registers there are, the line, and the line that is the usual
+# Each kind of a line: its title, its first line, how many registers there are, the line, and the line that is the fast
 # one for its operation. {a}, {b} and {c} are numbers of registers, with as many digits as the largest has.
-USUAL = 'wadd {a} {b} {c}'
+FAST = 'wadd {a} {b} {c}'
 STEPS = [
-    ('usual', 'run u7', TEN, USUAL, USUAL),
-    ('two digits', 'run u7', HUNDRED, USUAL, USUAL),
-    ('three digits', 'run u7', THOUSAND, USUAL, USUAL),
-    ('a zero in front of one number', 'run u7', TEN, 'wadd 0{a} {b} {c}', USUAL),
-    ('two zeros in front of each', 'run u7', TEN, 'wadd 00{a} 00{b} 00{c}', USUAL),
-    ('eight zeros in front of one', 'run u7', TEN, 'wadd 00000000{a} {b} {c}', USUAL),
-    ('two spaces between', 'run u7', TEN, 'wadd  {a}  {b}  {c}', USUAL),
-    ('a tab between', 'run u7', TEN, 'wadd\t{a}\t{b}\t{c}', USUAL),
-    ('two spaces in front', 'run u7', TEN, '  wadd {a} {b} {c}', USUAL),
-    ('two spaces at the end', 'run u7', TEN, 'wadd {a} {b} {c}  ', USUAL),
-    ('CR LF', 'run u7', TEN, 'wadd {a} {b} {c}\r', USUAL),
-    ('two digits, CR LF', 'run u7', HUNDRED, 'wadd {a} {b} {c}\r', USUAL),
-    ('`wide`', 'wide u14 u7', TEN, USUAL, USUAL),
-    ('`wide`, two digits', 'wide u14 u7', HUNDRED, USUAL, USUAL),
+    ('fast', 'run u7', TEN, FAST, FAST),
+    ('two digits', 'run u7', HUNDRED, FAST, FAST),
+    ('three digits', 'run u7', THOUSAND, FAST, FAST),
+    ('a zero in front of one number', 'run u7', TEN, 'wadd 0{a} {b} {c}', FAST),
+    ('two zeros in front of each', 'run u7', TEN, 'wadd 00{a} 00{b} 00{c}', FAST),
+    ('eight zeros in front of one', 'run u7', TEN, 'wadd 00000000{a} {b} {c}', FAST),
+    ('two spaces between', 'run u7', TEN, 'wadd  {a}  {b}  {c}', FAST),
+    ('a tab between', 'run u7', TEN, 'wadd\t{a}\t{b}\t{c}', FAST),
+    ('two spaces in front', 'run u7', TEN, '  wadd {a} {b} {c}', FAST),
+    ('two spaces at the end', 'run u7', TEN, 'wadd {a} {b} {c}  ', FAST),
+    ('CR LF', 'run u7', TEN, 'wadd {a} {b} {c}\r', FAST),
+    ('two digits, CR LF', 'run u7', HUNDRED, 'wadd {a} {b} {c}\r', FAST),
+    ('`wide`', 'wide u14 u7', TEN, FAST, FAST),
+    ('`wide`, two digits', 'wide u14 u7', HUNDRED, FAST, FAST),
     ('`neg`', 'run u7', TEN, 'neg {a} {b}', 'neg {a} {b}'),
     ('`neg`, two digits', 'run u7', HUNDRED, 'neg {a} {b}', 'neg {a} {b}'),
     ('`and`, a tab between', 'run u7', TEN, 'and\t{a}\t{b}\t{c}', 'and {a} {b} {c}'),
@@ -50,7 +50,7 @@ STEPS = [
 ]
 # Each kind of a register: its title, the type, and the words, of which each has its turn.
 REGISTERS = [
-    ('usual', 'u7', ['3', '7', '1'], ' '),
+    ('fast', 'u7', ['3', '7', '1'], ' '),
     ('two spaces between', 'u7', ['3', '7', '1'], '  '),
     ('a tab between', 'u7', ['3', '7', '1'], '\t'),
     ('two zeros in front', 'u7', ['003', '007', '001'], ' '),
@@ -106,12 +106,12 @@ def main():
     program = str(programs(parser.parse_args().programs)[0])
 
     def a_line(row):
-        title, first, count, form, usual = row
+        title, first, count, form, fast = row
 
         def make(form, count):
             return lambda lines: steps(first, count, form, lines)
         line = each(program, make(form, count), most(make(form, count)))
-        return title, line, line / each(program, make(usual, TEN), most(make(usual, TEN))), each(program, make(form, count), 1000)
+        return title, line, line / each(program, make(fast, TEN), most(make(fast, TEN))), each(program, make(form, count), 1000)
 
     def a_register(row):
         title, kind, words, gap = row
@@ -122,7 +122,7 @@ def main():
         return title, whole, whole / len((words[0] + gap).encode()), each(program, make, 1000)
 
     with ThreadPoolExecutor(os.cpu_count()) as pool:
-        print('| Line of a step | instructions | of the usual line | of 1,000 lines |\n|---|---:|---:|---:|')
+        print('| Line of a step | instructions | of the fast line | of 1,000 lines |\n|---|---:|---:|---:|')
         for title, line, ratio, few in pool.map(a_line, STEPS):
             print(f'| {title} | {line:.0f} | {ratio:.2f} | {few:.0f} |')
         print('\n| Register | instructions | for each byte | of 1,000 registers |\n|---|---:|---:|---:|')

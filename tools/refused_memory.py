@@ -2,7 +2,7 @@
 """refused_memory.py
 
 Runs `bitrun` with its first growth of memory refused, then with its second, and so on until a run meets none. Each run
-before that has to print the fault alone and end with status 3, and the last has to answer as if nothing had been refused.
+before that has to print the fault alone and end with status 3, and the last has to do as if nothing had been refused.
 The growths are refused by `rt try --fail-alloc`, which builds the program for each run: that takes 10 to 20 seconds each time.
 """
 import os

@@ -11,15 +11,15 @@ use Rattle.arbitrary_base.specs.Range.{InRange, in_range, lo}
 use Rattle.arbitrary_base.specs.Residue.{Congruent, wrap}
 use Rattle.arbitrary_base.specs.Exact.{ExactOrNone, QuotientOrNone}
 use Rattle.arbitrary_base.specs.Totals.{partials}
-use Rattle.arbitrary_base.proofs.Ring.{add-mul_z, mul_assoc_z}
-use Rattle.arbitrary_base.proofs.Congruence.{Congruent-refl, Congruent-add, Congruent-mul}
-use Rattle.arbitrary_base.proofs.Wrap.{residue-lt, wrap-of_in_range, wrap-in_range, wrap-congruent, wrap-unique, wrap-same}
-use Rattle.arbitrary_base.proofs.BitShift.{rotr-rotl, items-items}
-use Rattle.arbitrary_base.proofs.BitCount.{ones-not, tail-le}
-use Rattle.arbitrary_base.proofs.BitNumber.{length-bits}
-use Rattle.arbitrary_base.proofs.BitValue.{val-bits_in_range, bits-val, num-bits_residue}
-use Rattle.arbitrary_base.proofs.Clamp.{clamp-fits, clamp-above, clamp-below}
-use Rattle.arbitrary_base.proofs.Extracted.{field-items}
+use Rattle.arbitrary_base.proofs.integers.Ring.{add-mul_z, mul_assoc_z}
+use Rattle.arbitrary_base.proofs.modular.Congruence.{Congruent-refl, Congruent-add, Congruent-mul}
+use Rattle.arbitrary_base.proofs.modular.Residue.{residue-lt, wrap-of_in_range, wrap-in_range, wrap-congruent, wrap-unique, wrap-same}
+use Rattle.arbitrary_base.proofs.bit_lists.Movement.{rotr-rotl, items-items}
+use Rattle.arbitrary_base.proofs.bit_lists.Count.{popcount-not, tail-le}
+use Rattle.arbitrary_base.proofs.bit_lists.UnsignedNumber.{length-bits}
+use Rattle.arbitrary_base.proofs.bit_lists.TwosComplement.{val-bits_in_range, bits-val, num-bits_residue}
+use Rattle.arbitrary_base.proofs.storages.Clamp.{clamp-fits, clamp-above, clamp-below}
+use Rattle.arbitrary_base.proofs.bit_lists.ExtractedField.{field-items}
 
 pub wrap-within : (s : Bool) (B : ℕ) (x : ℤ) → InRange s B (wrap s B x)
 unfolding wrap
@@ -109,7 +109,7 @@ in_range-tells s B x = ((λ t. record { low = grind (arith, ints); high = grind 
 
 pub ruleset range_rules = (in_range-tells, clamp-fits, clamp-above, clamp-below)
 
-pub ruleset bit_list_rules = (length-bits, num-bits_residue, field-items, val-bits_in_range, bits-val, rotr-rotl, reverse-reverse, ones-not, prefix_len-le-length, tail-le, items-items)
+pub ruleset bit_list_rules = (length-bits, num-bits_residue, field-items, val-bits_in_range, bits-val, rotr-rotl, reverse-reverse, popcount-not, prefix_len-le-length, tail-le, items-items)
 
 pub last-partials : (op : ℤ → ℤ → ℤ) (o : Option ℤ) (first : ℤ) (l : List ℤ) → last_or o (partials op first l) ≡ Some (fold op first l)
 last-partials op o first [] = refl

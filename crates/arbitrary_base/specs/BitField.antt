@@ -48,8 +48,8 @@ pub record Put : Type 0 where
   pub start : ℕ
   pub bits : List Bool
 
-abbrev pub Fits : Put → Type 0
-Fits put = put.start + length put.bits ≤ 128
+abbrev pub IsInBounds : Put → Type 0
+IsInBounds put = put.start + length put.bits ≤ 128
 
 abbrev pub Covers : ℕ → Put → Type 0
 Covers i put = IsInField put.start (length put.bits) i
@@ -64,24 +64,24 @@ after_puts word (put ∷ later) = after_puts (with_field word put.start put.bits
 
 -- a bit of one of the fields is that of the list that was put there
 abbrev pub PutsSetTheirBits : Type 0
-PutsSetTheirBits = (word : ℕ) (puts : List Put) (put : Put) (i : ℕ) → All Fits puts → AllPairs AreApart puts → Contains puts put
+PutsSetTheirBits = (word : ℕ) (puts : List Put) (put : Put) (i : ℕ) → All IsInBounds puts → AllPairs AreApart puts → Contains puts put
     → Covers i put → bit_of (after_puts word puts) i ≡ get_or put.bits (i - put.start) false
 
 -- a bit of none of them is as it was
 abbrev pub PutsKeepOtherBits : Type 0
-PutsKeepOtherBits = (word : ℕ) (puts : List Put) (i : ℕ) → All Fits puts → All (λ put. ¬ (Covers i put)) puts
+PutsKeepOtherBits = (word : ℕ) (puts : List Put) (i : ℕ) → All IsInBounds puts → All (λ put. ¬ (Covers i put)) puts
     → bit_of (after_puts word puts) i ≡ bit_of word i
 
 -- so each field reads as what was put there, whatever was put into the others before and after
 abbrev pub FieldAfterPuts : Type 0
-FieldAfterPuts = (word : ℕ) (puts : List Put) (put : Put) → All Fits puts → AllPairs AreApart puts → Contains puts put
+FieldAfterPuts = (word : ℕ) (puts : List Put) (put : Put) → All IsInBounds puts → AllPairs AreApart puts → Contains puts put
     → field_bits (after_puts word puts) put.start (length put.bits) ≡ put.bits
 
 -- and their order doesn't matter
 abbrev pub PutsInAnyOrder : Type 0
-PutsInAnyOrder = (word : ℕ) (puts others : List Put) → word < 2 ^ 128 → All Fits puts → AllPairs AreApart puts → IsPermutation puts others
+PutsInAnyOrder = (word : ℕ) (puts others : List Put) → word < 2 ^ 128 → All IsInBounds puts → AllPairs AreApart puts → IsPermutation puts others
     → after_puts word puts ≡ after_puts word others
 
 abbrev pub DisjointPutsCommute : Type 0
-DisjointPutsCommute = (word : ℕ) (p q : Put) → Fits p → Fits q → AreApart p q
+DisjointPutsCommute = (word : ℕ) (p q : Put) → IsInBounds p → IsInBounds q → AreApart p q
     → after_puts word (p ∷ q ∷ []) ≡ after_puts word (q ∷ p ∷ [])

@@ -61,8 +61,8 @@ rotr l k = drop k l ++ take k l
 -- ---- counts
 
 -- how many items are one
-abbrev pub ones : List Bool → ℕ
-ones l = count_by (λ b. b) l
+abbrev pub popcount : List Bool → ℕ
+popcount l = count_by (λ b. b) l
 
 -- the length of the longest run of b at the front
 abbrev pub front : Bool → List Bool → ℕ

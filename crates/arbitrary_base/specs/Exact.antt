@@ -1,4 +1,4 @@
--- Answers that are exact or none.
+-- Results that are exact or none.
 use Rattle.std.specs.Prelude.{◌≡◌, ◌≢◌, ◌&&◌, ℕ, ℤ, Bool, pos, int_div, int_lt, Option, Some, None, if◌then◌else◌}
 use Rattle.arbitrary_base.specs.Range.{InRange, in_range}
 
@@ -11,7 +11,7 @@ abbrev pub ExactOrNone : {T : Type 0} → (T → ℤ) → Bool → ℕ → ℤ �
 ExactOrNone number s B x None = ¬ (InRange s B x)
 ExactOrNone number s B x (Some y) = InRange s B x × (number y ≡ x)
 
--- the quotient, cut toward zero, where y is not 0 and the type has it, and `None` elsewhere
+-- the quotient, rounded toward zero, where y is not 0 and the type has it, and `None` elsewhere
 abbrev pub QuotientOrNone : {T : Type 0} → (T → ℤ) → Bool → ℕ → ℤ → ℤ → Option T → Type 0
 QuotientOrNone number s B x y None = y ≢ pos 0 → ¬ (InRange s B (int_div x y))
 QuotientOrNone number s B x y (Some q) = (y ≢ pos 0) × InRange s B (int_div x y) × (number q ≡ int_div x y)

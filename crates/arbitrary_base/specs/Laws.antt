@@ -7,7 +7,7 @@ use Rattle.arbitrary_base.specs.Field.{field}
 use Rattle.arbitrary_base.specs.Saturation.{clamp}
 use Rattle.std.specs.List.{fold, last_or}
 use Rattle.arbitrary_base.specs.Exact.{ExactOrNone, QuotientOrNone}
-use Rattle.arbitrary_base.specs.BitList.{bits, val, bits_and, bits_or, bits_xor, shl, rotl, rotr, ones, front, tail, bits_not, items, num}
+use Rattle.arbitrary_base.specs.BitList.{bits, val, bits_and, bits_or, bits_xor, shl, rotl, rotr, popcount, front, tail, bits_not, items, num}
 use Rattle.arbitrary_base.specs.Bytes.{bytes, bytes_number, BorshBytes, Canonical}
 use Rattle.arbitrary_base.specs.Totals.{partials}
 
@@ -57,7 +57,7 @@ WrappedProductsAssociate = (s : Bool) (B : ℕ) (x y z : ℤ) → wrap s B (wrap
 abbrev pub WrappedProductsDistribute : Type 0
 WrappedProductsDistribute = (s : Bool) (B : ℕ) (x y z : ℤ) → wrap s B (x *ℤ wrap s B (y +ℤ z)) ≡ wrap s B (wrap s B (x *ℤ y) +ℤ wrap s B (x *ℤ z))
 
--- ---- checked and overflowing answers
+-- ---- checked and overflowing results
 
 -- what is exact or none is the wrapped number, but for an overflow
 abbrev pub CheckedTellsOverflow : Type 0
@@ -93,7 +93,7 @@ abbrev pub ReversalUndoesItself : Type 0
 ReversalUndoesItself = (l : List Bool) → reverse (reverse l) ≡ l
 
 abbrev pub OnesAddUp : Type 0
-OnesAddUp = (l : List Bool) → ones l + ones (bits_not l) ≡ length l
+OnesAddUp = (l : List Bool) → popcount l + popcount (bits_not l) ≡ length l
 
 abbrev pub FrontRunsFit : Type 0
 FrontRunsFit = (b : Bool) (l : List Bool) → front b l ≤ length l
@@ -175,11 +175,11 @@ TotalIsTheLastPartial = (op : ℤ → ℤ → ℤ) (first : ℤ) (l : List ℤ) 
 
 -- ---- a number and its pattern
 
--- what is left of the pattern of a number is the number
+-- the truncation of the pattern of a number is the number
 abbrev pub NumberOfPattern : Type 0
 NumberOfPattern = (s : Bool) (B : ℕ) (x : ℤ) → 1 ≤ B → InRange s B x → wrap s B (pos (residue B x)) ≡ x
 
--- the pattern of what is left of a pattern is the pattern
+-- the pattern of the truncation of a pattern is the pattern
 abbrev pub PatternOfNumber : Type 0
 PatternOfNumber = (s : Bool) (B p : ℕ) → 1 ≤ B → p < 2 ^ B → residue B (wrap s B (pos p)) ≡ p
 

@@ -13,3 +13,4 @@ pub mod Bytes
 pub mod Totals
 pub mod Stream
 pub mod Laws
+pub mod Representable

@@ -1,4 +1,4 @@
--- What is left of a number modulo 2 ^ B.
+-- The residue of a number modulo 2 ^ B.
 use Rattle.std.specs.Prelude.{◌≡◌, ℕ, ℤ, Bool, pos, ◌+ℤ◌, ◌-ℤ◌, ◌*ℤ◌, ◌^◌, unsigned_abs}
 use Rattle.std.specs.Int.{int_rem_euclid}
 use Rattle.arbitrary_base.specs.Range.{lo}

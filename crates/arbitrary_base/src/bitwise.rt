@@ -4,12 +4,12 @@ ghost use Rattle.std.specs.Prelude.{◌≡◌, ◌≤◌};
 ghost use Rattle.arbitrary_base.specs.Range.{InRange};
 ghost use Rattle.arbitrary_base.specs.BitList.{bits as bit_list, val, bits_and, bits_or, bits_xor, bits_not};
 
-use crate::narrowing::{from_low_bits, low_bits};
 use crate::patterns;
 use crate::storage::Storage;
+use crate::truncation::{from_low_bits, low_bits};
 
 /// The bits that are one in both numbers.
-#[tactic(auto, using(crate::proofs::BitResult::item_laws))]
+#[tactic(auto, using(crate::proofs::bit_lists::ResultOfPattern::item_laws))]
 pub fn and<T: Storage>(x: T, y: T, bits: usize) -> T
     requires width { 1 ≤ bits }
     requires storage { bits ≤ T.WIDTH }
@@ -23,7 +23,7 @@ pub fn and<T: Storage>(x: T, y: T, bits: usize) -> T
 }
 
 /// The bits that are one in at least one of the numbers.
-#[tactic(auto, using(crate::proofs::BitResult::item_laws))]
+#[tactic(auto, using(crate::proofs::bit_lists::ResultOfPattern::item_laws))]
 pub fn or<T: Storage>(x: T, y: T, bits: usize) -> T
     requires width { 1 ≤ bits }
     requires storage { bits ≤ T.WIDTH }
@@ -37,7 +37,7 @@ pub fn or<T: Storage>(x: T, y: T, bits: usize) -> T
 }
 
 /// The bits in which the numbers differ.
-#[tactic(auto, using(crate::proofs::BitResult::item_laws))]
+#[tactic(auto, using(crate::proofs::bit_lists::ResultOfPattern::item_laws))]
 pub fn xor<T: Storage>(x: T, y: T, bits: usize) -> T
     requires width { 1 ≤ bits }
     requires storage { bits ≤ T.WIDTH }
@@ -51,7 +51,7 @@ pub fn xor<T: Storage>(x: T, y: T, bits: usize) -> T
 }
 
 /// Each of the `bits` bits turned over.
-#[tactic(auto, using(crate::proofs::BitResult::item_laws))]
+#[tactic(auto, using(crate::proofs::bit_lists::ResultOfPattern::item_laws))]
 pub fn not<T: Storage>(x: T, bits: usize) -> T
     requires width { 1 ≤ bits }
     requires storage { bits ≤ T.WIDTH }

@@ -4,7 +4,7 @@ ghost use Rattle.std.specs.Prelude.{◌≡◌, ◌≤◌, ◌<◌, ◌*◌, ◌^
 ghost use Rattle.arbitrary_base.specs.Bytes.{bytes, bytes_number};
 
 /// The 16 bytes of a pattern. Its lowest bytes stand at the front.
-#[tactic(auto, using(crate::proofs::ByteNumber::front_bytes))]
+#[tactic(auto, using(crate::proofs::bytes::NumberOfBytes::front_bytes))]
 pub fn all_bytes(pattern: u128) -> [u8; 16]
     ensures { (n : ℕ) → n ≤ 16 → take n result ≡ bytes n (pos pattern) }
 {

@@ -5,14 +5,14 @@ ghost use Rattle.arbitrary_base.specs.Range.{InRange};
 ghost use Rattle.arbitrary_base.specs.Exact.{ExactOrNone, QuotientOrNone, turned};
 
 use crate::ends::{is_below, is_below_zero, is_within, is_zero, zero};
-use crate::narrowing::is_in_range;
 use crate::storage::Storage;
+use crate::truncation::is_in_range;
 use crate::{raised, small, wrapping};
 
 /// The sum where the type has it.
 // With a bit to spare the storage's sum is in range exactly where the exact one is. Small signed numbers have
 // the processor's flag, which costs less.
-#[tactic(auto, using(crate::proofs::Sum::arithmetic))]
+#[tactic(auto, using(crate::proofs::storages::CheckedSum::arithmetic))]
 pub fn add<T: Storage>(x: T, y: T, bits: usize) -> Option<T>
     requires width { 1 ≤ bits }
     requires storage { bits ≤ T.WIDTH }
@@ -37,7 +37,7 @@ pub fn add<T: Storage>(x: T, y: T, bits: usize) -> Option<T>
 
 /// The sum where the type has it, at any width up to the storage's.
 // The wrapped sum lies below `x` exactly where `y` is below 0, but for an overflow.
-#[tactic(auto, using(crate::proofs::Sum::arithmetic))]
+#[tactic(auto, using(crate::proofs::storages::CheckedSum::arithmetic))]
 pub(crate) fn add_by_order<T: Storage>(x: T, y: T, bits: usize) -> Option<T>
     requires width { 1 ≤ bits }
     requires storage { bits ≤ T.WIDTH }
@@ -55,7 +55,7 @@ pub(crate) fn add_by_order<T: Storage>(x: T, y: T, bits: usize) -> Option<T>
 
 /// The difference where the type has it.
 // With a bit to spare the storage's difference is in range exactly where the exact one is.
-#[tactic(auto, using(crate::proofs::Sum::arithmetic))]
+#[tactic(auto, using(crate::proofs::storages::CheckedSum::arithmetic))]
 pub fn sub<T: Storage>(x: T, y: T, bits: usize) -> Option<T>
     requires width { 1 ≤ bits }
     requires storage { bits ≤ T.WIDTH }
@@ -76,7 +76,7 @@ pub fn sub<T: Storage>(x: T, y: T, bits: usize) -> Option<T>
 }
 
 /// The difference where the type has it, at any width up to the storage's.
-#[tactic(auto, using(crate::proofs::Sum::arithmetic))]
+#[tactic(auto, using(crate::proofs::storages::CheckedSum::arithmetic))]
 pub(crate) fn sub_by_order<T: Storage>(x: T, y: T, bits: usize) -> Option<T>
     requires width { 1 ≤ bits }
     requires storage { bits ≤ T.WIDTH }
@@ -95,7 +95,7 @@ pub(crate) fn sub_by_order<T: Storage>(x: T, y: T, bits: usize) -> Option<T>
 /// The product where the type has it.
 // In 64 bits the product of two small numbers is exact; elsewhere the storage multiplies once. A signed number with a
 // bit to spare has the processor's flag. Callers have `x` in range, and the compiler sees it: there the test of it costs nothing.
-#[tactic(auto, using(crate::proofs::Sum::arithmetic))]
+#[tactic(auto, using(crate::proofs::storages::CheckedSum::arithmetic))]
 pub fn mul<T: Storage>(x: T, y: T, bits: usize) -> Option<T>
     requires width { 1 ≤ bits }
     requires storage { bits ≤ T.WIDTH }
@@ -107,7 +107,7 @@ pub fn mul<T: Storage>(x: T, y: T, bits: usize) -> Option<T>
     } else if T::WIDTH <= 16 {
         let product = small::product(x, y);
         if small::is_number_of::<T>(product, bits) {
-            Some(small::kept(product))
+            Some(small::from_i64(product))
         } else {
             None
         }
@@ -132,7 +132,7 @@ fn is_turned<T: Storage>(x: &T, y: &T, quotient: &T) -> bool
 
 /// The quotient where the type has it. The divisor is not zero.
 // Only the least number divided by -1 is out of range, and its wrapped quotient keeps the sign.
-#[tactic(auto, using(crate::proofs::Quotient::quotients))]
+#[tactic(auto, using(crate::proofs::integers::Quotient::quotients))]
 pub(crate) fn div_by_nonzero<T: Storage>(x: T, y: T, bits: usize) -> Option<T>
     requires width { 1 ≤ bits }
     requires storage { bits ≤ T.WIDTH }

@@ -4,8 +4,8 @@ ghost use Rattle.std.specs.Prelude.{◌≡◌, ◌↔◌, ◌≤◌, pos, int_lt
 ghost use Rattle.std.specs.Ordering.{int_eq};
 ghost use Rattle.arbitrary_base.specs.Range.{lo, hi, range_end, InRange};
 
-use crate::narrowing::{compare, equal, from_low_bits, reach_below_zero};
 use crate::storage::Storage;
+use crate::truncation::{compare, equal, from_low_bits, reach_below_zero};
 use std::cmp::Ordering;
 
 /// The least number of the type of `bits` bits.
@@ -40,11 +40,11 @@ pub(crate) fn end<T: Storage>(low: bool, bits: usize) -> T
 }
 
 /// Zero.
-#[tactic(auto, using(crate::proofs::Sum::zeros))]
+#[tactic(auto, using(crate::proofs::storages::CheckedSum::zeros))]
 pub fn zero<T: Storage>() -> T
     ensures { T.number result ≡ pos 0 }
 {
-    T::from_pattern(0)
+    T::from_storage_bits(0)
 }
 
 /// Whether the number is zero.
@@ -69,8 +69,8 @@ pub fn is_below_zero<T: Storage>(x: &T) -> bool
 }
 
 /// Whether the type of `bits` bits has the number, by its two ends.
-// As `narrowing::is_in_range`, which narrows and compares: this costs less where nothing else needs the narrowed number.
-#[tactic(auto, using(crate::proofs::Sum::ends))]
+// As `truncation::is_in_range`, which narrows and compares: this costs less where nothing else needs the narrowed number.
+#[tactic(auto, using(crate::proofs::storages::CheckedSum::ends))]
 pub(crate) fn is_within<T: Storage>(x: &T, bits: usize) -> bool
     requires width { 1 ≤ bits }
     requires storage { bits ≤ T.WIDTH }

@@ -4,8 +4,8 @@ ghost use Rattle.std.specs.Prelude.{◌≡◌, ◌≤◌, ◌+◌};
 ghost use Rattle.arbitrary_base.specs.Range.{InRange};
 ghost use Rattle.arbitrary_base.specs.BitList.{bits as bit_list, val, items};
 
-use crate::narrowing::from_low_bits;
 use crate::storage::Storage;
+use crate::truncation::from_low_bits;
 
 /// The number whose bits are the `bits` bits of `source` from place `start_bit` on, the lowest being
 /// place 0. All of them must be bits of `source`.
@@ -16,6 +16,6 @@ pub fn extract<S: Storage, T: Storage>(source: S, start_bit: usize, bits: usize)
     ensures value { T.number result ≡ val T.SIGNED (items start_bit bits (bit_list S.WIDTH (S.number source))) }
     ensures range { InRange T.SIGNED bits (T.number result) }
 {
-    // Shifted in the source, not at 128 bits: only the bits above the wanted ones may differ, and they are cut.
-    from_low_bits(source.shr_by(start_bit).pattern(), bits)
+    // Shifted in the source, not at 128 bits: only the bits above the wanted ones may differ, and they are masked.
+    from_low_bits(source.shr_by(start_bit).storage_bits(), bits)
 }

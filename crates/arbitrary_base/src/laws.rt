@@ -32,7 +32,7 @@ pub fn wrapped_arithmetic_laws()
     ensures products_distribute { WrappedProductsDistribute }
 {}
 
-/// A checked call has an answer exactly where no divisor is zero and its overflowing call has no flag,
+/// A checked call has a result exactly where no divisor is zero and its overflowing call has no flag,
 /// and it is the same number.
 #[tactic(auto, using(crate::proofs::LawProof::checked_rules))]
 pub fn checked_laws()
@@ -50,16 +50,16 @@ pub fn bit_list_laws()
     ensures bits_of_value { BitsOfValue }
     ensures rotations { RotationsUndo }
     ensures reversal { ReversalUndoesItself }
-    ensures ones { OnesAddUp }
+    ensures popcount { OnesAddUp }
     ensures front_runs { FrontRunsFit }
     ensures end_runs { EndRunsFit }
     ensures extraction { ExtractionComposes }
     ensures field { FieldIsExtracted }
 {}
 
-/// What a low-bit operation answers at a wide type, wrapped at a narrow one, is what it answers at the narrow type
+/// What a low-bit operation gives at a wide type, wrapped at a narrow one, is what it gives at the narrow type
 /// on its sources wrapped there, whatever the two signs.
-#[tactic(auto, using(crate::proofs::LowBits::low_bit_rules))]
+#[tactic(auto, using(crate::proofs::modular::LowBitOperation::low_bit_rules))]
 pub fn low_bit_laws()
     ensures sums { SumsKeepLowBits }
     ensures differences { DifferencesKeepLowBits }
@@ -73,7 +73,7 @@ pub fn low_bit_laws()
 
 /// A put into a word of 128 bits sets the bits of its field and keeps all others. So do puts to disjoint
 /// fields, in any order: each field reads as what was put there.
-#[tactic(auto, using(crate::proofs::BitField::field_rules))]
+#[tactic(auto, using(crate::proofs::bit_lists::Field::field_rules))]
 pub fn field_laws()
     ensures put_sets { PutSetsItsBits }
     ensures put_keeps { PutKeepsOtherBits }
@@ -87,7 +87,7 @@ pub fn field_laws()
 
 /// Reversing bytes twice leaves them. A number in range and its bytes tell each other, those of a stream too,
 /// and these are canonical.
-#[tactic(auto, using(crate::proofs::ByteNumber::byte_rules))]
+#[tactic(auto, using(crate::proofs::bytes::NumberOfBytes::byte_rules))]
 pub fn byte_laws()
     ensures reversal { ByteReversalUndoesItself }
     ensures value_of_bytes { ValueOfBytes }
@@ -103,7 +103,7 @@ pub fn total_laws()
 {}
 
 /// A number in range and its pattern, which is its residue, tell each other, and have the same bits.
-#[tactic(auto, using(crate::proofs::Pattern::pattern_rules))]
+#[tactic(auto, using(crate::proofs::modular::RoundTrip::pattern_rules))]
 pub fn pattern_laws()
     ensures number { NumberOfPattern }
     ensures pattern { PatternOfNumber }

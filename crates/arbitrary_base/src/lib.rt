@@ -1,4 +1,4 @@
-//! The ground that the integer types stand on: the primitive integers as storages, what is left of a
+//! The ground that the integer types stand on: the primitive integers as storages, the truncation of a
 //! number at fewer bits, and the arithmetic and the operations on bits at a width, written once for every
 //! storage.
 #![tactic(auto)]
@@ -10,7 +10,6 @@ pub mod ends;
 pub mod error;
 pub mod extraction;
 pub mod laws;
-pub mod narrowing;
 pub mod overflowing;
 pub mod patterns;
 pub mod power;
@@ -20,5 +19,6 @@ pub mod shifts;
 mod small;
 pub mod storage;
 pub mod streams;
+pub mod truncation;
 pub mod watched;
 pub mod wrapping;

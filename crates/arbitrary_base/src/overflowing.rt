@@ -6,12 +6,12 @@ ghost use Rattle.arbitrary_base.specs.Range.{InRange};
 ghost use Rattle.arbitrary_base.specs.Residue.{wrap};
 
 use crate::ends::zero;
-use crate::narrowing::{convert, equal, is_in_range, narrow};
 use crate::storage::Storage;
+use crate::truncation::{cast, equal, is_in_range, truncated};
 use crate::{checked, raised, small, wrapping};
 
 /// The sum, wrapped, and whether the exact one is out of range.
-#[tactic(auto, using(crate::proofs::Clamp::overflow_laws))]
+#[tactic(auto, using(crate::proofs::storages::Clamp::overflow_laws))]
 pub fn add<T: Storage>(x: T, y: T, bits: usize) -> (T, bool)
     requires width { 1 ≤ bits }
     requires storage { bits ≤ T.WIDTH }
@@ -25,7 +25,7 @@ pub fn add<T: Storage>(x: T, y: T, bits: usize) -> (T, bool)
         raised::add(x, y, bits)
     } else if T::SIGNED && bits < T::WIDTH {
         let spare = x.wrapping_add(y);
-        let sum = narrow(spare, bits);
+        let sum = truncated(spare, bits);
         (sum, !equal(&sum, &spare))
     } else {
         let exact = checked::add_by_order(x, y, bits);
@@ -34,7 +34,7 @@ pub fn add<T: Storage>(x: T, y: T, bits: usize) -> (T, bool)
 }
 
 /// The difference, wrapped, and whether the exact one is out of range.
-#[tactic(auto, using(crate::proofs::Clamp::overflow_laws))]
+#[tactic(auto, using(crate::proofs::storages::Clamp::overflow_laws))]
 pub fn sub<T: Storage>(x: T, y: T, bits: usize) -> (T, bool)
     requires width { 1 ≤ bits }
     requires storage { bits ≤ T.WIDTH }
@@ -46,7 +46,7 @@ pub fn sub<T: Storage>(x: T, y: T, bits: usize) -> (T, bool)
 {
     if T::SIGNED && bits < T::WIDTH {
         let spare = x.wrapping_sub(y);
-        let difference = narrow(spare, bits);
+        let difference = truncated(spare, bits);
         (difference, !equal(&difference, &spare))
     } else {
         let exact = checked::sub_by_order(x, y, bits);
@@ -56,7 +56,7 @@ pub fn sub<T: Storage>(x: T, y: T, bits: usize) -> (T, bool)
 
 /// The product, wrapped, and whether the exact one is out of range.
 // Callers have `x` in range, and the compiler sees it: there the test of it costs nothing.
-#[tactic(auto, using(crate::proofs::Clamp::overflow_laws))]
+#[tactic(auto, using(crate::proofs::storages::Clamp::overflow_laws))]
 pub fn mul<T: Storage>(x: T, y: T, bits: usize) -> (T, bool)
     requires width { 1 ≤ bits }
     requires storage { bits ≤ T.WIDTH }
@@ -69,20 +69,20 @@ pub fn mul<T: Storage>(x: T, y: T, bits: usize) -> (T, bool)
     } else if T::WIDTH <= 16 {
         let product = small::product(x, y);
         (
-            convert(product, bits),
+            cast(product, bits),
             !small::is_number_of::<T>(product, bits),
         )
     } else {
         let (product, overflow) = x.overflowing_mul(y);
         (
-            narrow(product, bits),
+            truncated(product, bits),
             overflow | !is_in_range(product, bits),
         )
     }
 }
 
 /// The quotient, wrapped, and whether the exact one is out of range. The divisor is not zero.
-#[tactic(auto, using(crate::proofs::Clamp::overflow_laws))]
+#[tactic(auto, using(crate::proofs::storages::Clamp::overflow_laws))]
 pub fn div<T: Storage>(x: T, y: T, bits: usize) -> (T, bool)
     requires width { 1 ≤ bits }
     requires storage { bits ≤ T.WIDTH }

@@ -3,10 +3,10 @@
 
 ghost use Rattle.std.specs.Prelude.{◌≡◌, ◌≤◌, ◌<◌, ◌%◌, ◌^◌, pos, false, true, reverse};
 ghost use Rattle.std.specs.Int.{w64, w128, reverse_bits as reversed};
-ghost use Rattle.arbitrary_base.specs.BitList.{bits, num, bits_and, bits_or, bits_xor, bits_not, rotl, rotr, ones as ones_in, front, tail};
+ghost use Rattle.arbitrary_base.specs.BitList.{bits, num, bits_and, bits_or, bits_xor, bits_not, rotl, rotr, popcount, front, tail};
 
-use crate::narrowing::ones;
 use crate::shifts;
+use crate::truncation::low_mask;
 
 /// The bits that are one in both patterns.
 pub fn and(left: u128, right: u128, width: usize) -> u128
@@ -41,7 +41,7 @@ pub fn not(pattern: u128, width: usize) -> u128
     requires fits { pattern < 2 ^ width }
     ensures { result ≡ num (bits_not (bits width (pos pattern))) }
 {
-    pattern ^ ones(width)
+    pattern ^ low_mask(width)
 }
 
 /// The bits moved toward the high end by the amount modulo `width`. What passes the end comes back below.
@@ -56,7 +56,7 @@ pub fn rotate_left(pattern: u128, width: usize, amount: u32) -> u128
     if width == 128 && places == 0 {
         pattern
     } else {
-        ((pattern << places) & ones(width)) | (pattern >> (width - places))
+        ((pattern << places) & low_mask(width)) | (pattern >> (width - places))
     }
 }
 
@@ -72,7 +72,7 @@ pub fn rotate_right(pattern: u128, width: usize, amount: u32) -> u128
     if width == 128 && places == 0 {
         pattern
     } else {
-        (pattern >> places) | ((pattern << (width - places)) & ones(width))
+        (pattern >> places) | ((pattern << (width - places)) & low_mask(width))
     }
 }
 
@@ -119,7 +119,7 @@ pub fn reverse_bits(pattern: u128, width: usize) -> u128
 /// How many bits are one.
 pub fn count_ones(pattern: u128, width: usize) -> u32
     requires fits { pattern < 2 ^ width }
-    ensures { result ≡ ones_in (bits width (pos pattern)) }
+    ensures { result ≡ popcount (bits width (pos pattern)) }
 {
     pattern.count_ones()
 }

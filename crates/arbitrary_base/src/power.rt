@@ -7,9 +7,9 @@ ghost use Rattle.arbitrary_base.specs.Exact.{ExactOrNone};
 ghost use Rattle.arbitrary_base.specs.Power.{power, binary_digits, PowersOfSums, PowersOfProducts};
 
 use crate::ends::{end, is_below_zero};
-use crate::narrowing::{equal, is_in_range};
 use crate::raised;
 use crate::storage::Storage;
+use crate::truncation::{equal, is_in_range};
 
 /// The laws of powers, for callers' proofs. It does nothing.
 pub fn power_laws()
@@ -18,11 +18,11 @@ pub fn power_laws()
 {}
 
 /// One.
-#[tactic(auto, using(crate::proofs::Squaring::ones))]
+#[tactic(auto, using(crate::proofs::integers::Squaring::one_laws))]
 fn one<T: Storage>() -> T
     ensures { T.number result ≡ pos 1 }
 {
-    T::from_pattern(1)
+    T::from_storage_bits(1)
 }
 
 /// At how many bits the products on the way are tested, which is at least as many as 1 takes.
@@ -93,7 +93,7 @@ fn exact_power<T: Storage>(x: T, exp: u32, bits: usize, count: &mut u32) -> Opti
 }
 
 /// Whether the power is below zero: an odd one has the base's sign.
-#[tactic(auto, using(crate::proofs::Powers::signs))]
+#[tactic(auto, using(crate::proofs::integers::Powers::signs))]
 fn is_power_below_zero<T: Storage>(x: &T, exp: u32) -> bool
     ensures { result ≡ int_lt (power (T.number x.now) exp) (pos 0) }
 {
@@ -101,7 +101,7 @@ fn is_power_below_zero<T: Storage>(x: &T, exp: u32) -> bool
 }
 
 /// The number, or the end of the range of `bits` bits that is nearest.
-#[tactic(auto, using(crate::proofs::Squaring::ends))]
+#[tactic(auto, using(crate::proofs::integers::Squaring::ends))]
 fn clamped<T: Storage>(x: T, bits: usize) -> T
     requires width { 1 ≤ bits }
     requires storage { bits ≤ T.WIDTH }
@@ -117,7 +117,7 @@ fn clamped<T: Storage>(x: T, bits: usize) -> T
 /// `x` to the power `exp`, or the end of the range of `bits` bits that is nearest, and how many
 /// multiplications that took. 0 to the power 0 is 1.
 ///
-/// The caller shows that the width is valid and that `x` is in range. Powers of any size are right:
+/// The precondition is that the width is valid and that `x` is in range. Powers of any size are right:
 /// the exact power is clamped, and no step on the way.
 pub fn saturating_pow_counted<T: Storage>(x: T, exp: u32, bits: usize) -> (T, u32)
     requires width { 1 ≤ bits }
@@ -139,7 +139,7 @@ pub fn saturating_pow_counted<T: Storage>(x: T, exp: u32, bits: usize) -> (T, u3
 /// `x` to the power `exp`, or the end of the range of `bits` bits that is nearest. 0 to the power 0
 /// is 1.
 ///
-/// The caller shows that the width is valid and that `x` is in range.
+/// The precondition is that the width is valid and that `x` is in range.
 pub fn saturating_pow<T: Storage>(x: T, exp: u32, bits: usize) -> T
     requires width { 1 ≤ bits }
     requires storage { bits ≤ T.WIDTH }

@@ -7,9 +7,9 @@ ghost use Rattle.arbitrary_base.specs.Range.{InRange};
 ghost use Rattle.arbitrary_base.specs.Residue.{wrap};
 
 use crate::ends::is_zero;
-use crate::narrowing::{convert, equal};
 use crate::small;
 use crate::storage::Storage;
+use crate::truncation::{cast, equal};
 
 /// The number, moved up.
 fn raise<T: Storage>(x: T, bits: usize) -> T
@@ -45,7 +45,7 @@ pub(crate) fn add<T: Storage>(x: T, y: T, bits: usize) -> (T, bool)
 {
     let sum = small::sum(raise(x, bits), raise(y, bits));
     (
-        lower(convert(sum, T::WIDTH), bits),
+        lower(cast(sum, T::WIDTH), bits),
         !small::is_number_of::<T>(sum, T::WIDTH),
     )
 }
@@ -73,7 +73,7 @@ pub(crate) fn mul<T: Storage>(x: T, y: T, bits: usize) -> (T, bool)
     ensures overflow { IsTrue result.1 ↔ ¬ (InRange T.SIGNED bits (T.number x *ℤ T.number y)) }
 {
     // The contract of `pattern` says that the number is in the storage's range; the pattern itself is not needed.
-    let _pattern = y.pattern();
+    let _pattern = y.storage_bits();
     let raised = raise(x, bits);
     let product = raised.wrapping_mul(y);
     (lower(product, bits), !is_exact(product, raised, y))

@@ -9,7 +9,7 @@ use crate::storage::Storage;
 use crate::{checked, small};
 
 /// The sum, or the end of the range that is nearest to it.
-#[tactic(auto, using(crate::proofs::Clamp::clamps))]
+#[tactic(auto, using(crate::proofs::storages::Clamp::clamps))]
 pub fn add<T: Storage>(x: T, y: T, bits: usize) -> T
     requires width { 1 ≤ bits }
     requires storage { bits ≤ T.WIDTH }
@@ -25,7 +25,7 @@ pub fn add<T: Storage>(x: T, y: T, bits: usize) -> T
 }
 
 /// The difference, or the end of the range that is nearest to it.
-#[tactic(auto, using(crate::proofs::Clamp::clamps))]
+#[tactic(auto, using(crate::proofs::storages::Clamp::clamps))]
 pub fn sub<T: Storage>(x: T, y: T, bits: usize) -> T
     requires width { 1 ≤ bits }
     requires storage { bits ≤ T.WIDTH }
@@ -41,7 +41,7 @@ pub fn sub<T: Storage>(x: T, y: T, bits: usize) -> T
 }
 
 /// The product, or the end of the range that is nearest to it.
-#[tactic(auto, using(crate::proofs::Clamp::clamps))]
+#[tactic(auto, using(crate::proofs::storages::Clamp::clamps))]
 pub fn mul<T: Storage>(x: T, y: T, bits: usize) -> T
     requires width { 1 ≤ bits }
     requires storage { bits ≤ T.WIDTH }
@@ -49,7 +49,7 @@ pub fn mul<T: Storage>(x: T, y: T, bits: usize) -> T
     ensures range { InRange T.SIGNED bits (T.number result) }
 {
     if T::WIDTH <= 16 {
-        small::kept(small::clamped::<T>(small::product(x, y), bits))
+        small::from_i64(small::clamped::<T>(small::product(x, y), bits))
     } else {
         match checked::mul(x, y, bits) {
             Some(product) => product,
@@ -59,7 +59,7 @@ pub fn mul<T: Storage>(x: T, y: T, bits: usize) -> T
 }
 
 /// The quotient, or the end of the range that is nearest to it. The divisor is not zero.
-#[tactic(auto, using(crate::proofs::Clamp::clamps))]
+#[tactic(auto, using(crate::proofs::storages::Clamp::clamps))]
 pub fn div<T: Storage>(x: T, y: T, bits: usize) -> T
     requires width { 1 ≤ bits }
     requires storage { bits ≤ T.WIDTH }

@@ -4,8 +4,8 @@ ghost use Rattle.std.specs.Prelude.{◌≡◌, ◌≤◌, ◌<◌, ◌%◌};
 ghost use Rattle.arbitrary_base.specs.Range.{InRange};
 ghost use Rattle.arbitrary_base.specs.BitList.{bits as bit_list, val, fill, shl as shifted_left, shr as shifted_right};
 
-use crate::narrowing::narrow;
 use crate::storage::Storage;
+use crate::truncation::truncated;
 
 /// The amount modulo `bits`.
 // Most amounts are below `bits`, and a division takes longer than a test.
@@ -26,7 +26,7 @@ pub fn shl<T: Storage>(x: T, amount: usize, bits: usize) -> T
     ensures value { T.number result ≡ val T.SIGNED (shifted_left (bit_list bits (T.number x)) amount) }
     ensures range { InRange T.SIGNED bits (T.number result) }
 {
-    narrow(x.shl_by(amount), bits)
+    truncated(x.shl_by(amount), bits)
 }
 
 /// The bits moved `amount` places toward the low end. Above come copies of the sign, or zeros where the
@@ -39,5 +39,5 @@ pub fn shr<T: Storage>(x: T, amount: usize, bits: usize) -> T
     ensures value { T.number result ≡ val T.SIGNED (shifted_right (bit_list bits (T.number x)) amount (fill T.SIGNED (bit_list bits (T.number x)))) }
     ensures range { InRange T.SIGNED bits (T.number result) }
 {
-    narrow(x, bits).shr_by(amount)
+    truncated(x, bits).shr_by(amount)
 }

@@ -5,8 +5,8 @@ ghost use Rattle.arbitrary_base.specs.Range.{InRange};
 ghost use Rattle.arbitrary_base.specs.Saturation.{clamp};
 
 use crate::ends::{highest, lowest};
-use crate::narrowing::convert;
 use crate::storage::Storage;
+use crate::truncation::cast;
 
 /// The number.
 fn number<T: Storage>(x: T) -> i64
@@ -15,12 +15,12 @@ fn number<T: Storage>(x: T) -> i64
     ensures range { InRange T.SIGNED T.WIDTH (T.number x) }
 {
     // The contract of `pattern` says that the number is in range; the pattern itself is not needed.
-    let _pattern = x.pattern();
-    convert(x, 64)
+    let _pattern = x.storage_bits();
+    cast(x, 64)
 }
 
 /// The exact product.
-#[tactic(auto, using(crate::proofs::SmallNumber::products))]
+#[tactic(auto, using(crate::proofs::storages::SixteenBits::products))]
 pub(crate) fn product<T: Storage>(x: T, y: T) -> i64
     requires small { T.WIDTH ≤ 16 }
     ensures { result ≡ T.number x *ℤ T.number y }
@@ -37,7 +37,7 @@ pub(crate) fn sum<T: Storage>(x: T, y: T) -> i64
 }
 
 /// Whether the type of `bits` bits over the storage has the number.
-#[tactic(auto, using(crate::proofs::SmallNumber::tests))]
+#[tactic(auto, using(crate::proofs::storages::SixteenBits::tests))]
 pub(crate) fn is_number_of<T: Storage>(x: i64, bits: usize) -> bool
     requires small { T.WIDTH ≤ 16 }
     requires width { 1 ≤ bits }
@@ -48,16 +48,16 @@ pub(crate) fn is_number_of<T: Storage>(x: i64, bits: usize) -> bool
 }
 
 /// The storage's value of a number that it can keep.
-#[tactic(auto, using(crate::proofs::Sum::fitting))]
-pub(crate) fn kept<T: Storage>(x: i64) -> T
+#[tactic(auto, using(crate::proofs::storages::CheckedSum::fitting))]
+pub(crate) fn from_i64<T: Storage>(x: i64) -> T
     requires range { InRange T.SIGNED T.WIDTH x }
     ensures { T.number result ≡ x }
 {
-    convert(x, T::WIDTH)
+    cast(x, T::WIDTH)
 }
 
 /// The number, or the end of the range of `bits` bits over the storage that is nearest to it.
-#[tactic(auto, using(crate::proofs::SmallNumber::clamps))]
+#[tactic(auto, using(crate::proofs::storages::SixteenBits::clamps))]
 pub(crate) fn clamped<T: Storage>(x: i64, bits: usize) -> i64
     requires small { T.WIDTH ≤ 16 }
     requires width { 1 ≤ bits }

@@ -25,7 +25,7 @@ impl Sealed for usize {}
 
 impl Sealed for isize {}
 
-/// A primitive integer, in which a number of at most `WIDTH` bits can be kept.
+/// A primitive integer, in which a number of at most `WIDTH` bits can be stored.
 pub trait Storage: Sealed + Copy + Ord + Hash + Display + Debug + Drop {
     ghost WIDTH: { ℕ };
 
@@ -45,12 +45,12 @@ pub trait Storage: Sealed + Copy + Ord + Hash + Display + Debug + Drop {
     const SIGNED: bool;
 
     /// The bits of the number: its residue modulo `2 ^ WIDTH`.
-    fn pattern(self) -> u128
+    fn storage_bits(self) -> u128
         ensures value { result ≡ residue WIDTH (number self) }
         ensures range { InRange SIGNED WIDTH (number self) };
 
     /// The type's number that is congruent to `pattern` modulo `2 ^ WIDTH`.
-    fn from_pattern(pattern: u128) -> Self
+    fn from_storage_bits(pattern: u128) -> Self
         ensures { number result ≡ wrap SIGNED WIDTH (pos pattern) };
 
     /// The sum, wrapped.
@@ -65,7 +65,7 @@ pub trait Storage: Sealed + Copy + Ord + Hash + Display + Debug + Drop {
     fn wrapping_mul(self, other: Self) -> Self
         ensures { number result ≡ wrap SIGNED WIDTH (number self *ℤ number other) };
 
-    /// The quotient, cut toward zero and wrapped. The divisor is not zero.
+    /// The quotient, rounded toward zero and wrapped. The divisor is not zero.
     fn wrapping_div(self, other: Self) -> Self
         requires { number other ≢ pos 0 }
         ensures { number result ≡ wrap SIGNED WIDTH (int_div (number self) (number other)) };
@@ -111,8 +111,8 @@ pub trait SignedStorage: Storage {
 }
 
 /// The unsigned storage that is as wide as `S`: it holds the bits of each number of `S`.
-pub trait PatternOf<S: Storage>: UnsignedStorage {
-    ghost pattern_width_law: { Self.WIDTH ≡ S.WIDTH };
+pub trait UnsignedOf<S: Storage>: UnsignedStorage {
+    ghost unsigned_width_law: { Self.WIDTH ≡ S.WIDTH };
 }
 
 /// The signed storage that is as wide as `S`.
@@ -120,7 +120,7 @@ pub trait SignedOf<S: Storage>: SignedStorage {
     ghost signed_width_law: { Self.WIDTH ≡ S.WIDTH };
 }
 
-/// A primitive integer, with its mates of the same width.
+/// A primitive integer, with its counterparts of the same width.
 pub trait BuiltinInteger: Storage {
     /// The unsigned type of this width.
     type Unsigned;

@@ -12,7 +12,7 @@ use std::io::{ErrorKind, Read, Write};
 /// Fills `buf`, by at most as many calls as it has bytes. An input that ends before is `UnexpectedEof`.
 pub fn read_full<R: Read>(reader: &mut Watched<R>, buf: &mut [u8]) -> io::Result<()>
     ensures all { OnOk result (Consumes (R.remaining (inner_of reader.old)) (R.remaining (inner_of reader.new)) buf.new) }
-    ensures kept { OnOk result (NoFailure reader.old reader.new) }
+    ensures no_failure { OnOk result (NoFailure reader.old reader.new) }
     ensures why { OnErr result (FailedOrShort (R.remaining (inner_of reader.old)) (Failure reader.old reader.new) (length buf.old)) }
 {
     let mut at = 0;
@@ -30,7 +30,7 @@ pub fn read_full<R: Read>(reader: &mut Watched<R>, buf: &mut [u8]) -> io::Result
 /// `WriteZero`.
 pub fn write_full<W: Write>(writer: &mut Watched<W>, bytes: &[u8]) -> io::Result<()>
     ensures all { OnOk result (Appends (W.contents (inner_of writer.old)) (W.contents (inner_of writer.new)) bytes.now) }
-    ensures kept { OnOk result (NoFailure writer.old writer.new) }
+    ensures no_failure { OnOk result (NoFailure writer.old writer.new) }
     ensures begun { OnErr result (AppendsBeginning (W.contents (inner_of writer.old)) (W.contents (inner_of writer.new)) bytes.now) }
     ensures failed { OnErr result (Failure writer.old writer.new) }
 {

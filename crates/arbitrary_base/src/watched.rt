@@ -66,11 +66,11 @@ impl<D> Watched<D> {
 }
 
 impl<D: Read> Watched<D> {
-    /// One call of the reader's `read`, with its answer. An `Err`, of any kind, is a failure.
+    /// One call of the reader's `read`, with its result. An `Err`, of any kind, is a failure.
     pub fn read(&mut self, buf: &mut [u8]) -> io::Result<usize>
         ensures bound { ReadsAtMost result buf.new }
         ensures bytes { ReadConsumes (D.remaining (inner_of self.old)) (D.remaining (inner_of self.new)) result buf.new }
-        ensures kept { OnOk result (NoFailure self.old self.new) }
+        ensures no_failure { OnOk result (NoFailure self.old self.new) }
         ensures raised { OnErr result (Failure self.old self.new) }
     {
         let outcome = self.inner.read(buf);
@@ -82,12 +82,12 @@ impl<D: Read> Watched<D> {
 }
 
 impl<D: Write> Watched<D> {
-    /// One call of the writer's `write`, with its answer. An `Err`, of any kind, is a failure, and so
+    /// One call of the writer's `write`, with its result. An `Err`, of any kind, is a failure, and so
     /// is a writer that takes nothing of at least one byte.
     pub fn write(&mut self, buf: &[u8]) -> io::Result<usize>
         ensures bound { WritesAtMost result buf.now }
         ensures bytes { WriteAppends (D.contents (inner_of self.old)) (D.contents (inner_of self.new)) result buf.now }
-        ensures kept { IfOk result (λ n. (n ≡ 0 → length buf.now ≡ 0) → NoFailure self.old self.new) }
+        ensures no_failure { IfOk result (λ n. (n ≡ 0 → length buf.now ≡ 0) → NoFailure self.old self.new) }
         ensures took_nothing { IfOk result (λ n. n ≡ 0 → 0 < length buf.now → Failure self.old self.new) }
         ensures raised { OnErr result (Failure self.old self.new) }
     {

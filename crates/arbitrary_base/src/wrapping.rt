@@ -5,44 +5,44 @@ ghost use Rattle.arbitrary_base.specs.Range.{InRange};
 ghost use Rattle.arbitrary_base.specs.Residue.{wrap};
 
 use crate::ends::zero;
-use crate::narrowing::narrow;
 use crate::storage::Storage;
+use crate::truncation::truncated;
 
 /// The sum, wrapped.
-#[tactic(auto, using(crate::proofs::Sum::arithmetic))]
+#[tactic(auto, using(crate::proofs::storages::CheckedSum::arithmetic))]
 pub fn add<T: Storage>(x: T, y: T, bits: usize) -> T
     requires width { 1 ≤ bits }
     requires storage { bits ≤ T.WIDTH }
     ensures value { T.number result ≡ wrap T.SIGNED bits (T.number x +ℤ T.number y) }
     ensures range { InRange T.SIGNED bits (T.number result) }
 {
-    narrow(x.wrapping_add(y), bits)
+    truncated(x.wrapping_add(y), bits)
 }
 
 /// The difference, wrapped.
-#[tactic(auto, using(crate::proofs::Sum::arithmetic))]
+#[tactic(auto, using(crate::proofs::storages::CheckedSum::arithmetic))]
 pub fn sub<T: Storage>(x: T, y: T, bits: usize) -> T
     requires width { 1 ≤ bits }
     requires storage { bits ≤ T.WIDTH }
     ensures value { T.number result ≡ wrap T.SIGNED bits (T.number x -ℤ T.number y) }
     ensures range { InRange T.SIGNED bits (T.number result) }
 {
-    narrow(x.wrapping_sub(y), bits)
+    truncated(x.wrapping_sub(y), bits)
 }
 
 /// The product, wrapped.
-#[tactic(auto, using(crate::proofs::Sum::arithmetic))]
+#[tactic(auto, using(crate::proofs::storages::CheckedSum::arithmetic))]
 pub fn mul<T: Storage>(x: T, y: T, bits: usize) -> T
     requires width { 1 ≤ bits }
     requires storage { bits ≤ T.WIDTH }
     ensures value { T.number result ≡ wrap T.SIGNED bits (T.number x *ℤ T.number y) }
     ensures range { InRange T.SIGNED bits (T.number result) }
 {
-    narrow(x.wrapping_mul(y), bits)
+    truncated(x.wrapping_mul(y), bits)
 }
 
-/// The quotient, cut toward zero and wrapped. The divisor is not zero.
-#[tactic(auto, using(crate::proofs::Sum::arithmetic))]
+/// The quotient, rounded toward zero and wrapped. The divisor is not zero.
+#[tactic(auto, using(crate::proofs::storages::CheckedSum::arithmetic))]
 pub fn div<T: Storage>(x: T, y: T, bits: usize) -> T
     requires width { 1 ≤ bits }
     requires storage { bits ≤ T.WIDTH }
@@ -50,7 +50,7 @@ pub fn div<T: Storage>(x: T, y: T, bits: usize) -> T
     ensures value { T.number result ≡ wrap T.SIGNED bits (int_div (T.number x) (T.number y)) }
     ensures range { InRange T.SIGNED bits (T.number result) }
 {
-    narrow(x.wrapping_div(y), bits)
+    truncated(x.wrapping_div(y), bits)
 }
 
 /// The negated number, wrapped.

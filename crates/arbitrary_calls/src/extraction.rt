@@ -11,7 +11,7 @@ use arbitrary_base::extraction;
 /// Every integer of fixed width is read out of the words of the ten primitives.
 pub trait Extraction: FixedWidth {
     /// The value of the `BITS` bits of `value` from place `start_bit` on, all among its 8. The width is valid.
-    #[tactic(auto, using(arbitrary_base::proofs::Extracted::fields))]
+    #[tactic(auto, using(arbitrary_base::proofs::bit_lists::ExtractedField::fields))]
     final fn extract_u8(value: u8, start_bit: usize) -> Self
         requires width { Self.valid }
         requires within { start_bit + Self.BITS ≤ 8 }
@@ -20,11 +20,11 @@ pub trait Extraction: FixedWidth {
         ensures congruent { Congruent Self.BITS (Self.number result) (pos (value / 2 ^ start_bit)) }
         ensures wrapped { Self.number result ≡ wrap Self.IS_SIGNED Self.BITS (field value start_bit Self.BITS) }
     {
-        Self::from_kept(extraction::extract(value, start_bit, Self::BITS))
+        Self::from_storage(extraction::extract(value, start_bit, Self::BITS))
     }
 
     /// The value of the `BITS` bits of `value` from place `start_bit` on, all among its 16. The width is valid.
-    #[tactic(auto, using(arbitrary_base::proofs::Extracted::fields))]
+    #[tactic(auto, using(arbitrary_base::proofs::bit_lists::ExtractedField::fields))]
     final fn extract_u16(value: u16, start_bit: usize) -> Self
         requires width { Self.valid }
         requires within { start_bit + Self.BITS ≤ 16 }
@@ -33,11 +33,11 @@ pub trait Extraction: FixedWidth {
         ensures congruent { Congruent Self.BITS (Self.number result) (pos (value / 2 ^ start_bit)) }
         ensures wrapped { Self.number result ≡ wrap Self.IS_SIGNED Self.BITS (field value start_bit Self.BITS) }
     {
-        Self::from_kept(extraction::extract(value, start_bit, Self::BITS))
+        Self::from_storage(extraction::extract(value, start_bit, Self::BITS))
     }
 
     /// The value of the `BITS` bits of `value` from place `start_bit` on, all among its 32. The width is valid.
-    #[tactic(auto, using(arbitrary_base::proofs::Extracted::fields))]
+    #[tactic(auto, using(arbitrary_base::proofs::bit_lists::ExtractedField::fields))]
     final fn extract_u32(value: u32, start_bit: usize) -> Self
         requires width { Self.valid }
         requires within { start_bit + Self.BITS ≤ 32 }
@@ -46,11 +46,11 @@ pub trait Extraction: FixedWidth {
         ensures congruent { Congruent Self.BITS (Self.number result) (pos (value / 2 ^ start_bit)) }
         ensures wrapped { Self.number result ≡ wrap Self.IS_SIGNED Self.BITS (field value start_bit Self.BITS) }
     {
-        Self::from_kept(extraction::extract(value, start_bit, Self::BITS))
+        Self::from_storage(extraction::extract(value, start_bit, Self::BITS))
     }
 
     /// The value of the `BITS` bits of `value` from place `start_bit` on, all among its 64. The width is valid.
-    #[tactic(auto, using(arbitrary_base::proofs::Extracted::fields))]
+    #[tactic(auto, using(arbitrary_base::proofs::bit_lists::ExtractedField::fields))]
     final fn extract_u64(value: u64, start_bit: usize) -> Self
         requires width { Self.valid }
         requires within { start_bit + Self.BITS ≤ 64 }
@@ -59,11 +59,11 @@ pub trait Extraction: FixedWidth {
         ensures congruent { Congruent Self.BITS (Self.number result) (pos (value / 2 ^ start_bit)) }
         ensures wrapped { Self.number result ≡ wrap Self.IS_SIGNED Self.BITS (field value start_bit Self.BITS) }
     {
-        Self::from_kept(extraction::extract(value, start_bit, Self::BITS))
+        Self::from_storage(extraction::extract(value, start_bit, Self::BITS))
     }
 
     /// The value of the `BITS` bits of `value` from place `start_bit` on, all among its 128. The width is valid.
-    #[tactic(auto, using(arbitrary_base::proofs::Extracted::fields))]
+    #[tactic(auto, using(arbitrary_base::proofs::bit_lists::ExtractedField::fields))]
     final fn extract_u128(value: u128, start_bit: usize) -> Self
         requires width { Self.valid }
         requires within { start_bit + Self.BITS ≤ 128 }
@@ -72,62 +72,62 @@ pub trait Extraction: FixedWidth {
         ensures congruent { Congruent Self.BITS (Self.number result) (pos (value / 2 ^ start_bit)) }
         ensures wrapped { Self.number result ≡ wrap Self.IS_SIGNED Self.BITS (field value start_bit Self.BITS) }
     {
-        Self::from_kept(extraction::extract(value, start_bit, Self::BITS))
+        Self::from_storage(extraction::extract(value, start_bit, Self::BITS))
     }
 
     /// The value of the `BITS` bits of `value` from place `start_bit` on, all among its 8. The width is valid.
-    #[tactic(auto, using(arbitrary_base::proofs::Extracted::fields, arbitrary_base::proofs::Primitive::signed_laws))]
+    #[tactic(auto, using(arbitrary_base::proofs::bit_lists::ExtractedField::fields, arbitrary_base::proofs::storages::Primitive::signed_laws))]
     final fn extract_i8(value: i8, start_bit: usize) -> Self
         requires width { Self.valid }
         requires within { start_bit + Self.BITS ≤ 8 }
         ensures value { Self.number result ≡ val Self.IS_SIGNED (items start_bit Self.BITS (bits 8 value)) }
         ensures field { IsField start_bit Self.BITS value (Self.number result) }
     {
-        Self::from_kept(extraction::extract(value, start_bit, Self::BITS))
+        Self::from_storage(extraction::extract(value, start_bit, Self::BITS))
     }
 
     /// The value of the `BITS` bits of `value` from place `start_bit` on, all among its 16. The width is valid.
-    #[tactic(auto, using(arbitrary_base::proofs::Extracted::fields, arbitrary_base::proofs::Primitive::signed_laws))]
+    #[tactic(auto, using(arbitrary_base::proofs::bit_lists::ExtractedField::fields, arbitrary_base::proofs::storages::Primitive::signed_laws))]
     final fn extract_i16(value: i16, start_bit: usize) -> Self
         requires width { Self.valid }
         requires within { start_bit + Self.BITS ≤ 16 }
         ensures value { Self.number result ≡ val Self.IS_SIGNED (items start_bit Self.BITS (bits 16 value)) }
         ensures field { IsField start_bit Self.BITS value (Self.number result) }
     {
-        Self::from_kept(extraction::extract(value, start_bit, Self::BITS))
+        Self::from_storage(extraction::extract(value, start_bit, Self::BITS))
     }
 
     /// The value of the `BITS` bits of `value` from place `start_bit` on, all among its 32. The width is valid.
-    #[tactic(auto, using(arbitrary_base::proofs::Extracted::fields, arbitrary_base::proofs::Primitive::signed_laws))]
+    #[tactic(auto, using(arbitrary_base::proofs::bit_lists::ExtractedField::fields, arbitrary_base::proofs::storages::Primitive::signed_laws))]
     final fn extract_i32(value: i32, start_bit: usize) -> Self
         requires width { Self.valid }
         requires within { start_bit + Self.BITS ≤ 32 }
         ensures value { Self.number result ≡ val Self.IS_SIGNED (items start_bit Self.BITS (bits 32 value)) }
         ensures field { IsField start_bit Self.BITS value (Self.number result) }
     {
-        Self::from_kept(extraction::extract(value, start_bit, Self::BITS))
+        Self::from_storage(extraction::extract(value, start_bit, Self::BITS))
     }
 
     /// The value of the `BITS` bits of `value` from place `start_bit` on, all among its 64. The width is valid.
-    #[tactic(auto, using(arbitrary_base::proofs::Extracted::fields, arbitrary_base::proofs::Primitive::signed_laws))]
+    #[tactic(auto, using(arbitrary_base::proofs::bit_lists::ExtractedField::fields, arbitrary_base::proofs::storages::Primitive::signed_laws))]
     final fn extract_i64(value: i64, start_bit: usize) -> Self
         requires width { Self.valid }
         requires within { start_bit + Self.BITS ≤ 64 }
         ensures value { Self.number result ≡ val Self.IS_SIGNED (items start_bit Self.BITS (bits 64 value)) }
         ensures field { IsField start_bit Self.BITS value (Self.number result) }
     {
-        Self::from_kept(extraction::extract(value, start_bit, Self::BITS))
+        Self::from_storage(extraction::extract(value, start_bit, Self::BITS))
     }
 
     /// The value of the `BITS` bits of `value` from place `start_bit` on, all among its 128. The width is valid.
-    #[tactic(auto, using(arbitrary_base::proofs::Extracted::fields, arbitrary_base::proofs::Primitive::signed_laws))]
+    #[tactic(auto, using(arbitrary_base::proofs::bit_lists::ExtractedField::fields, arbitrary_base::proofs::storages::Primitive::signed_laws))]
     final fn extract_i128(value: i128, start_bit: usize) -> Self
         requires width { Self.valid }
         requires within { start_bit + Self.BITS ≤ 128 }
         ensures value { Self.number result ≡ val Self.IS_SIGNED (items start_bit Self.BITS (bits 128 value)) }
         ensures field { IsField start_bit Self.BITS value (Self.number result) }
     {
-        Self::from_kept(extraction::extract(value, start_bit, Self::BITS))
+        Self::from_storage(extraction::extract(value, start_bit, Self::BITS))
     }
 }
 

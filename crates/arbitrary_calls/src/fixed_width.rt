@@ -7,42 +7,42 @@ ghost use Rattle.arbitrary_base.specs.Saturation.{clamp};
 ghost use Rattle.arbitrary_base.specs.Exact.{ExactOrNone, QuotientOrNone};
 ghost use Rattle.arbitrary_base.specs.Power.{power, binary_digits};
 ghost use Rattle.arbitrary_base.specs.Operation.{reversed, rotated_left, rotated_right, shifted_left, shifted_right, wrapped_difference, wrapped_product, wrapped_sum};
-ghost use Rattle.arbitrary_base.specs.BitList.{bits, val, bits_and, bits_or, bits_xor, bits_not, fill, front, ones, rotl, rotr, shl, shr, tail};
+ghost use Rattle.arbitrary_base.specs.BitList.{bits, val, bits_and, bits_or, bits_xor, bits_not, fill, front, popcount, rotl, rotr, shl, shr, tail};
 
-use crate::patterned::Patterned;
-use arbitrary_base::narrowing::cut;
+use crate::low_bits::LowBits;
 use arbitrary_base::storage::Storage;
+use arbitrary_base::truncation::masked;
 use arbitrary_base::{checked, overflowing, patterns, power, saturating, shifts, wrapping};
 use arbitrary_traits::integer::Integer;
 
-/// An integer of `BITS` bits that is kept in a primitive: `UInt` and `Int`.
+/// An integer of `BITS` bits that is stored in a primitive: `UInt` and `Int`.
 ///
 /// In the contracts `number` is the number of a value, and the exact result is that of whole numbers
 /// without bounds. `wrap` of it is the type's number that is congruent to it modulo `2 ^ BITS`, and
-/// `clamp` of it the type's number that is nearest. A quotient is cut toward zero; the only one that
+/// `clamp` of it the type's number that is nearest. A quotient is rounded toward zero; the only one that
 /// is out of range is the least signed number divided by -1.
-pub trait FixedWidth: Integer + Patterned {
+pub trait FixedWidth: Integer + LowBits {
     /// The primitive that keeps the number. It is `UnderlyingType`, known to be a storage.
-    type Kept: Storage;
+    type Representation: Storage;
 
     /// The number, in its storage.
-    fn kept(self) -> Self::Kept
-        ensures number { Self.Kept.number result ≡ Self.number self }
-        ensures range { InRange Self.Kept.SIGNED Self.BITS (Self.number self) }
+    fn to_storage(self) -> Self::Representation
+        ensures number { Self.Representation.number result ≡ Self.number self }
+        ensures range { InRange Self.Representation.SIGNED Self.BITS (Self.number self) }
         ensures some { 1 ≤ Self.BITS }
-        ensures fits { Self.BITS ≤ Self.Kept.WIDTH };
+        ensures storage { Self.BITS ≤ Self.Representation.WIDTH };
 
     /// The value of a storage's number, which is in range. The width is valid.
-    fn from_kept(value: Self::Kept) -> Self
+    fn from_storage(value: Self::Representation) -> Self
         requires some { 1 ≤ Self.BITS }
-        requires fits { Self.BITS ≤ Self.Kept.WIDTH }
-        requires range { InRange Self.Kept.SIGNED Self.BITS (Self.Kept.number value) }
-        ensures { Self.number result ≡ Self.Kept.number value };
+        requires storage { Self.BITS ≤ Self.Representation.WIDTH }
+        requires range { InRange Self.Representation.SIGNED Self.BITS (Self.Representation.number value) }
+        ensures { Self.number result ≡ Self.Representation.number value };
 
     // A valid width is one that the storage has room for.
-    ghost width_law: { Self.valid → (1 ≤ Self.BITS) × (Self.BITS ≤ Self.Kept.WIDTH) };
+    ghost width_law: { Self.valid → (1 ≤ Self.BITS) × (Self.BITS ≤ Self.Representation.WIDTH) };
 
-    ghost sign_law: { Self.Kept.SIGNED ≡ Self.IS_SIGNED };
+    ghost sign_law: { Self.Representation.SIGNED ≡ Self.IS_SIGNED };
 
     // The bitwise operators, with no premise: each value of these types is in range.
     ghost and_law: { (a b r : Self) → Self.bitand_gives a b r
@@ -61,209 +61,217 @@ pub trait FixedWidth: Integer + Patterned {
     final fn wrapping_add(self, rhs: Self) -> Self
         ensures operation { Self.number result ≡ wrapped_sum Self.IS_SIGNED Self.BITS (Self.number self) (Self.number rhs) }
         ensures value { Self.number result ≡ wrap Self.IS_SIGNED Self.BITS (Self.number self +ℤ Self.number rhs) }
-        ensures kept { InRange Self.IS_SIGNED Self.BITS (Self.number self +ℤ Self.number rhs) → Self.number result ≡ Self.number self +ℤ Self.number rhs }
+        ensures exact { InRange Self.IS_SIGNED Self.BITS (Self.number self +ℤ Self.number rhs) → Self.number result ≡ Self.number self +ℤ Self.number rhs }
         ensures congruent { Congruent Self.BITS (Self.number result) (Self.number self +ℤ Self.number rhs) }
         ensures undo { (y : ℤ) → InRange Self.IS_SIGNED Self.BITS y → Self.number self ≡ wrapped_difference Self.IS_SIGNED Self.BITS y (Self.number rhs) → Self.number result ≡ y }
         ensures range { InRange Self.IS_SIGNED Self.BITS (Self.number self) }
     {
-        Self::from_extended(self.pattern().wrapping_add(rhs.pattern()))
+        Self::from_u128_bits(self.low_bits().wrapping_add(rhs.low_bits()))
     }
 
     /// The sum, or the end of the range that is nearest to it.
-    #[tactic(auto, using(arbitrary_base::proofs::Clamp::clamped))]
+    #[tactic(auto, using(arbitrary_base::proofs::storages::Clamp::clamped))]
     final fn saturating_add(self, rhs: Self) -> Self
         ensures value { Self.number result ≡ clamp Self.IS_SIGNED Self.BITS (Self.number self +ℤ Self.number rhs) }
-        ensures kept { InRange Self.IS_SIGNED Self.BITS (Self.number self +ℤ Self.number rhs) → Self.number result ≡ Self.number self +ℤ Self.number rhs }
+        ensures exact { InRange Self.IS_SIGNED Self.BITS (Self.number self +ℤ Self.number rhs) → Self.number result ≡ Self.number self +ℤ Self.number rhs }
         ensures above { hi Self.IS_SIGNED Self.BITS <ℤ (Self.number self +ℤ Self.number rhs) → Self.number result ≡ hi Self.IS_SIGNED Self.BITS }
         ensures below { (Self.number self +ℤ Self.number rhs) <ℤ lo Self.IS_SIGNED Self.BITS → Self.number result ≡ lo Self.IS_SIGNED Self.BITS }
         ensures range { InRange Self.IS_SIGNED Self.BITS (Self.number self) }
         ensures bounded { InRange Self.IS_SIGNED Self.BITS (Self.number result) }
     {
-        Self::from_kept(saturating::add(self.kept(), rhs.kept(), Self::BITS))
+        Self::from_storage(saturating::add(self.to_storage(), rhs.to_storage(), Self::BITS))
     }
 
     /// The sum, and `None` exactly where it is out of range.
     final fn checked_add(self, rhs: Self) -> Option<Self>
         ensures { ExactOrNone Self.number Self.IS_SIGNED Self.BITS (Self.number self +ℤ Self.number rhs) result }
     {
-        match checked::add(self.kept(), rhs.kept(), Self::BITS) {
-            Some(sum) => Some(Self::from_kept(sum)),
+        match checked::add(self.to_storage(), rhs.to_storage(), Self::BITS) {
+            Some(sum) => Some(Self::from_storage(sum)),
             None => None,
         }
     }
 
     /// The sum, wrapped, and whether the exact one is out of range.
-    #[tactic(auto, using(arbitrary_base::proofs::Wrapped::wrapped))]
+    #[tactic(auto, using(arbitrary_base::proofs::modular::ExactOrCongruent::wrapped))]
     final fn overflowing_add(self, rhs: Self) -> (Self, bool)
         ensures value { Self.number result.0 ≡ wrap Self.IS_SIGNED Self.BITS (Self.number self +ℤ Self.number rhs) }
         ensures overflow { IsTrue result.1 ↔ ¬ (InRange Self.IS_SIGNED Self.BITS (Self.number self +ℤ Self.number rhs)) }
-        ensures kept { InRange Self.IS_SIGNED Self.BITS (Self.number self +ℤ Self.number rhs) → Self.number result.0 ≡ Self.number self +ℤ Self.number rhs }
+        ensures exact { InRange Self.IS_SIGNED Self.BITS (Self.number self +ℤ Self.number rhs) → Self.number result.0 ≡ Self.number self +ℤ Self.number rhs }
         ensures congruent { Congruent Self.BITS (Self.number result.0) (Self.number self +ℤ Self.number rhs) }
     {
-        let (sum, overflow) = overflowing::add(self.kept(), rhs.kept(), Self::BITS);
-        (Self::from_kept(sum), overflow)
+        let (sum, overflow) = overflowing::add(self.to_storage(), rhs.to_storage(), Self::BITS);
+        (Self::from_storage(sum), overflow)
     }
 
     /// The difference, wrapped.
     final fn wrapping_sub(self, rhs: Self) -> Self
         ensures operation { Self.number result ≡ wrapped_difference Self.IS_SIGNED Self.BITS (Self.number self) (Self.number rhs) }
         ensures value { Self.number result ≡ wrap Self.IS_SIGNED Self.BITS (Self.number self -ℤ Self.number rhs) }
-        ensures kept { InRange Self.IS_SIGNED Self.BITS (Self.number self -ℤ Self.number rhs) → Self.number result ≡ Self.number self -ℤ Self.number rhs }
+        ensures exact { InRange Self.IS_SIGNED Self.BITS (Self.number self -ℤ Self.number rhs) → Self.number result ≡ Self.number self -ℤ Self.number rhs }
         ensures congruent { Congruent Self.BITS (Self.number result) (Self.number self -ℤ Self.number rhs) }
         ensures undo { (y : ℤ) → InRange Self.IS_SIGNED Self.BITS y → Self.number self ≡ wrapped_sum Self.IS_SIGNED Self.BITS y (Self.number rhs) → Self.number result ≡ y }
         ensures range { InRange Self.IS_SIGNED Self.BITS (Self.number self) }
     {
-        Self::from_extended(self.pattern().wrapping_sub(rhs.pattern()))
+        Self::from_u128_bits(self.low_bits().wrapping_sub(rhs.low_bits()))
     }
 
     /// The difference, or the end of the range that is nearest to it.
-    #[tactic(auto, using(arbitrary_base::proofs::Clamp::clamped))]
+    #[tactic(auto, using(arbitrary_base::proofs::storages::Clamp::clamped))]
     final fn saturating_sub(self, rhs: Self) -> Self
         ensures value { Self.number result ≡ clamp Self.IS_SIGNED Self.BITS (Self.number self -ℤ Self.number rhs) }
-        ensures kept { InRange Self.IS_SIGNED Self.BITS (Self.number self -ℤ Self.number rhs) → Self.number result ≡ Self.number self -ℤ Self.number rhs }
+        ensures exact { InRange Self.IS_SIGNED Self.BITS (Self.number self -ℤ Self.number rhs) → Self.number result ≡ Self.number self -ℤ Self.number rhs }
         ensures above { hi Self.IS_SIGNED Self.BITS <ℤ (Self.number self -ℤ Self.number rhs) → Self.number result ≡ hi Self.IS_SIGNED Self.BITS }
         ensures below { (Self.number self -ℤ Self.number rhs) <ℤ lo Self.IS_SIGNED Self.BITS → Self.number result ≡ lo Self.IS_SIGNED Self.BITS }
         ensures range { InRange Self.IS_SIGNED Self.BITS (Self.number self) }
         ensures bounded { InRange Self.IS_SIGNED Self.BITS (Self.number result) }
     {
-        Self::from_kept(saturating::sub(self.kept(), rhs.kept(), Self::BITS))
+        Self::from_storage(saturating::sub(self.to_storage(), rhs.to_storage(), Self::BITS))
     }
 
     /// The difference, and `None` exactly where it is out of range.
     final fn checked_sub(self, rhs: Self) -> Option<Self>
         ensures { ExactOrNone Self.number Self.IS_SIGNED Self.BITS (Self.number self -ℤ Self.number rhs) result }
     {
-        match checked::sub(self.kept(), rhs.kept(), Self::BITS) {
-            Some(difference) => Some(Self::from_kept(difference)),
+        match checked::sub(self.to_storage(), rhs.to_storage(), Self::BITS) {
+            Some(difference) => Some(Self::from_storage(difference)),
             None => None,
         }
     }
 
     /// The difference, wrapped, and whether the exact one is out of range.
-    #[tactic(auto, using(arbitrary_base::proofs::Wrapped::wrapped))]
+    #[tactic(auto, using(arbitrary_base::proofs::modular::ExactOrCongruent::wrapped))]
     final fn overflowing_sub(self, rhs: Self) -> (Self, bool)
         ensures value { Self.number result.0 ≡ wrap Self.IS_SIGNED Self.BITS (Self.number self -ℤ Self.number rhs) }
         ensures overflow { IsTrue result.1 ↔ ¬ (InRange Self.IS_SIGNED Self.BITS (Self.number self -ℤ Self.number rhs)) }
-        ensures kept { InRange Self.IS_SIGNED Self.BITS (Self.number self -ℤ Self.number rhs) → Self.number result.0 ≡ Self.number self -ℤ Self.number rhs }
+        ensures exact { InRange Self.IS_SIGNED Self.BITS (Self.number self -ℤ Self.number rhs) → Self.number result.0 ≡ Self.number self -ℤ Self.number rhs }
         ensures congruent { Congruent Self.BITS (Self.number result.0) (Self.number self -ℤ Self.number rhs) }
     {
-        let (difference, overflow) = overflowing::sub(self.kept(), rhs.kept(), Self::BITS);
-        (Self::from_kept(difference), overflow)
+        let (difference, overflow) = overflowing::sub(
+            self.to_storage(),
+            rhs.to_storage(),
+            Self::BITS,
+        );
+        (Self::from_storage(difference), overflow)
     }
 
     /// The product, wrapped.
     final fn wrapping_mul(self, rhs: Self) -> Self
         ensures operation { Self.number result ≡ wrapped_product Self.IS_SIGNED Self.BITS (Self.number self) (Self.number rhs) }
         ensures value { Self.number result ≡ wrap Self.IS_SIGNED Self.BITS (Self.number self *ℤ Self.number rhs) }
-        ensures kept { InRange Self.IS_SIGNED Self.BITS (Self.number self *ℤ Self.number rhs) → Self.number result ≡ Self.number self *ℤ Self.number rhs }
+        ensures exact { InRange Self.IS_SIGNED Self.BITS (Self.number self *ℤ Self.number rhs) → Self.number result ≡ Self.number self *ℤ Self.number rhs }
         ensures congruent { Congruent Self.BITS (Self.number result) (Self.number self *ℤ Self.number rhs) }
     {
-        Self::from_extended(self.pattern().wrapping_mul(rhs.pattern()))
+        Self::from_u128_bits(self.low_bits().wrapping_mul(rhs.low_bits()))
     }
 
     /// The product, or the end of the range that is nearest to it.
-    #[tactic(auto, using(arbitrary_base::proofs::Clamp::clamped))]
+    #[tactic(auto, using(arbitrary_base::proofs::storages::Clamp::clamped))]
     final fn saturating_mul(self, rhs: Self) -> Self
         ensures value { Self.number result ≡ clamp Self.IS_SIGNED Self.BITS (Self.number self *ℤ Self.number rhs) }
-        ensures kept { InRange Self.IS_SIGNED Self.BITS (Self.number self *ℤ Self.number rhs) → Self.number result ≡ Self.number self *ℤ Self.number rhs }
+        ensures exact { InRange Self.IS_SIGNED Self.BITS (Self.number self *ℤ Self.number rhs) → Self.number result ≡ Self.number self *ℤ Self.number rhs }
         ensures above { hi Self.IS_SIGNED Self.BITS <ℤ (Self.number self *ℤ Self.number rhs) → Self.number result ≡ hi Self.IS_SIGNED Self.BITS }
         ensures below { (Self.number self *ℤ Self.number rhs) <ℤ lo Self.IS_SIGNED Self.BITS → Self.number result ≡ lo Self.IS_SIGNED Self.BITS }
         ensures range { InRange Self.IS_SIGNED Self.BITS (Self.number self) }
         ensures bounded { InRange Self.IS_SIGNED Self.BITS (Self.number result) }
     {
-        Self::from_kept(saturating::mul(self.kept(), rhs.kept(), Self::BITS))
+        Self::from_storage(saturating::mul(self.to_storage(), rhs.to_storage(), Self::BITS))
     }
 
     /// The product, and `None` exactly where it is out of range.
     final fn checked_mul(self, rhs: Self) -> Option<Self>
         ensures { ExactOrNone Self.number Self.IS_SIGNED Self.BITS (Self.number self *ℤ Self.number rhs) result }
     {
-        match checked::mul(self.kept(), rhs.kept(), Self::BITS) {
-            Some(product) => Some(Self::from_kept(product)),
+        match checked::mul(self.to_storage(), rhs.to_storage(), Self::BITS) {
+            Some(product) => Some(Self::from_storage(product)),
             None => None,
         }
     }
 
     /// The product, wrapped, and whether the exact one is out of range.
-    #[tactic(auto, using(arbitrary_base::proofs::Wrapped::wrapped))]
+    #[tactic(auto, using(arbitrary_base::proofs::modular::ExactOrCongruent::wrapped))]
     final fn overflowing_mul(self, rhs: Self) -> (Self, bool)
         ensures value { Self.number result.0 ≡ wrap Self.IS_SIGNED Self.BITS (Self.number self *ℤ Self.number rhs) }
         ensures overflow { IsTrue result.1 ↔ ¬ (InRange Self.IS_SIGNED Self.BITS (Self.number self *ℤ Self.number rhs)) }
-        ensures kept { InRange Self.IS_SIGNED Self.BITS (Self.number self *ℤ Self.number rhs) → Self.number result.0 ≡ Self.number self *ℤ Self.number rhs }
+        ensures exact { InRange Self.IS_SIGNED Self.BITS (Self.number self *ℤ Self.number rhs) → Self.number result.0 ≡ Self.number self *ℤ Self.number rhs }
         ensures congruent { Congruent Self.BITS (Self.number result.0) (Self.number self *ℤ Self.number rhs) }
     {
-        let (product, overflow) = overflowing::mul(self.kept(), rhs.kept(), Self::BITS);
-        (Self::from_kept(product), overflow)
+        let (product, overflow) = overflowing::mul(self.to_storage(), rhs.to_storage(), Self::BITS);
+        (Self::from_storage(product), overflow)
     }
 
     /// The quotient, wrapped. The divisor is not zero.
-    #[tactic(auto, using(arbitrary_base::proofs::Wrapped::wrapped))]
+    #[tactic(auto, using(arbitrary_base::proofs::modular::ExactOrCongruent::wrapped))]
     final fn wrapping_div(self, rhs: Self) -> Self
         requires { Self.number rhs ≢ pos 0 }
         ensures value { Self.number result ≡ wrap Self.IS_SIGNED Self.BITS (int_div (Self.number self) (Self.number rhs)) }
-        ensures kept { InRange Self.IS_SIGNED Self.BITS (int_div (Self.number self) (Self.number rhs)) → Self.number result ≡ int_div (Self.number self) (Self.number rhs) }
+        ensures exact { InRange Self.IS_SIGNED Self.BITS (int_div (Self.number self) (Self.number rhs)) → Self.number result ≡ int_div (Self.number self) (Self.number rhs) }
     {
-        Self::from_kept(wrapping::div(self.kept(), rhs.kept(), Self::BITS))
+        Self::from_storage(wrapping::div(self.to_storage(), rhs.to_storage(), Self::BITS))
     }
 
     /// The quotient, or the end of the range that is nearest to it. The divisor is not zero.
-    #[tactic(auto, using(arbitrary_base::proofs::Clamp::clamped))]
+    #[tactic(auto, using(arbitrary_base::proofs::storages::Clamp::clamped))]
     final fn saturating_div(self, rhs: Self) -> Self
         requires { Self.number rhs ≢ pos 0 }
         ensures value { Self.number result ≡ clamp Self.IS_SIGNED Self.BITS (int_div (Self.number self) (Self.number rhs)) }
-        ensures kept { InRange Self.IS_SIGNED Self.BITS (int_div (Self.number self) (Self.number rhs)) → Self.number result ≡ int_div (Self.number self) (Self.number rhs) }
+        ensures exact { InRange Self.IS_SIGNED Self.BITS (int_div (Self.number self) (Self.number rhs)) → Self.number result ≡ int_div (Self.number self) (Self.number rhs) }
         ensures above { hi Self.IS_SIGNED Self.BITS <ℤ (int_div (Self.number self) (Self.number rhs)) → Self.number result ≡ hi Self.IS_SIGNED Self.BITS }
         ensures below { (int_div (Self.number self) (Self.number rhs)) <ℤ lo Self.IS_SIGNED Self.BITS → Self.number result ≡ lo Self.IS_SIGNED Self.BITS }
     {
-        Self::from_kept(saturating::div(self.kept(), rhs.kept(), Self::BITS))
+        Self::from_storage(saturating::div(self.to_storage(), rhs.to_storage(), Self::BITS))
     }
 
     /// The quotient, and `None` exactly where the divisor is zero or the quotient is out of range.
     final fn checked_div(self, rhs: Self) -> Option<Self>
         ensures { QuotientOrNone Self.number Self.IS_SIGNED Self.BITS (Self.number self) (Self.number rhs) result }
     {
-        match checked::div(self.kept(), rhs.kept(), Self::BITS) {
-            Some(quotient) => Some(Self::from_kept(quotient)),
+        match checked::div(self.to_storage(), rhs.to_storage(), Self::BITS) {
+            Some(quotient) => Some(Self::from_storage(quotient)),
             None => None,
         }
     }
 
     /// The quotient, wrapped, and whether the exact one is out of range. The divisor is not zero.
-    #[tactic(auto, using(arbitrary_base::proofs::Wrapped::wrapped))]
+    #[tactic(auto, using(arbitrary_base::proofs::modular::ExactOrCongruent::wrapped))]
     final fn overflowing_div(self, rhs: Self) -> (Self, bool)
         requires { Self.number rhs ≢ pos 0 }
         ensures value { Self.number result.0 ≡ wrap Self.IS_SIGNED Self.BITS (int_div (Self.number self) (Self.number rhs)) }
         ensures overflow { IsTrue result.1 ↔ ¬ (InRange Self.IS_SIGNED Self.BITS (int_div (Self.number self) (Self.number rhs))) }
-        ensures kept { InRange Self.IS_SIGNED Self.BITS (int_div (Self.number self) (Self.number rhs)) → Self.number result.0 ≡ int_div (Self.number self) (Self.number rhs) }
+        ensures exact { InRange Self.IS_SIGNED Self.BITS (int_div (Self.number self) (Self.number rhs)) → Self.number result.0 ≡ int_div (Self.number self) (Self.number rhs) }
     {
-        let (quotient, overflow) = overflowing::div(self.kept(), rhs.kept(), Self::BITS);
-        (Self::from_kept(quotient), overflow)
+        let (quotient, overflow) = overflowing::div(
+            self.to_storage(),
+            rhs.to_storage(),
+            Self::BITS,
+        );
+        (Self::from_storage(quotient), overflow)
     }
 
     /// `self` to the power `exp`, or the end of the range that is nearest to it. 0 to the power 0 is 1.
-    #[tactic(auto, using(arbitrary_base::proofs::Clamp::clamped))]
+    #[tactic(auto, using(arbitrary_base::proofs::storages::Clamp::clamped))]
     final fn saturating_pow(self, exp: u32) -> Self
         ensures value { Self.number result ≡ clamp Self.IS_SIGNED Self.BITS (power (Self.number self) exp) }
-        ensures kept { InRange Self.IS_SIGNED Self.BITS (power (Self.number self) exp) → Self.number result ≡ power (Self.number self) exp }
+        ensures exact { InRange Self.IS_SIGNED Self.BITS (power (Self.number self) exp) → Self.number result ≡ power (Self.number self) exp }
         ensures above { hi Self.IS_SIGNED Self.BITS <ℤ (power (Self.number self) exp) → Self.number result ≡ hi Self.IS_SIGNED Self.BITS }
         ensures below { (power (Self.number self) exp) <ℤ lo Self.IS_SIGNED Self.BITS → Self.number result ≡ lo Self.IS_SIGNED Self.BITS }
     {
-        Self::from_kept(power::saturating_pow(self.kept(), exp, Self::BITS))
+        Self::from_storage(power::saturating_pow(self.to_storage(), exp, Self::BITS))
     }
 
     /// The same value, and how many multiplications in the storage it took: at most two for each binary
     /// digit of `exp`, so at most 64.
-    #[tactic(auto, using(arbitrary_base::proofs::Clamp::clamped))]
+    #[tactic(auto, using(arbitrary_base::proofs::storages::Clamp::clamped))]
     final fn saturating_pow_counted(self, exp: u32) -> (Self, u32)
         ensures value { Self.number result.0 ≡ clamp Self.IS_SIGNED Self.BITS (power (Self.number self) exp) }
         ensures count { result.1 ≤ 2 * binary_digits exp }
         ensures bound { result.1 ≤ 64 }
-        ensures kept { InRange Self.IS_SIGNED Self.BITS (power (Self.number self) exp) → Self.number result.0 ≡ power (Self.number self) exp }
+        ensures exact { InRange Self.IS_SIGNED Self.BITS (power (Self.number self) exp) → Self.number result.0 ≡ power (Self.number self) exp }
         ensures above { hi Self.IS_SIGNED Self.BITS <ℤ (power (Self.number self) exp) → Self.number result.0 ≡ hi Self.IS_SIGNED Self.BITS }
         ensures below { (power (Self.number self) exp) <ℤ lo Self.IS_SIGNED Self.BITS → Self.number result.0 ≡ lo Self.IS_SIGNED Self.BITS }
     {
-        let (power, count) = power::saturating_pow_counted(self.kept(), exp, Self::BITS);
-        (Self::from_kept(power), count)
+        let (power, count) = power::saturating_pow_counted(self.to_storage(), exp, Self::BITS);
+        (Self::from_storage(power), count)
     }
 
     /// The bits moved `amount` modulo `BITS` places toward the high end: zeros come in below, and what passes the end is lost.
@@ -271,10 +279,11 @@ pub trait FixedWidth: Integer + Patterned {
         ensures operation { Self.number result ≡ shifted_left Self.IS_SIGNED Self.BITS (Self.number self) (amount % Self.BITS) }
         ensures value { Self.number result ≡ val Self.IS_SIGNED (shl (bits Self.BITS (Self.number self)) (amount % Self.BITS)) }
         ensures plain { Self.IS_SIGNED ≡ false → Self.number result ≡ pos (unsigned_abs (Self.number self) * 2 ^ (amount % Self.BITS) % 2 ^ Self.BITS) }
-        ensures kept { InRange Self.IS_SIGNED Self.BITS (Self.number self *ℤ pos (2 ^ (amount % Self.BITS))) → Self.number result ≡ Self.number self *ℤ pos (2 ^ (amount % Self.BITS)) }
+        ensures exact { InRange Self.IS_SIGNED Self.BITS (Self.number self *ℤ pos (2 ^ (amount % Self.BITS))) → Self.number result ≡ Self.number self *ℤ pos (2 ^ (amount % Self.BITS)) }
         ensures congruent { (y : ℤ) → y ≡ Self.number self *ℤ pos (2 ^ (amount % Self.BITS)) → Congruent Self.BITS (Self.number result) y }
     {
-        Self::from_kept(shifts::shl(self.kept(), shifts::places(amount, Self::BITS), Self::BITS))
+        let storage = self.to_storage();
+        Self::from_storage(shifts::shl(storage, shifts::places(amount, Self::BITS), Self::BITS))
     }
 
     /// The bits moved `amount` places like `wrapping_shl`, and `None` exactly where `amount` is `BITS`
@@ -287,7 +296,7 @@ pub trait FixedWidth: Integer + Patterned {
         ensures congruent { IfSome result (λ r. Congruent Self.BITS (Self.number r) (Self.number self *ℤ pos (2 ^ amount))) }
     {
         if (amount as usize) < Self::BITS {
-            Some(Self::from_kept(shifts::shl(self.kept(), amount as usize, Self::BITS)))
+            Some(Self::from_storage(shifts::shl(self.to_storage(), amount as usize, Self::BITS)))
         } else {
             None
         }
@@ -313,7 +322,8 @@ pub trait FixedWidth: Integer + Patterned {
         ensures high { (y : ℤ) → Self.number self ≡ y → y <ℤ (Self.number result *ℤ pos (2 ^ (amount % Self.BITS)) +ℤ pos (2 ^ (amount % Self.BITS))) }
         ensures range { InRange Self.IS_SIGNED (Self.BITS - (amount % Self.BITS)) (Self.number result) }
     {
-        Self::from_kept(shifts::shr(self.kept(), shifts::places(amount, Self::BITS), Self::BITS))
+        let storage = self.to_storage();
+        Self::from_storage(shifts::shr(storage, shifts::places(amount, Self::BITS), Self::BITS))
     }
 
     /// The bits moved `amount` places like `wrapping_shr`, and `None` exactly where `amount` is `BITS`
@@ -328,7 +338,7 @@ pub trait FixedWidth: Integer + Patterned {
         ensures range { IfSome result (λ r. InRange Self.IS_SIGNED (Self.BITS - amount) (Self.number r)) }
     {
         if (amount as usize) < Self::BITS {
-            Some(Self::from_kept(shifts::shr(self.kept(), amount as usize, Self::BITS)))
+            Some(Self::from_storage(shifts::shr(self.to_storage(), amount as usize, Self::BITS)))
         } else {
             None
         }
@@ -355,7 +365,7 @@ pub trait FixedWidth: Integer + Patterned {
         ensures undo { (y : ℤ) → InRange Self.IS_SIGNED Self.BITS y → Self.number self ≡ val Self.IS_SIGNED (rotr (bits Self.BITS y) (amount % Self.BITS)) → Self.number result ≡ y }
         ensures range { InRange Self.IS_SIGNED Self.BITS (Self.number self) }
     {
-        Self::from_extended(patterns::rotate_left(self.pattern(), Self::BITS, amount))
+        Self::from_u128_bits(patterns::rotate_left(self.low_bits(), Self::BITS, amount))
     }
 
     /// The bits moved `amount` modulo `BITS` places toward the low end. What passes the end comes back
@@ -366,7 +376,7 @@ pub trait FixedWidth: Integer + Patterned {
         ensures undo { (y : ℤ) → InRange Self.IS_SIGNED Self.BITS y → Self.number self ≡ val Self.IS_SIGNED (rotl (bits Self.BITS y) (amount % Self.BITS)) → Self.number result ≡ y }
         ensures range { InRange Self.IS_SIGNED Self.BITS (Self.number self) }
     {
-        Self::from_extended(patterns::rotate_right(self.pattern(), Self::BITS, amount))
+        Self::from_u128_bits(patterns::rotate_right(self.low_bits(), Self::BITS, amount))
     }
 
     /// The bits from the high end to the low one.
@@ -376,13 +386,13 @@ pub trait FixedWidth: Integer + Patterned {
         ensures undo { (y : ℤ) → InRange Self.IS_SIGNED Self.BITS y → Self.number self ≡ val Self.IS_SIGNED (reverse (bits Self.BITS y)) → Self.number result ≡ y }
         ensures range { InRange Self.IS_SIGNED Self.BITS (Self.number self) }
     {
-        Self::from_extended(patterns::reverse_bits(self.pattern(), Self::BITS))
+        Self::from_u128_bits(patterns::reverse_bits(self.low_bits(), Self::BITS))
     }
 
     /// How many of the bits are one.
-    #[tactic(auto, using(arbitrary_base::proofs::BitResult::count_laws, arbitrary_base::proofs::CountBounds::ones_bounds, arbitrary_base::proofs::OnesBounds::ones_ends))]
+    #[tactic(auto, using(arbitrary_base::proofs::bit_lists::ResultOfPattern::count_laws, arbitrary_base::proofs::operations::ZeroRunBounds::ones_bounds, arbitrary_base::proofs::operations::OneRunBounds::ones_ends))]
     final fn count_ones(self) -> u32
-        ensures value { result ≡ ones (bits Self.BITS (Self.number self)) }
+        ensures value { result ≡ popcount (bits Self.BITS (Self.number self)) }
         ensures bound { result ≤ Self.BITS }
         ensures none { Self.number self ≡ pos 0 → result ≡ 0 }
         ensures some { Self.number self ≢ pos 0 → 1 ≤ result }
@@ -390,13 +400,13 @@ pub trait FixedWidth: Integer + Patterned {
         ensures minus_one { Self.number self ≡ neg_ℤ (pos 1) → result ≡ Self.BITS }
         ensures found { Self.number self ≢ pos (2 ^ Self.BITS) -ℤ pos 1 → Self.number self ≢ neg_ℤ (pos 1) → result < Self.BITS }
     {
-        patterns::count_ones(self.pattern(), Self::BITS)
+        patterns::count_ones(self.low_bits(), Self::BITS)
     }
 
     /// How many of the bits are zero.
-    #[tactic(auto, using(arbitrary_base::proofs::BitResult::count_laws, arbitrary_base::proofs::OnesBounds::zeros_ends))]
+    #[tactic(auto, using(arbitrary_base::proofs::bit_lists::ResultOfPattern::count_laws, arbitrary_base::proofs::operations::OneRunBounds::zeros_ends))]
     final fn count_zeros(self) -> u32
-        ensures value { result ≡ Self.BITS - ones (bits Self.BITS (Self.number self)) }
+        ensures value { result ≡ Self.BITS - popcount (bits Self.BITS (Self.number self)) }
         ensures bound { result ≤ Self.BITS }
         ensures none { Self.number self ≡ pos 0 → result ≡ Self.BITS }
         ensures found { Self.number self ≢ pos 0 → result < Self.BITS }
@@ -404,12 +414,12 @@ pub trait FixedWidth: Integer + Patterned {
         ensures minus_one { Self.number self ≡ neg_ℤ (pos 1) → result ≡ 0 }
         ensures some { Self.number self ≢ pos (2 ^ Self.BITS) -ℤ pos 1 → Self.number self ≢ neg_ℤ (pos 1) → 1 ≤ result }
     {
-        let pattern = self.pattern();
+        let pattern = self.low_bits();
         Self::BITS as u32 - patterns::count_ones(pattern, Self::BITS)
     }
 
     /// How many bits at the high end are one before the first that is zero, or all of them.
-    // The cut changes nothing. It tells the compiler the width, which then counts in fewer bits than 128.
+    // The mask changes nothing. It tells the compiler the width, which then counts in fewer bits than 128.
     final fn leading_ones(self) -> u32
         ensures value { result ≡ tail true (bits Self.BITS (Self.number self)) }
         ensures bound { result ≤ Self.BITS }
@@ -420,11 +430,11 @@ pub trait FixedWidth: Integer + Patterned {
         ensures some { pos (2 ^ (Self.BITS - 1)) ≤ℤ Self.number self → 1 ≤ result }
         ensures negative { Self.number self <ℤ pos 0 → 1 ≤ result }
     {
-        patterns::leading_ones(cut(self.pattern(), Self::BITS), Self::BITS)
+        patterns::leading_ones(masked(self.low_bits(), Self::BITS), Self::BITS)
     }
 
     /// How many bits at the high end are zero before the first that is one, or all of them.
-    // The cut changes nothing. It tells the compiler the width, which then counts in fewer bits than 128.
+    // The mask changes nothing. It tells the compiler the width, which then counts in fewer bits than 128.
     final fn leading_zeros(self) -> u32
         ensures value { result ≡ tail false (bits Self.BITS (Self.number self)) }
         ensures bound { result ≤ Self.BITS }
@@ -434,11 +444,11 @@ pub trait FixedWidth: Integer + Patterned {
         ensures low { pos 0 <ℤ Self.number self → pos (2 ^ (Self.BITS - 1 - result)) ≤ℤ Self.number self }
         ensures high { pos 0 ≤ℤ Self.number self → Self.number self <ℤ pos (2 ^ (Self.BITS - result)) }
     {
-        patterns::leading_zeros(cut(self.pattern(), Self::BITS), Self::BITS)
+        patterns::leading_zeros(masked(self.low_bits(), Self::BITS), Self::BITS)
     }
 
     /// How many bits at the low end are one before the first that is zero, or all of them.
-    #[tactic(auto, using(arbitrary_base::proofs::BitResult::count_laws, arbitrary_base::proofs::OnesBounds::trailing_ends))]
+    #[tactic(auto, using(arbitrary_base::proofs::bit_lists::ResultOfPattern::count_laws, arbitrary_base::proofs::operations::OneRunBounds::trailing_ends))]
     final fn trailing_ones(self) -> u32
         ensures value { result ≡ front true (bits Self.BITS (Self.number self)) }
         ensures bound { result ≤ Self.BITS }
@@ -448,11 +458,11 @@ pub trait FixedWidth: Integer + Patterned {
         ensures none { Congruent 1 (Self.number self) (pos 0) → result ≡ 0 }
         ensures some { Congruent 1 (Self.number self) (pos 1) → 1 ≤ result }
     {
-        patterns::trailing_ones(self.pattern(), Self::BITS)
+        patterns::trailing_ones(self.low_bits(), Self::BITS)
     }
 
     /// How many bits at the low end are zero before the first that is one, or all of them.
-    #[tactic(auto, using(arbitrary_base::proofs::BitResult::count_laws, arbitrary_base::proofs::CountBounds::trailing_bounds, arbitrary_base::proofs::OnesBounds::lowest_bit))]
+    #[tactic(auto, using(arbitrary_base::proofs::bit_lists::ResultOfPattern::count_laws, arbitrary_base::proofs::operations::ZeroRunBounds::trailing_bounds, arbitrary_base::proofs::operations::OneRunBounds::lowest_bit))]
     final fn trailing_zeros(self) -> u32
         ensures value { result ≡ front false (bits Self.BITS (Self.number self)) }
         ensures bound { result ≤ Self.BITS }
@@ -463,6 +473,6 @@ pub trait FixedWidth: Integer + Patterned {
         ensures odd { Congruent 1 (Self.number self) (pos 1) → result ≡ 0 }
         ensures even { Congruent 1 (Self.number self) (pos 0) → 1 ≤ result }
     {
-        patterns::trailing_zeros(self.pattern(), Self::BITS)
+        patterns::trailing_zeros(self.low_bits(), Self::BITS)
     }
 }

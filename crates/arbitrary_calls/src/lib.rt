@@ -3,5 +3,5 @@
 
 pub mod extraction;
 pub mod fixed_width;
-mod kept;
-mod patterned;
+mod low_bits;
+mod representation;

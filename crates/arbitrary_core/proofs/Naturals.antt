@@ -2,7 +2,7 @@
 use Rattle.std.specs.Prelude.{◌≡◌, ℕ, ℤ, pos, unsigned_abs, ◌≤◌, ◌≤ℤ◌}
 use Rattle.std.proofs.Common.{arith, ap, ap₂, sym, ◌∙◌}
 use Rattle.std.proofs.lemmas.Int.{ints}
-use Rattle.arbitrary_base.proofs.Ring.{pos-unsigned_abs}
+use Rattle.arbitrary_base.proofs.integers.Ring.{pos-unsigned_abs}
 
 -- the result where both operands are natural
 pub naturals : (f : ℕ → ℕ → ℕ) (x y z : ℤ) → (pos 0 ≤ℤ x → pos 0 ≤ℤ y → z ≡ pos (f (unsigned_abs x) (unsigned_abs y)))

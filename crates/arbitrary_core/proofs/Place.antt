@@ -7,10 +7,10 @@ use Rattle.std.proofs.lemmas.Int.{ints, by_lt_z}
 use Rattle.std.proofs.lemmas.Nat.{pow_pos}
 use Rattle.arbitrary_base.specs.Range.{lo, InRange}
 use Rattle.arbitrary_base.specs.Residue.{residue, wrap}
-use Rattle.arbitrary_base.proofs.Congruence.{pow_half, pow_le}
-use Rattle.arbitrary_base.proofs.Wrap.{wrap-of_in_range}
-use Rattle.arbitrary_base.proofs.Narrow.{residue-wrap}
-use Rattle.arbitrary_base.proofs.Sum.{wrap-below}
+use Rattle.arbitrary_base.proofs.modular.Congruence.{pow_half, pow_le}
+use Rattle.arbitrary_base.proofs.modular.Residue.{wrap-of_in_range}
+use Rattle.arbitrary_base.proofs.modular.Truncation.{residue-wrap}
+use Rattle.arbitrary_base.proofs.storages.CheckedSum.{wrap-below}
 
 -- a number from 0 up is its own pattern, and one below 0 lies 2 ^ B below it
 pattern-above : (B : ℕ) (x n : ℤ) → 1 ≤ B → InRange true B x → n ≡ pos (residue B x) → pos 0 ≤ℤ x → n ≡ x

@@ -4,10 +4,10 @@ use Rattle.std.proofs.Common.{arith, lt_of_lt_of_le}
 use Rattle.std.proofs.lemmas.Int.{ints}
 use Rattle.arbitrary_base.specs.Range.{InRange}
 use Rattle.arbitrary_base.specs.Residue.{residue}
-use Rattle.arbitrary_base.proofs.Narrow.{below_residue}
-use Rattle.arbitrary_base.proofs.Congruence.{pow_half, pow_le}
-use Rattle.arbitrary_base.proofs.Primitive.{residue-pos}
-use Rattle.arbitrary_base.proofs.BitArithmetic.{not_below_zero}
+use Rattle.arbitrary_base.proofs.modular.Truncation.{below_residue}
+use Rattle.arbitrary_base.proofs.modular.Congruence.{pow_half, pow_le}
+use Rattle.arbitrary_base.proofs.storages.Primitive.{residue-pos}
+use Rattle.arbitrary_base.proofs.bit_lists.StdBitwise.{not_below_zero}
 
 pub pattern-lt_word : (W p : ℕ) (x : ℤ) → p ≡ residue W x → W ≤ 64 → p < 2 ^ 64
 pattern-lt_word W p x e h = lt_of_lt_of_le (below_residue W p x e) (pow_le W 64 h)

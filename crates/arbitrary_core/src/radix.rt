@@ -20,7 +20,7 @@ pub(crate) fn words<T: Storage>(value: T) -> (u64, u64)
     ensures low { T.WIDTH ≤ 64 → result.1 ≡ residue T.WIDTH (T.number value) }
     ensures natural { T.WIDTH ≤ 64 → pos 0 ≤ℤ T.number value → result.1 ≡ unsigned_abs (T.number value) }
 {
-    let pattern = value.pattern();
+    let pattern = value.storage_bits();
     if pattern <= u64::MAX as u128 {
         (0, pattern as u64)
     } else {
@@ -41,7 +41,7 @@ pub(crate) fn lower_hex<T: Storage, W: fmt::Write>(
     if high == 0 {
         fmt::LowerHex::fmt(&low, f)
     } else {
-        fmt::LowerHex::fmt(&value.pattern(), f)
+        fmt::LowerHex::fmt(&value.storage_bits(), f)
     }
 }
 
@@ -58,7 +58,7 @@ pub(crate) fn upper_hex<T: Storage, W: fmt::Write>(
     if high == 0 {
         fmt::UpperHex::fmt(&low, f)
     } else {
-        fmt::UpperHex::fmt(&value.pattern(), f)
+        fmt::UpperHex::fmt(&value.storage_bits(), f)
     }
 }
 
@@ -72,7 +72,7 @@ pub(crate) fn octal<T: Storage, W: fmt::Write>(value: T, f: &mut fmt::Formatter<
     if high == 0 {
         fmt::Octal::fmt(&low, f)
     } else {
-        fmt::Octal::fmt(&value.pattern(), f)
+        fmt::Octal::fmt(&value.storage_bits(), f)
     }
 }
 
@@ -86,6 +86,6 @@ pub(crate) fn binary<T: Storage, W: fmt::Write>(value: T, f: &mut fmt::Formatter
     if high == 0 {
         fmt::Binary::fmt(&low, f)
     } else {
-        fmt::Binary::fmt(&value.pattern(), f)
+        fmt::Binary::fmt(&value.storage_bits(), f)
     }
 }

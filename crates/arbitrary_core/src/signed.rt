@@ -8,14 +8,14 @@ ghost use Rattle.arbitrary_base.specs.Exact.{ExactOrNone};
 
 use arbitrary_base::ends::{is_below_zero, is_zero};
 use arbitrary_base::error::TryNewError;
-use arbitrary_base::narrowing::{convert, is_in_range, ones};
-use arbitrary_base::storage::{BuiltinInteger, PatternOf, SignedStorage, Storage};
+use arbitrary_base::storage::{BuiltinInteger, SignedStorage, Storage, UnsignedOf};
+use arbitrary_base::truncation::{cast, is_in_range, low_mask};
 use arbitrary_base::{checked, overflowing, saturating, wrapping};
 use std::alloc::AllocError;
 use std::marker::{Model, PhantomData};
 
 /// A signed integer of `BITS` bits: a number from `-2 ^ (BITS - 1)` to `2 ^ (BITS - 1) - 1`, which
-/// `value` gives in the primitive `T`. What is kept is its bits, in the unsigned primitive that is as
+/// `value` gives in the primitive `T`. What is stored is its bits, in the unsigned primitive that is as
 /// wide as `T`; that is always the last parameter. Write `Int<T, BITS>`.
 ///
 /// In contracts a value is its number. Every value has a valid width (`1 <= BITS`, and at most the
@@ -23,13 +23,13 @@ use std::marker::{Model, PhantomData};
 pub struct Int<
     T: SignedStorage,
     const BITS: usize,
-    U: PatternOf<T> = <T as BuiltinInteger>::Unsigned,
+    U: UnsignedOf<T> = <T as BuiltinInteger>::Unsigned,
 > {
     bits: U,
     of: PhantomData<T>,
 }
 
-impl<T: SignedStorage, const BITS: usize, U: PatternOf<T>> Model for Int<T, BITS, U> {
+impl<T: SignedStorage, const BITS: usize, U: UnsignedOf<T>> Model for Int<T, BITS, U> {
     ghost use Rattle.std.specs.Prelude.{ℤ, ◌≡◌, pos};
     ghost use Rattle.std.proofs.Common.{ap, ◌∙◌};
     ghost use Rattle.arbitrary_base.specs.Range.{InRange, IsValidWidth};
@@ -37,7 +37,7 @@ impl<T: SignedStorage, const BITS: usize, U: PatternOf<T>> Model for Int<T, BITS
 
     ghost Value = { ℤ };
 
-    // What is left of the pattern at the width, in two's complement.
+    // The pattern, truncated to the width, in two's complement.
     ghost view = { λ a. wrap T.SIGNED BITS (U.number a.bits) };
 
     // The number is in range, and the bits are its pattern: zeros stand above the width.
@@ -49,9 +49,9 @@ impl<T: SignedStorage, const BITS: usize, U: PatternOf<T>> Model for Int<T, BITS
     ghost inverse_ok = { λ a h. ap (λ v. record { bits = v; of = a.of }) (ap U.of_number h.2 ∙ U.round_trip_law a.bits) };
 }
 
-impl<T: SignedStorage, const BITS: usize, U: PatternOf<T>> Copy for Int<T, BITS, U> {}
+impl<T: SignedStorage, const BITS: usize, U: UnsignedOf<T>> Copy for Int<T, BITS, U> {}
 
-impl<T: SignedStorage, const BITS: usize, U: PatternOf<T>> Clone for Int<T, BITS, U> {
+impl<T: SignedStorage, const BITS: usize, U: UnsignedOf<T>> Clone for Int<T, BITS, U> {
     ghost is_clone = { λ x y. y ≡ x };
 
     ghost is_infallible = { λ _. ⊤ };
@@ -63,7 +63,7 @@ impl<T: SignedStorage, const BITS: usize, U: PatternOf<T>> Clone for Int<T, BITS
 
 impl<T: BuiltinInteger + SignedStorage, const BITS: usize> Int<T, BITS>
 where
-    T::Unsigned: PatternOf<T>,
+    T::Unsigned: UnsignedOf<T>,
 {
     /// Whether a type of this width exists: from 1 bit to as many as the storage has.
     pub fn is_valid_width() -> bool
@@ -72,16 +72,16 @@ where
         1 <= BITS && BITS <= T::WIDTH
     }
 
-    /// The value of a number. The caller shows that the width is valid (test it by
+    /// The value of a number. The precondition is that the width is valid (test it by
     /// `is_valid_width`) and that the number is in range (or calls `try_new`).
-    #[tactic(auto, using(crate::proofs::Patterns::kept))]
+    #[tactic(auto, using(crate::proofs::StoredBits::stored))]
     pub fn new(value: T) -> Self
         requires width { IsValidWidth BITS T.WIDTH }
         requires range { InRange T.SIGNED BITS (T.number value) }
         ensures { result ≡ T.number value }
     {
         Int {
-            bits: convert(value, BITS),
+            bits: cast(value, BITS),
             of: PhantomData,
         }
     }
@@ -116,21 +116,21 @@ where
         ensures value { T.number result ≡ wrap T.SIGNED T.WIDTH (pos (2 ^ BITS) -ℤ pos 1) }
         ensures plain { BITS < T.WIDTH → T.number result ≡ pos (2 ^ BITS) -ℤ pos 1 }
     {
-        T::from_pattern(ones(BITS))
+        T::from_storage_bits(low_mask(BITS))
     }
 
     /// The number, in the storage.
-    #[tactic(auto, using(crate::proofs::Patterns::kept))]
+    #[tactic(auto, using(crate::proofs::StoredBits::stored))]
     pub fn value(self) -> T
         ensures number { T.number result ≡ self }
         ensures width { IsValidWidth BITS T.WIDTH }
         ensures range { InRange T.SIGNED BITS self }
     {
-        convert(self.bits, BITS)
+        cast(self.bits, BITS)
     }
 
     /// The bits of the number: its residue modulo `2 ^ BITS`.
-    #[tactic(auto, using(crate::proofs::Patterns::kept))]
+    #[tactic(auto, using(crate::proofs::StoredBits::stored))]
     pub fn to_bits(self) -> T::Unsigned
         ensures value { T.Unsigned.number result ≡ pos (residue BITS self) }
         ensures congruent { Congruent BITS (T.Unsigned.number result) self }
@@ -141,9 +141,9 @@ where
         self.bits
     }
 
-    /// The value that has these bits. The caller shows that the width is valid and that the pattern
+    /// The value that has these bits. The precondition is that the width is valid and that the pattern
     /// is below `2 ^ BITS` (or calls `try_from_bits`).
-    #[tactic(auto, using(crate::proofs::Patterns::kept))]
+    #[tactic(auto, using(crate::proofs::StoredBits::stored))]
     pub fn from_bits(bits: T::Unsigned) -> Self
         requires width { IsValidWidth BITS T.WIDTH }
         requires range { InRange T.Unsigned.SIGNED BITS (T.Unsigned.number bits) }
@@ -170,7 +170,7 @@ where
     }
 
     /// The value that has these bits, or an error where the pattern is `2 ^ BITS` or more.
-    #[tactic(auto, using(arbitrary_base::proofs::Narrow::patterns))]
+    #[tactic(auto, using(arbitrary_base::proofs::modular::Truncation::patterns))]
     pub fn try_from_bits(bits: T::Unsigned) -> Result<Self, TryNewError>
         requires width { IsValidWidth BITS T.WIDTH }
         ensures bits { MatchResult result
@@ -202,20 +202,20 @@ where
     }
 
     /// The negated number, wrapped.
-    #[tactic(auto, using(arbitrary_base::proofs::Wrapped::wrapped))]
+    #[tactic(auto, using(arbitrary_base::proofs::modular::ExactOrCongruent::wrapped))]
     pub fn wrapping_neg(self) -> Self
         ensures value { result ≡ wrap T.SIGNED BITS (neg_ℤ self) }
-        ensures kept { InRange T.SIGNED BITS (neg_ℤ self) → result ≡ neg_ℤ self }
+        ensures exact { InRange T.SIGNED BITS (neg_ℤ self) → result ≡ neg_ℤ self }
         ensures congruent { Congruent BITS result (neg_ℤ self) }
     {
         Int::<T, BITS>::new(wrapping::neg(self.value(), BITS))
     }
 
     /// The negated number, or the greatest where that is out of range.
-    #[tactic(auto, using(arbitrary_base::proofs::Clamp::clamped))]
+    #[tactic(auto, using(arbitrary_base::proofs::storages::Clamp::clamped))]
     pub fn saturating_neg(self) -> Self
         ensures value { result ≡ clamp T.SIGNED BITS (neg_ℤ self) }
-        ensures kept { InRange T.SIGNED BITS (neg_ℤ self) → result ≡ neg_ℤ self }
+        ensures exact { InRange T.SIGNED BITS (neg_ℤ self) → result ≡ neg_ℤ self }
         ensures above { hi T.SIGNED BITS <ℤ neg_ℤ self → result ≡ hi T.SIGNED BITS }
     {
         Int::<T, BITS>::new(saturating::neg(self.value(), BITS))
@@ -232,11 +232,11 @@ where
     }
 
     /// The negated number, wrapped, and whether the exact one is out of range.
-    #[tactic(auto, using(arbitrary_base::proofs::Wrapped::wrapped))]
+    #[tactic(auto, using(arbitrary_base::proofs::modular::ExactOrCongruent::wrapped))]
     pub fn overflowing_neg(self) -> (Self, bool)
         ensures value { result.0 ≡ wrap T.SIGNED BITS (neg_ℤ self) }
         ensures overflow { IsTrue result.1 ↔ ¬ (InRange T.SIGNED BITS (neg_ℤ self)) }
-        ensures kept { InRange T.SIGNED BITS (neg_ℤ self) → result.0 ≡ neg_ℤ self }
+        ensures exact { InRange T.SIGNED BITS (neg_ℤ self) → result.0 ≡ neg_ℤ self }
         ensures congruent { Congruent BITS result.0 (neg_ℤ self) }
     {
         let (negated, overflow) = overflowing::neg(self.value(), BITS);
@@ -258,7 +258,7 @@ where
         requires range { InRange T.SIGNED BITS value }
         ensures { result ≡ value }
     {
-        Int::<T, BITS>::new(convert(value, BITS))
+        Int::<T, BITS>::new(cast(value, BITS))
     }
 
     /// The value of an `i16` that is in range.
@@ -267,7 +267,7 @@ where
         requires range { InRange T.SIGNED BITS value }
         ensures { result ≡ value }
     {
-        Int::<T, BITS>::new(convert(value, BITS))
+        Int::<T, BITS>::new(cast(value, BITS))
     }
 
     /// The value of an `i32` that is in range.
@@ -276,7 +276,7 @@ where
         requires range { InRange T.SIGNED BITS value }
         ensures { result ≡ value }
     {
-        Int::<T, BITS>::new(convert(value, BITS))
+        Int::<T, BITS>::new(cast(value, BITS))
     }
 
     /// The value of an `i64` that is in range.
@@ -285,7 +285,7 @@ where
         requires range { InRange T.SIGNED BITS value }
         ensures { result ≡ value }
     {
-        Int::<T, BITS>::new(convert(value, BITS))
+        Int::<T, BITS>::new(cast(value, BITS))
     }
 
     /// The value of an `i128` that is in range.
@@ -294,6 +294,6 @@ where
         requires range { InRange T.SIGNED BITS value }
         ensures { result ≡ value }
     {
-        Int::<T, BITS>::new(convert(value, BITS))
+        Int::<T, BITS>::new(cast(value, BITS))
     }
 }

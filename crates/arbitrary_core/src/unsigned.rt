@@ -6,13 +6,13 @@ ghost use Rattle.arbitrary_base.specs.Residue.{wrap};
 ghost use Rattle.arbitrary_base.specs.BitList.{bits, items, val};
 
 use arbitrary_base::error::TryNewError;
-use arbitrary_base::narrowing::{convert, is_in_range, ones};
 use arbitrary_base::storage::UnsignedStorage;
+use arbitrary_base::truncation::{cast, is_in_range, low_mask};
 use arbitrary_base::{extraction, wrapping};
 use std::alloc::AllocError;
 use std::marker::Model;
 
-/// An unsigned integer of `BITS` bits, kept in the primitive `T`: a number from 0 to `2 ^ BITS - 1`.
+/// An unsigned integer of `BITS` bits, stored in the primitive `T`: a number from 0 to `2 ^ BITS - 1`.
 ///
 /// In contracts a value is its number. Every value has a valid width (`1 <= BITS`, and at most the
 /// bits of `T`) and a number in range.
@@ -56,7 +56,7 @@ impl<T: UnsignedStorage, const BITS: usize> UInt<T, BITS> {
         1 <= BITS && BITS <= T::WIDTH
     }
 
-    /// The value of a number. The caller shows that the width is valid (test it by
+    /// The value of a number. The precondition is that the width is valid (test it by
     /// `is_valid_width`) and that the number is in range (or calls `try_new`).
     pub fn new(value: T) -> Self
         requires width { IsValidWidth BITS T.WIDTH }
@@ -95,7 +95,7 @@ impl<T: UnsignedStorage, const BITS: usize> UInt<T, BITS> {
         ensures value { T.number result ≡ wrap T.SIGNED T.WIDTH (pos (2 ^ BITS) -ℤ pos 1) }
         ensures plain { T.number result ≡ pos (2 ^ BITS) -ℤ pos 1 }
     {
-        T::from_pattern(ones(BITS))
+        T::from_storage_bits(low_mask(BITS))
     }
 
     /// The number, in the storage.
@@ -128,53 +128,53 @@ impl<T: UnsignedStorage, const BITS: usize> UInt<T, BITS> {
     }
 
     /// The value of a `u8` that is in range.
-    #[tactic(auto, using(arbitrary_base::proofs::Sum::fitting))]
+    #[tactic(auto, using(arbitrary_base::proofs::storages::CheckedSum::fitting))]
     pub fn from_u8(value: u8) -> Self
         requires width { IsValidWidth BITS T.WIDTH }
         requires range { InRange T.SIGNED BITS (pos value) }
         ensures { result ≡ pos value }
     {
-        UInt::new(convert(value, BITS))
+        UInt::new(cast(value, BITS))
     }
 
     /// The value of a `u16` that is in range.
-    #[tactic(auto, using(arbitrary_base::proofs::Sum::fitting))]
+    #[tactic(auto, using(arbitrary_base::proofs::storages::CheckedSum::fitting))]
     pub fn from_u16(value: u16) -> Self
         requires width { IsValidWidth BITS T.WIDTH }
         requires range { InRange T.SIGNED BITS (pos value) }
         ensures { result ≡ pos value }
     {
-        UInt::new(convert(value, BITS))
+        UInt::new(cast(value, BITS))
     }
 
     /// The value of a `u32` that is in range.
-    #[tactic(auto, using(arbitrary_base::proofs::Sum::fitting))]
+    #[tactic(auto, using(arbitrary_base::proofs::storages::CheckedSum::fitting))]
     pub fn from_u32(value: u32) -> Self
         requires width { IsValidWidth BITS T.WIDTH }
         requires range { InRange T.SIGNED BITS (pos value) }
         ensures { result ≡ pos value }
     {
-        UInt::new(convert(value, BITS))
+        UInt::new(cast(value, BITS))
     }
 
     /// The value of a `u64` that is in range.
-    #[tactic(auto, using(arbitrary_base::proofs::Sum::fitting))]
+    #[tactic(auto, using(arbitrary_base::proofs::storages::CheckedSum::fitting))]
     pub fn from_u64(value: u64) -> Self
         requires width { IsValidWidth BITS T.WIDTH }
         requires range { InRange T.SIGNED BITS (pos value) }
         ensures { result ≡ pos value }
     {
-        UInt::new(convert(value, BITS))
+        UInt::new(cast(value, BITS))
     }
 
     /// The value of a `u128` that is in range.
-    #[tactic(auto, using(arbitrary_base::proofs::Sum::fitting))]
+    #[tactic(auto, using(arbitrary_base::proofs::storages::CheckedSum::fitting))]
     pub fn from_u128(value: u128) -> Self
         requires width { IsValidWidth BITS T.WIDTH }
         requires range { InRange T.SIGNED BITS (pos value) }
         ensures { result ≡ pos value }
     {
-        UInt::new(convert(value, BITS))
+        UInt::new(cast(value, BITS))
     }
 
     /// The negated number, wrapped.

@@ -1,16 +1,16 @@
 -- The laws of the operations, for callers, in sets by theme. Each set closes the goals of its theme, and a file names one:
 -- `#![tactic(auto, using(arbitrary_int::proofs::BitVector::bits))]`. All of them at once are too many for the search.
-use Rattle.arbitrary_base.proofs.BitwiseLaws.{and-absorbs, and-distributes_or, and-distributes_xor, bitwise_and-associates, bitwise_and-commutes, bitwise_and-complement, bitwise_and-highest, bitwise_and-minus_one, bitwise_and-not_zero, bitwise_and-same, bitwise_and-zero, bitwise_not-twice, bitwise_not-zero, bitwise_not-zero_signed, bitwise_or-associates, bitwise_or-commutes, bitwise_or-complement, bitwise_or-highest, bitwise_or-minus_one, bitwise_or-not_zero, bitwise_or-same, bitwise_or-zero, bitwise_xor-associates, bitwise_xor-commutes, bitwise_xor-equal, bitwise_xor-highest, bitwise_xor-minus_one, bitwise_xor-not_zero, bitwise_xor-same, bitwise_xor-undoes, bitwise_xor-zero, not-and_parts, not-or_parts, not-xor_left, or-absorbs, or-distributes_and, xor-is_and}
-use Rattle.arbitrary_base.proofs.Clamp.{clamp-fits}
-use Rattle.arbitrary_base.proofs.ComplementLaws.{difference-of_or, negated-is_sum, not-is_difference, not-of_before, sum-of_parts, sum-with_not}
-use Rattle.arbitrary_base.proofs.MaskLaws.{and-or_of_not, and_not-is_xor, choice-is_xor, or-and_of_not, or-is_xor, or-of_parts, xor-is_or}
-use Rattle.arbitrary_base.proofs.CountLaws.{front-of_highest, front-of_not_zero, front-of_reversed, front-of_zero, front_ones-of_not, front_zeros-of_not, ones-of_highest, ones-of_left, ones-of_minus_one, ones-of_not, ones-of_reversed, ones-of_right, ones-of_zero, tail-of_highest, tail-of_not_zero, tail-of_reversed, tail-of_zero, tail_ones-of_not, tail_zeros-of_not, no_ones-of_zero, zero-of_no_ones, ones-of_and, ones-of_and_or, ones-of_or}
-use Rattle.arbitrary_base.proofs.MixedLaws.{difference-of_and, difference-of_or_and, or-above, sum-of_disjoint, sum-of_or_and, sum-of_xor_and, sum-twice}
-use Rattle.arbitrary_base.proofs.RingLaws.{difference-of_sum, difference-of_sum_left, difference-to_difference, difference-turned, difference-twice, negated-sum, negated-twice, product-of_difference, product-of_negated, product-of_sum, products-of_differences, products-of_sums, sum-of_difference, sum-to_difference, wrapped_difference-is_sum, wrapped_difference-self, wrapped_difference-zero, wrapped_product-associates, wrapped_product-commutes, wrapped_product-one, wrapped_product-two, wrapped_product-zero, wrapped_sum-associates, wrapped_sum-commutes, wrapped_sum-zero}
-use Rattle.arbitrary_base.proofs.RotationLaws.{left-undoes_right, reversed-and, reversed-highest, reversed-minus_one, reversed-not, reversed-not_zero, reversed-or, reversed-rotated_left, reversed-rotated_right, reversed-shifted_left, reversed-shifted_right, reversed-twice, reversed-xor, reversed-zero, right-undoes_left, rotated_left-and, rotated_left-as_shifts, rotated_left-highest, rotated_left-minus_one, rotated_left-none, rotated_left-not, rotated_left-not_zero, rotated_left-or, rotated_left-round, rotated_left-twice, rotated_left-xor, rotated_left-zero, rotated_right-as_left, rotated_right-none}
-use Rattle.arbitrary_base.proofs.ExactLaws.{extended-back, power-none, power-one, power-twice, quotient-self, power-of_one, power-of_zero}
-use Rattle.arbitrary_base.proofs.Wrap.{wrap-of_in_range}
-use Rattle.arbitrary_base.proofs.ShiftLaws.{left_right-mask, left_right-mask_not, right_left-mask, right_left-mask_not, right_left-mask_signed, shifted_left-and, shifted_left-difference, shifted_left-none, shifted_left-or, shifted_left-past, shifted_left-sum, shifted_left-twice, shifted_left-xor, shifted_left-zero, shifted_right-and, shifted_right-none, shifted_right-or, shifted_right-twice, shifted_right-xor, shifted_right-zero}
+use Rattle.arbitrary_base.proofs.operations.Bitwise.{and-absorbs, and-distributes_or, and-distributes_xor, bitwise_and-associates, bitwise_and-commutes, bitwise_and-complement, bitwise_and-highest, bitwise_and-minus_one, bitwise_and-not_zero, bitwise_and-same, bitwise_and-zero, bitwise_not-twice, bitwise_not-zero, bitwise_not-zero_signed, bitwise_or-associates, bitwise_or-commutes, bitwise_or-complement, bitwise_or-highest, bitwise_or-minus_one, bitwise_or-not_zero, bitwise_or-same, bitwise_or-zero, bitwise_xor-associates, bitwise_xor-commutes, bitwise_xor-equal, bitwise_xor-highest, bitwise_xor-minus_one, bitwise_xor-not_zero, bitwise_xor-same, bitwise_xor-undoes, bitwise_xor-zero, not-and_parts, not-or_parts, not-xor_left, or-absorbs, or-distributes_and, xor-is_and}
+use Rattle.arbitrary_base.proofs.storages.Clamp.{clamp-fits}
+use Rattle.arbitrary_base.proofs.operations.Complement.{difference-of_or, negated-is_sum, not-is_difference, not-of_before, sum-of_parts, sum-with_not}
+use Rattle.arbitrary_base.proofs.operations.Mask.{and-or_of_not, and_not-is_xor, choice-is_xor, or-and_of_not, or-is_xor, or-of_parts, xor-is_or}
+use Rattle.arbitrary_base.proofs.operations.PopulationAndRuns.{front-of_highest, front-of_not_zero, front-of_reversed, front-of_zero, front_ones-of_not, front_zeros-of_not, popcount-of_highest, popcount-of_left, popcount-of_minus_one, popcount-of_not, popcount-of_reversed, popcount-of_right, popcount-of_zero, tail-of_highest, tail-of_not_zero, tail-of_reversed, tail-of_zero, tail_ones-of_not, tail_zeros-of_not, no_ones-of_zero, zero-of_no_ones, popcount-of_and, popcount-of_and_or, popcount-of_or}
+use Rattle.arbitrary_base.proofs.operations.BitsAndSums.{difference-of_and, difference-of_or_and, or-above, sum-of_disjoint, sum-of_or_and, sum-of_xor_and, sum-twice}
+use Rattle.arbitrary_base.proofs.operations.WrappedRing.{difference-of_sum, difference-of_sum_left, difference-to_difference, difference-turned, difference-twice, negated-sum, negated-twice, product-of_difference, product-of_negated, product-of_sum, products-of_differences, products-of_sums, sum-of_difference, sum-to_difference, wrapped_difference-is_sum, wrapped_difference-self, wrapped_difference-zero, wrapped_product-associates, wrapped_product-commutes, wrapped_product-one, wrapped_product-two, wrapped_product-zero, wrapped_sum-associates, wrapped_sum-commutes, wrapped_sum-zero}
+use Rattle.arbitrary_base.proofs.operations.RotateAndReverse.{left-undoes_right, reversed-and, reversed-highest, reversed-minus_one, reversed-not, reversed-not_zero, reversed-or, reversed-rotated_left, reversed-rotated_right, reversed-shifted_left, reversed-shifted_right, reversed-twice, reversed-xor, reversed-zero, right-undoes_left, rotated_left-and, rotated_left-as_shifts, rotated_left-highest, rotated_left-minus_one, rotated_left-none, rotated_left-not, rotated_left-not_zero, rotated_left-or, rotated_left-round, rotated_left-twice, rotated_left-xor, rotated_left-zero, rotated_right-as_left, rotated_right-none}
+use Rattle.arbitrary_base.proofs.operations.PowerAndQuotient.{to_u128_bits-back, power-none, power-one, power-twice, quotient-self, power-of_one, power-of_zero}
+use Rattle.arbitrary_base.proofs.modular.Residue.{wrap-of_in_range}
+use Rattle.arbitrary_base.proofs.operations.Shift.{left_right-mask, left_right-mask_not, right_left-mask, right_left-mask_not, right_left-mask_signed, shifted_left-and, shifted_left-difference, shifted_left-none, shifted_left-or, shifted_left-past, shifted_left-sum, shifted_left-twice, shifted_left-xor, shifted_left-zero, shifted_right-and, shifted_right-none, shifted_right-or, shifted_right-twice, shifted_right-xor, shifted_right-zero}
 
 -- one of `& | ^ !`, or several of the same
 pub ruleset bits = (bitwise_and-commutes, bitwise_and-associates, bitwise_and-same, bitwise_and-zero, bitwise_and-highest, bitwise_and-minus_one, bitwise_and-not_zero, bitwise_and-complement, bitwise_or-commutes, bitwise_or-associates, bitwise_or-same, bitwise_or-zero, bitwise_or-highest, bitwise_or-minus_one, bitwise_or-not_zero, bitwise_or-complement, bitwise_xor-commutes, bitwise_xor-associates, bitwise_xor-same, bitwise_xor-zero, bitwise_xor-highest, bitwise_xor-minus_one, bitwise_xor-not_zero, bitwise_xor-undoes, bitwise_xor-equal, bitwise_not-twice, bitwise_not-zero, bitwise_not-zero_signed)
@@ -28,7 +28,7 @@ pub ruleset rotations = (rotated_left-none, rotated_left-twice, rotated_left-rou
 pub ruleset reversals = (reversed-zero, reversed-highest, reversed-minus_one, reversed-not_zero, reversed-and, reversed-or, reversed-xor, reversed-not, reversed-twice, reversed-rotated_left, reversed-rotated_right, reversed-shifted_left, reversed-shifted_right, rotated_left-as_shifts, bitwise_or-commutes)
 
 -- counts of bits
-pub ruleset counts = (ones-of_zero, ones-of_highest, ones-of_minus_one, ones-of_not, ones-of_reversed, ones-of_left, ones-of_right, zero-of_no_ones, no_ones-of_zero, front-of_zero, front-of_not_zero, front-of_highest, front_ones-of_not, front_zeros-of_not, tail-of_zero, tail-of_not_zero, tail-of_highest, tail_ones-of_not, tail_zeros-of_not, tail-of_reversed, front-of_reversed, bitwise_not-zero, bitwise_not-zero_signed, ones-of_and, ones-of_and_or, ones-of_or)
+pub ruleset counts = (popcount-of_zero, popcount-of_highest, popcount-of_minus_one, popcount-of_not, popcount-of_reversed, popcount-of_left, popcount-of_right, zero-of_no_ones, no_ones-of_zero, front-of_zero, front-of_not_zero, front-of_highest, front_ones-of_not, front_zeros-of_not, tail-of_zero, tail-of_not_zero, tail-of_highest, tail_ones-of_not, tail_zeros-of_not, tail-of_reversed, front-of_reversed, bitwise_not-zero, bitwise_not-zero_signed, popcount-of_and, popcount-of_and_or, popcount-of_or)
 
 -- sums and differences that wrap
 pub ruleset ring = (wrapped_sum-commutes, wrapped_sum-associates, wrapped_sum-zero, wrapped_difference-self, wrapped_difference-zero, wrapped_difference-is_sum, difference-of_sum, difference-of_sum_left, sum-of_difference, sum-to_difference, difference-to_difference, difference-twice, difference-turned, negated-twice, negated-sum)
@@ -37,7 +37,7 @@ pub ruleset ring = (wrapped_sum-commutes, wrapped_sum-associates, wrapped_sum-ze
 pub ruleset products = (wrapped_product-commutes, wrapped_product-associates, wrapped_product-zero, wrapped_product-one, wrapped_product-two, products-of_sums, products-of_differences, product-of_sum, product-of_difference, product-of_negated)
 
 -- small powers, a number by itself, and a number that is extended and cut again
-pub ruleset exact = (power-none, power-one, power-twice, quotient-self, extended-back, wrap-of_in_range, clamp-fits, power-of_one, power-of_zero)
+pub ruleset exact = (power-none, power-one, power-twice, quotient-self, to_u128_bits-back, wrap-of_in_range, clamp-fits, power-of_one, power-of_zero)
 
 -- bits beside sums, differences and the order
 pub ruleset mixed = (sum-of_or_and, sum-of_disjoint, sum-of_xor_and, difference-of_or_and, difference-of_and, sum-twice, or-above, bitwise_and-commutes, bitwise_or-commutes, wrapped_sum-commutes)

@@ -4,7 +4,7 @@ use Rattle.std.proofs.Common.{refl, sym, ap, ◌∙◌}
 use Rattle.std.proofs.lemmas.List.{reverse-reverse}
 use Rattle.arbitrary_base.specs.Range.{InRange}
 use Rattle.arbitrary_base.specs.Bytes.{bytes, BorshBytes}
-use Rattle.arbitrary_base.proofs.ByteNumber.{wrap-number_of, Borsh-unique}
+use Rattle.arbitrary_base.proofs.bytes.NumberOfBytes.{wrap-number_of, Borsh-unique}
 
 -- bytes that are reversed twice
 pub reversed_twice : (s : Bool) (B n : ℕ) (x y z : ℤ) → B ≡ 8 * n → 1 ≤ B → InRange s B x → InRange s B z → bytes n y ≡ reverse (bytes n x) → bytes n z ≡ reverse (bytes n y) → z ≡ x

@@ -3,9 +3,9 @@ use Rattle.std.specs.Prelude.{◌≡◌, ℕ, ℤ, Bool, false, pos, ◌+ℤ◌,
 use Rattle.std.proofs.Common.{arith, ap, sym, subst, ◌∙◌}
 use Rattle.std.proofs.lemmas.Int.{ints}
 use Rattle.arbitrary_base.specs.Residue.{Congruent, wrap}
-use Rattle.arbitrary_base.proofs.Congruence.{Congruent-refl, Congruent-add, Congruent-sub, Congruent-mul, Congruent-narrower}
-use Rattle.arbitrary_base.proofs.Primitive.{wrap-pos}
-use Rattle.arbitrary_base.proofs.Wrap.{wrap-congruent, wrap-same}
+use Rattle.arbitrary_base.proofs.modular.Congruence.{Congruent-refl, Congruent-add, Congruent-sub, Congruent-mul, Congruent-narrower}
+use Rattle.arbitrary_base.proofs.storages.Primitive.{wrap-pos}
+use Rattle.arbitrary_base.proofs.modular.Residue.{wrap-congruent, wrap-same}
 
 module _ (s t : Bool) (A B : ℕ) (x y : ℤ) (some : 1 ≤ A) (wider : A ≤ B) where
   low : Congruent A (wrap t B y) y

@@ -3,11 +3,11 @@ use Rattle.std.specs.Prelude.{◌≡◌, ℕ, ◌+◌, ◌*◌, ◌/◌, ◌%◌
 use Rattle.std.specs.Int.Bits.{bit_or}
 use Rattle.std.proofs.Common.{arith, ap, sym, ◌∙◌, mod-eq_of_lt}
 use Rattle.std.proofs.lemmas.Grind.{low_zeros, or_after_shift}
-use Rattle.arbitrary_base.proofs.Wrap.{wrap-congruent, wrap-of_in_range}
-use Rattle.arbitrary_base.proofs.Undone.{wrap-wrap}
-use Rattle.arbitrary_base.proofs.Clamp.{clamp-fits}
-use Rattle.arbitrary_base.proofs.BitNumber.{length-bits}
-use Rattle.arbitrary_base.proofs.BitValue.{num-bits_residue, val-bits_in_range}
+use Rattle.arbitrary_base.proofs.modular.Residue.{wrap-congruent, wrap-of_in_range}
+use Rattle.arbitrary_base.proofs.modular.Inverse.{wrap-wrap}
+use Rattle.arbitrary_base.proofs.storages.Clamp.{clamp-fits}
+use Rattle.arbitrary_base.proofs.bit_lists.UnsignedNumber.{length-bits}
+use Rattle.arbitrary_base.proofs.bit_lists.TwosComplement.{num-bits_residue, val-bits_in_range}
 use Rattle.arbitrary_base.proofs.LawProof.{in_range-tells, sums-associate}
 
 regroup : (x m d y : ℕ) → x * (m * d) + y * d ≡ (x * m + y) * d

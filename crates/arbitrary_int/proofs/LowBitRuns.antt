@@ -7,10 +7,10 @@ use Rattle.std.proofs.lemmas.List.Elements.{All-head, All-tail}
 use Rattle.std.proofs.Math.ListN.{get_or-map}
 use Rattle.arbitrary_base.specs.Residue.{wrap}
 use Rattle.arbitrary_base.specs.BitList.{bits, val, bits_and, bits_or, bits_xor, bits_not, shl}
-use Rattle.arbitrary_base.proofs.Sum.{wrap-zero}
-use Rattle.arbitrary_base.proofs.LowBits.{low-sum, low-difference, low-product, low-and, low-or, low-xor, low-not, low-shl}
+use Rattle.arbitrary_base.proofs.storages.CheckedSum.{wrap-zero}
+use Rattle.arbitrary_base.proofs.modular.LowBitOperation.{low-sum, low-difference, low-product, low-and, low-or, low-xor, low-not, low-shl}
 use Rattle.arbitrary_int.proofs.RunLemmas.{RunOf-ok}
-use Rattle.arbitrary_int.specs.Step.{two_meaning, one_meaning, by_meaning, answer_of, target_of, meaning, StepWithin}
+use Rattle.arbitrary_int.specs.Step.{two_meaning, one_meaning, by_meaning, result_of, target_of, meaning, StepWithin}
 use Rattle.arbitrary_int.specs.Run.{later, RunOf, WellFormed}
 use Rattle.arbitrary_int.specs.Widths.{IsLowBitTwo, IsLowBitOne, IsLowBitBy, IsLowBit, OnlyLowBits}
 use Rattle.arbitrary_int.specs.declared.steps.TwoOp.{TwoOp}
@@ -26,14 +26,14 @@ use Rattle.arbitrary_int.specs.declared.steps.Why.{Why}
 
 -- ---- one step
 
--- the wide answer is a number, and the narrow one is that number, wrapped
-pub record LowAnswer (s : Bool) (A : ℕ) (wide narrow : Result ℤ Why) : Type 0 where
+-- the wide result is a number, and the narrow one is that number, wrapped
+pub record LowResult (s : Bool) (A : ℕ) (wide narrow : Result ℤ Why) : Type 0 where
   pub number : ℤ
   pub wide_is : wide ≡ Ok number
   pub narrow_is : narrow ≡ Ok (wrap s A number)
 
 low-two_meaning : (s t : Bool) (A B : ℕ) (op : TwoOp) (x y : ℤ) → 1 ≤ A → A ≤ B → IsLowBitTwo op
-    → LowAnswer s A (two_meaning t B op x y) (two_meaning s A op (wrap s A x) (wrap s A y))
+    → LowResult s A (two_meaning t B op x y) (two_meaning s A op (wrap s A x) (wrap s A y))
 low-two_meaning s t A B WrappingAdd x y h g l = record { number = wrap t B (x +ℤ y); wide_is = refl; narrow_is = ap Ok (sym (low-sum s t A B x y h g)) }
 low-two_meaning s t A B WrappingSub x y h g l = record { number = wrap t B (x -ℤ y); wide_is = refl; narrow_is = ap Ok (sym (low-difference s t A B x y h g)) }
 low-two_meaning s t A B WrappingMul x y h g l = record { number = wrap t B (x *ℤ y); wide_is = refl; narrow_is = ap Ok (sym (low-product s t A B x y h g)) }
@@ -43,7 +43,7 @@ low-two_meaning s t A B Xor x y h g l = record { number = val t (bits_xor (bits 
 low-two_meaning s t A B op x y h g l = absurd l
 
 low-one_meaning : (s t : Bool) (A B : ℕ) (op : OneOp) (x : ℤ) → 1 ≤ A → A ≤ B → IsLowBitOne op
-    → LowAnswer s A (one_meaning t B op x) (one_meaning s A op (wrap s A x))
+    → LowResult s A (one_meaning t B op x) (one_meaning s A op (wrap s A x))
 low-one_meaning s t A B Not x h g l = record { number = val t (bits_not (bits B x)); wide_is = refl; narrow_is = ap Ok (sym (low-not s t A B x h g)) }
 low-one_meaning s t A B WrappingNeg x h g l = record {
   number = wrap t B (pos 0 -ℤ x);
@@ -53,7 +53,7 @@ low-one_meaning s t A B WrappingNeg x h g l = record {
 low-one_meaning s t A B op x h g l = absurd l
 
 low-by_meaning : (s t : Bool) (A B : ℕ) (op : ByOp) (x : ℤ) (amount : ℕ) → 1 ≤ A → A ≤ B → IsLowBitBy A op amount
-    → LowAnswer s A (by_meaning t B op x amount) (by_meaning s A op (wrap s A x) amount)
+    → LowResult s A (by_meaning t B op x amount) (by_meaning s A op (wrap s A x) amount)
 low-by_meaning s t A B WrappingShl x k h g l = record {
   number = val t (shl (bits B x) k);
   wide_is = let m : k < B = omega arith in let e : k % B ≡ k = mod-eq_of_lt m in rw e refl;
@@ -65,13 +65,13 @@ low-by_meaning s t A B op x k h g l = absurd l
 low-register : (s : Bool) (A : ℕ) (regs : List ℤ) (k : ℕ) → 1 ≤ A → get_or (map (wrap s A) regs) k (pos 0) ≡ wrap s A (get_or regs k (pos 0))
 low-register s A regs k h = ap (get_or (map (wrap s A) regs) k) (sym (wrap-zero s A h)) ∙ get_or-map (wrap s A) regs k (pos 0)
 
-low-answer : (s t : Bool) (A B : ℕ) (step : Step) (regs : List ℤ) → 1 ≤ A → A ≤ B → IsLowBit A step
-    → LowAnswer s A (answer_of t B step regs) (answer_of s A step (map (wrap s A) regs))
-low-answer s t A B (Two op to left right) regs h g l =
+low-result : (s t : Bool) (A B : ℕ) (step : Step) (regs : List ℤ) → 1 ≤ A → A ≤ B → IsLowBit A step
+    → LowResult s A (result_of t B step regs) (result_of s A step (map (wrap s A) regs))
+low-result s t A B (Two op to left right) regs h g l =
     rw (low-register s A regs left h, low-register s A regs right h) (low-two_meaning s t A B op (get_or regs left (pos 0)) (get_or regs right (pos 0)) h g l)
-low-answer s t A B (One op to src) regs h g l =
+low-result s t A B (One op to src) regs h g l =
     rw (low-register s A regs src h) (low-one_meaning s t A B op (get_or regs src (pos 0)) h g l)
-low-answer s t A B (By op to src amount) regs h g l =
+low-result s t A B (By op to src amount) regs h g l =
     rw (low-register s A regs src h) (low-by_meaning s t A B op (get_or regs src (pos 0)) amount h g l)
 
 -- the narrow run on the wrapped registers is the wide one, wrapped, and neither stops
@@ -87,7 +87,7 @@ pub low-run : (s t : Bool) (A B : ℕ) (steps : List Step) (regs : List ℤ) →
     → LowRun s A (RunOf t B steps regs) (RunOf s A steps (map (wrap s A) regs))
 low-run s t A B [] regs h g l = record { wide_ends = refl; narrow_is = refl }
 low-run s t A B (step ∷ steps) regs h g l =
-    let a = low-answer s t A B step regs h g (All-head (IsLowBit A) step steps l) in
+    let a = low-result s t A B step regs h g (All-head (IsLowBit A) step steps l) in
     let to = target_of step in
     let new = set regs to a.number in
     let wide : meaning t B step regs ≡ Ok new = ap (result_map_both (set regs to) (λ why. why)) a.wide_is in

@@ -4,11 +4,11 @@ use Rattle.std.proofs.Common.{refl, ap, sym, subst, ◌∙◌, arith, lit≤}
 use Rattle.std.proofs.lemmas.Int.{ints}
 use Rattle.arbitrary_base.specs.Range.{InRange}
 use Rattle.arbitrary_base.specs.Residue.{Congruent, wrap}
-use Rattle.arbitrary_base.proofs.Congruence.{Congruent-add, Congruent-sub, Congruent-refl, span, pow_le}
-use Rattle.arbitrary_base.proofs.Wrap.{wrap-congruent, wrap-same, wrap-of_in_range}
+use Rattle.arbitrary_base.proofs.modular.Congruence.{Congruent-add, Congruent-sub, Congruent-refl, span, pow_le}
+use Rattle.arbitrary_base.proofs.modular.Residue.{wrap-congruent, wrap-same, wrap-of_in_range}
 use Rattle.arbitrary_int.specs.Row.{row, natural, numbers, left}
 
--- a wrapped sum or difference with what is left of a number
+-- a wrapped sum or difference with the truncation of a number
 pub moved_up : (s : Bool) (B : ℕ) (x y m z : ℤ) → 1 ≤ B → InRange s B (x +ℤ y) → m ≡ wrap s B y → z ≡ wrap s B (x +ℤ m) → z ≡ x +ℤ y
 moved_up s B x y m z h i e f =
     let c : Congruent B (x +ℤ m) (x +ℤ y) = Congruent-add B x x m y (Congruent-refl B x) (subst (λ (k : ℤ). Congruent B k y) (sym e) (wrap-congruent s B y)) in

@@ -8,10 +8,10 @@ use Rattle.std.proofs.lemmas.List.{get_or-map, map-set}
 use Rattle.arbitrary_base.specs.Range.{InRange}
 use Rattle.arbitrary_base.specs.Residue.{residue, Congruent}
 use Rattle.arbitrary_base.specs.Exact.{number_of_type, ExactOrNone, QuotientOrNone}
-use Rattle.arbitrary_base.proofs.Wrap.{congruent-same, residue-congruent}
-use Rattle.arbitrary_base.proofs.Narrow.{InRange-wider, in_range-true, in_range-false}
-use Rattle.arbitrary_base.proofs.Primitive.{residue-pos}
-use Rattle.arbitrary_base.proofs.Sum.{zero-in_range}
+use Rattle.arbitrary_base.proofs.modular.Residue.{congruent-same, residue-congruent}
+use Rattle.arbitrary_base.proofs.modular.Truncation.{InRange-wider, in_range-true, in_range-false}
+use Rattle.arbitrary_base.proofs.storages.Primitive.{residue-pos}
+use Rattle.arbitrary_base.proofs.storages.CheckedSum.{zero-in_range}
 use Rattle.arbitrary_int.specs.Step.{unless_zero, if_below, two_meaning, one_meaning, by_meaning}
 use Rattle.arbitrary_int.specs.declared.steps.TwoOp.{TwoOp}
 use Rattle.arbitrary_int.specs.declared.steps.OneOp.{OneOp}
@@ -19,7 +19,7 @@ use Rattle.arbitrary_int.specs.declared.steps.ByOp.{ByOp}
 use Rattle.arbitrary_int.specs.declared.steps.Why.{Why}
 use Rattle.arbitrary_int.specs.declared.steps.Why.TheVariants.{Refused}
 
--- ---- answers that may be refused
+-- ---- results that may be refused
 
 exact-some : (s : Bool) (B : ℕ) (x : ℤ) → InRange s B x → ok_or (number_of_type s B x) Refused ≡ Ok x
 exact-some s B x f = rw (in_range-true s B x f) refl
@@ -45,11 +45,11 @@ int_eq-false y n = by_test (int_eq y (pos 0)) refl
     by_test true p = absurd (n (grind (arith, ints)))
     by_test false p = refl
 
-pub unless_zero-zero : (y : ℤ) (why : Why) (answer : Result ℤ Why) → int_eq y (pos 0) ≡ true → unless_zero y why answer ≡ Err why
-unless_zero-zero y why answer e = rw e refl
+pub unless_zero-zero : (y : ℤ) (why : Why) (result : Result ℤ Why) → int_eq y (pos 0) ≡ true → unless_zero y why result ≡ Err why
+unless_zero-zero y why result e = rw e refl
 
-pub unless_zero-other : (y : ℤ) (why : Why) (answer : Result ℤ Why) → int_eq y (pos 0) ≡ false → unless_zero y why answer ≡ answer
-unless_zero-other y why answer e = rw e refl
+pub unless_zero-other : (y : ℤ) (why : Why) (result : Result ℤ Why) → int_eq y (pos 0) ≡ false → unless_zero y why result ≡ result
+unless_zero-other y why result e = rw e refl
 
 pub quotient-checks : {T : Type 0} (number : T → ℤ) (s : Bool) (B : ℕ) (x y : ℤ) (o : Option T) (r : Result T Why)
     → QuotientOrNone number s B x y o → r ≡ ok_or o Refused
@@ -83,7 +83,7 @@ below-checks number B amount x (Some v) r h g e = rw e (by_test (nat_lt amount B
     by_test true p = rw p (ap Ok (sym g))
     by_test false p = let l : B ≤ amount = grind arith in let n = h.1 l in absurd (cc)
 
-pub ruleset answers = (exact-checks, quotient-checks, below-checks)
+pub ruleset results = (exact-checks, quotient-checks, below-checks)
 
 pub ruleset divisors = (nonzero, unless_zero-zero, unless_zero-other)
 
@@ -117,11 +117,11 @@ by-source number s B op src amount regs x r h e m =
 pub ruleset sources = (two-sources, one-source, by-source)
 
 -- a step that writes, and one that stops
-pub written-ok : {T : Type 0} (number : T → ℤ) (regs : List T) (to : ℕ) (v : T) (answer : Result ℤ Why)
-    → answer ≡ Ok (number v) → result_map_both (set (map number regs) to) (λ why. why) answer ≡ Ok (map number (set regs to v))
-written-ok number regs to v answer e = ap (result_map_both (set (map number regs) to) (λ why. why)) e ∙ ap Ok (sym (map-set number regs to v))
+pub written-ok : {T : Type 0} (number : T → ℤ) (regs : List T) (to : ℕ) (v : T) (result : Result ℤ Why)
+    → result ≡ Ok (number v) → result_map_both (set (map number regs) to) (λ why. why) result ≡ Ok (map number (set regs to v))
+written-ok number regs to v result e = ap (result_map_both (set (map number regs) to) (λ why. why)) e ∙ ap Ok (sym (map-set number regs to v))
 
-pub written-err : (regs : List ℤ) (to : ℕ) (answer : Result ℤ Why) (why : Why) → answer ≡ Err why → result_map_both (set regs to) (λ why. why) answer ≡ Err why
-written-err regs to answer why e = ap (result_map_both (set regs to) (λ why. why)) e
+pub written-err : (regs : List ℤ) (to : ℕ) (result : Result ℤ Why) (why : Why) → result ≡ Err why → result_map_both (set regs to) (λ why. why) result ≡ Err why
+written-err regs to result why e = ap (result_map_both (set regs to) (λ why. why)) e
 
 pub ruleset writes = (written-ok, written-err)

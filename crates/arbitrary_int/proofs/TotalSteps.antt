@@ -12,8 +12,8 @@ use Rattle.std.proofs.iter.runs.Made.{run, took, run_of_turn, run_of_exit}
 use Rattle.arbitrary_base.specs.Range.{InRange}
 use Rattle.arbitrary_base.specs.Residue.{wrap}
 use Rattle.arbitrary_int.specs.Total.{PartialsFit, TotalOrNone}
-use Rattle.arbitrary_base.proofs.Congruence.{pow_le}
-use Rattle.arbitrary_base.proofs.Wrap.{wrap-of_in_range}
+use Rattle.arbitrary_base.proofs.modular.Congruence.{pow_le}
+use Rattle.arbitrary_base.proofs.modular.Residue.{wrap-of_in_range}
 
 fit-append : (s : Bool) (B : ℕ) (op : ℤ → ℤ → ℤ) (a : ℤ) (l : List ℤ) (x : ℤ) → PartialsFit s B op a l → InRange s B (op (fold op a l) x) → PartialsFit s B op a (l ++ x ∷ [])
 fit-append s B op a [] x h r = (h.0, (r, tt))
@@ -82,7 +82,7 @@ one-missing s t B C e f g h i =
     let k = j.high in
     omega (arith, ints)
 
-pub ruleset ones = (one-unsigned, one-signed, one-missing)
+pub ruleset one_laws = (one-unsigned, one-signed, one-missing)
 
 -- ---- for callers: an iterator that is known to give a list
 

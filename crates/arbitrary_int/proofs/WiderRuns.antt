@@ -8,9 +8,9 @@ use Rattle.std.proofs.lemmas.List.{get_or_default}
 use Rattle.std.proofs.lemmas.List.Elements.{All-head, All-tail}
 use Rattle.arbitrary_base.specs.Range.{lo, hi, in_range}
 use Rattle.arbitrary_base.specs.Exact.{number_of_type}
-use Rattle.arbitrary_base.proofs.Narrow.{in_range-true}
+use Rattle.arbitrary_base.proofs.modular.Truncation.{in_range-true}
 use Rattle.arbitrary_int.proofs.RunLemmas.{RunOf-ok, RunOf-err, run-stop, run-end}
-use Rattle.arbitrary_int.specs.Step.{unless_zero, answer_of, target_of, meaning}
+use Rattle.arbitrary_int.specs.Step.{unless_zero, result_of, target_of, meaning}
 use Rattle.arbitrary_int.specs.Run.{later, RunOf}
 use Rattle.arbitrary_int.specs.Widths.{IsCheckedArithmetic, OnlyCheckedArithmetic, carried_out, RangeWithin}
 use Rattle.arbitrary_int.specs.declared.steps.TwoOp.TheVariants.{CheckedAdd, CheckedSub, CheckedMul, CheckedDiv}
@@ -46,23 +46,23 @@ quotient-wider s t A B x y z c e = by_test (int_eq y (pos 0)) refl
     by_test true p = let r : Err Refused ≡ Ok z = rw p at e in absurd (cc)
     by_test false p = let r : ok_or (number_of_type s A (int_div x y)) Refused ≡ Ok z = rw p at e in rw p (exact-wider s t A B (int_div x y) z c r)
 
-answer-wider : (s t : Bool) (A B : ℕ) (step : Step) (regs : List ℤ) (x : ℤ) → RangeWithin s A t B → IsCheckedArithmetic step
-    → answer_of s A step regs ≡ Ok x → answer_of t B step regs ≡ Ok x
-answer-wider s t A B (Two CheckedAdd to left right) regs x c i e = exact-wider s t A B _ x c e
-answer-wider s t A B (Two CheckedSub to left right) regs x c i e = exact-wider s t A B _ x c e
-answer-wider s t A B (Two CheckedMul to left right) regs x c i e = exact-wider s t A B _ x c e
-answer-wider s t A B (Two CheckedDiv to left right) regs x c i e = quotient-wider s t A B (get_or regs left (pos 0)) (get_or regs right (pos 0)) x c e
-answer-wider s t A B (Two op to left right) regs x c i e = absurd i
-answer-wider s t A B step regs x c i e = absurd i
+result-wider : (s t : Bool) (A B : ℕ) (step : Step) (regs : List ℤ) (x : ℤ) → RangeWithin s A t B → IsCheckedArithmetic step
+    → result_of s A step regs ≡ Ok x → result_of t B step regs ≡ Ok x
+result-wider s t A B (Two CheckedAdd to left right) regs x c i e = exact-wider s t A B _ x c e
+result-wider s t A B (Two CheckedSub to left right) regs x c i e = exact-wider s t A B _ x c e
+result-wider s t A B (Two CheckedMul to left right) regs x c i e = exact-wider s t A B _ x c e
+result-wider s t A B (Two CheckedDiv to left right) regs x c i e = quotient-wider s t A B (get_or regs left (pos 0)) (get_or regs right (pos 0)) x c e
+result-wider s t A B (Two op to left right) regs x c i e = absurd i
+result-wider s t A B step regs x c i e = absurd i
 
 meaning-wider : (s t : Bool) (A B : ℕ) (step : Step) (regs new : List ℤ) → RangeWithin s A t B → IsCheckedArithmetic step
     → meaning s A step regs ≡ Ok new → meaning t B step regs ≡ Ok new
-meaning-wider s t A B step regs new c i e = by_answer (answer_of s A step regs) refl
+meaning-wider s t A B step regs new c i e = by_result (result_of s A step regs) refl
   where
-    by_answer : (a : Result ℤ Why) → answer_of s A step regs ≡ a → meaning t B step regs ≡ Ok new
-    by_answer (Ok x) p =
-        ap (result_map_both (set regs (target_of step)) (λ why. why)) (answer-wider s t A B step regs x c i p ∙ sym p) ∙ e
-    by_answer (Err why) p = let r : Err why ≡ Ok new = sym (ap (result_map_both (set regs (target_of step)) (λ why. why)) p) ∙ e in absurd (cc)
+    by_result : (a : Result ℤ Why) → result_of s A step regs ≡ a → meaning t B step regs ≡ Ok new
+    by_result (Ok x) p =
+        ap (result_map_both (set regs (target_of step)) (λ why. why)) (result-wider s t A B step regs x c i p ∙ sym p) ∙ e
+    by_result (Err why) p = let r : Err why ≡ Ok new = sym (ap (result_map_both (set regs (target_of step)) (λ why. why)) p) ∙ e in absurd (cc)
 
 later-carried : (step : Step) (steps : List Step) (q : List ℤ × Result ⊤ Stop) → carried_out (later 1 q).1 (step ∷ steps) ≡ step ∷ carried_out q.1 steps
 later-carried step steps (regs, Ok u) = refl

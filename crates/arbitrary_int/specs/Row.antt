@@ -20,7 +20,7 @@ abbrev pub left : Bool → ℤ → ℤ → List ℤ
 left true a b = []
 left false a b = numbers a b
 
--- what `steps_between` answers for a distance: the number of steps, and all that a `usize` can say where it is more
+-- what `steps_between` gives for a distance: the number of steps, and all that a `usize` can say where it is more
 abbrev pub StepsBetween : ℤ → ℕ × Option ℕ → Type 0
 StepsBetween (negsuc n) r = r ≡ (0, None)
 StepsBetween (pos n) r = r ≡ (if nat_lt n (2 ^ 64) then (n, Some n) else (2 ^ 64 - 1, None))

@@ -18,15 +18,15 @@ use Rattle.arbitrary_int.specs.declared.steps.Step.TheVariants.{Two, One, By}
 use Rattle.arbitrary_int.specs.declared.steps.Why.{Why}
 use Rattle.arbitrary_int.specs.declared.steps.Why.TheVariants.{Refused, ZeroDivisor}
 
--- the answer, unless the divisor is zero
+-- the result, unless the divisor is zero
 abbrev pub unless_zero : ℤ → Why → Result ℤ Why → Result ℤ Why
-unless_zero y why answer = if int_eq y (pos 0) then Err why else answer
+unless_zero y why result = if int_eq y (pos 0) then Err why else result
 
 -- the bits of x, shifted right with what the type brings in
 abbrev pub shifted_right : Bool → ℕ → ℤ → ℕ → ℤ
 shifted_right s B x k = val s (shr (bits B x) k (fill s (bits B x)))
 
--- the answer, where the amount is below the width
+-- the result, where the amount is below the width
 abbrev pub if_below : ℕ → ℕ → ℤ → Result ℤ Why
 if_below B amount x = if nat_lt amount B then Ok x else Err Refused
 
@@ -65,10 +65,10 @@ by_meaning s B RotateRight x amount = Ok (val s (rotr (bits B x) (amount % B)))
 by_meaning s B SaturatingPow x amount = Ok (clamp s B (power x amount))
 
 -- what the step makes of its sources
-abbrev pub answer_of : Bool → ℕ → Step → List ℤ → Result ℤ Why
-answer_of s B (Two op to left right) regs = two_meaning s B op (get_or regs left (pos 0)) (get_or regs right (pos 0))
-answer_of s B (One op to src) regs = one_meaning s B op (get_or regs src (pos 0))
-answer_of s B (By op to src amount) regs = by_meaning s B op (get_or regs src (pos 0)) amount
+abbrev pub result_of : Bool → ℕ → Step → List ℤ → Result ℤ Why
+result_of s B (Two op to left right) regs = two_meaning s B op (get_or regs left (pos 0)) (get_or regs right (pos 0))
+result_of s B (One op to src) regs = one_meaning s B op (get_or regs src (pos 0))
+result_of s B (By op to src amount) regs = by_meaning s B op (get_or regs src (pos 0)) amount
 
 -- the register that the step writes
 abbrev pub target_of : Step → ℕ
@@ -76,9 +76,9 @@ target_of (Two op to left right) = to
 target_of (One op to src) = to
 target_of (By op to src amount) = to
 
--- the registers with the answer at their place, or why there is none
+-- the registers with the result at their place, or why there is none
 abbrev pub meaning : Bool → ℕ → Step → List ℤ → Result (List ℤ) Why
-meaning s B step regs = result_map_both (set regs (target_of step)) (λ why. why) (answer_of s B step regs)
+meaning s B step regs = result_map_both (set regs (target_of step)) (λ why. why) (result_of s B step regs)
 
 -- the register numbers of the step are below n
 abbrev pub StepWithin : ℕ → Step → Type 0

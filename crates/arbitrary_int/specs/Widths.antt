@@ -11,7 +11,7 @@ use Rattle.arbitrary_int.specs.declared.steps.Step.{Step}
 use Rattle.arbitrary_int.specs.declared.steps.Step.TheVariants.{Two, One, By}
 use Rattle.arbitrary_int.specs.declared.steps.Stop.{Stop}
 
--- ---- low-bit steps: the low bits of what they answer depend on the low bits of their sources alone
+-- ---- low-bit steps: the low bits of what they give depend on the low bits of their sources alone
 
 abbrev pub IsLowBitTwo : TwoOp → Type 0
 IsLowBitTwo WrappingAdd = Unit {0}

@@ -8,8 +8,8 @@ ghost use Rattle.arbitrary_base.specs.Stream.{AppendsBeginning};
 ghost use Rattle.arbitrary_int.specs.Reading.{Unreadable};
 
 use arbitrary_base::byte_lists::{all_bytes, pattern_of};
-use arbitrary_base::narrowing::{cut, low_bits};
 use arbitrary_base::streams::{read_full, write_full};
+use arbitrary_base::truncation::{low_bits, masked};
 use arbitrary_base::watched::Watched;
 use arbitrary_calls::fixed_width::FixedWidth;
 use std::io;
@@ -25,7 +25,7 @@ pub trait BorshSerialize {
     /// takes nothing; a beginning of the bytes was written then. No call is made after a failed one.
     fn serialize<W: Write>(&self, writer: &mut Watched<W>) -> io::Result<()>
         ensures all { OnOk result (Appends (W.contents (inner_of writer.old)) (W.contents (inner_of writer.new)) (bytes_of self.now)) }
-        ensures kept { OnOk result (NoFailure writer.old writer.new) }
+        ensures no_failure { OnOk result (NoFailure writer.old writer.new) }
         ensures begun { OnErr result (AppendsBeginning (W.contents (inner_of writer.old)) (W.contents (inner_of writer.new)) (bytes_of self.now)) }
         ensures failed { OnErr result (Failure writer.old writer.new) };
 
@@ -57,7 +57,7 @@ pub trait BorshDeserialize: Sized {
         requires { readable }
         ensures taken { IfOk result (λ x. Consumes (R.remaining (inner_of reader.old)) (R.remaining (inner_of reader.new)) (read_bytes x)) }
         ensures canonical { IfOk result (λ x. canonical (read_bytes x)) }
-        ensures kept { OnOk result (NoFailure reader.old reader.new) }
+        ensures no_failure { OnOk result (NoFailure reader.old reader.new) }
         ensures why { OnErr result (Unreadable canonical (R.remaining (inner_of reader.old)) (R.remaining (inner_of reader.new)) (Failure reader.old reader.new) count) };
 
     /// The value that has these bytes, and `None` exactly where they are not canonical. The width is valid.
@@ -69,10 +69,10 @@ pub trait BorshDeserialize: Sized {
 /// The bytes of the value, at the front of as many as any value has, and how many they are.
 fn written<V: FixedWidth>(value: V) -> ([u8; 16], usize)
     ensures count { result.1 ≡ length (BorshBytes V.BITS (V.number value)) }
-    ensures fits { result.1 ≤ 16 }
+    ensures bound { result.1 ≤ 16 }
     ensures bytes { take result.1 result.0 ≡ BorshBytes V.BITS (V.number value) }
 {
-    let all = all_bytes(low_bits(value.kept(), V::BITS));
+    let all = all_bytes(low_bits(value.to_storage(), V::BITS));
     (all, (V::BITS + 7) / 8)
 }
 
@@ -84,7 +84,7 @@ impl<V: FixedWidth> BorshSerialize for V {
         write_full(writer, &all[..count])
     }
 
-    #[tactic(auto, using(arbitrary_base::proofs::StreamSteps::fronts))]
+    #[tactic(auto, using(arbitrary_base::proofs::bytes::StreamSteps::fronts))]
     fn to_borsh_bytes(&self, out: &mut [u8; 16]) -> usize {
         let (all, count) = written(*self);
         out[..count].copy_from_slice(&all[..count]);
@@ -113,8 +113,8 @@ impl<V: FixedWidth> BorshDeserialize for V {
             return None;
         }
         let pattern = pattern_of(bytes);
-        if cut(pattern, V::BITS) == pattern {
-            Some(V::from_extended(pattern))
+        if masked(pattern, V::BITS) == pattern {
+            Some(V::from_u128_bits(pattern))
         } else {
             None
         }

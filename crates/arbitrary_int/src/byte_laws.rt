@@ -1,5 +1,5 @@
 //! Laws of the calls on bytes, each as a function that makes the calls and ensures what the law says.
-//! That a number is in range is told by `extended`.
+//! That a number is in range is told by `to_u128_bits`.
 //!
 //! A clause here speaks of numbers alone, so a body without the calls could meet it too. What a function
 //! shows is that its own body does: it follows from what the calls it makes ensure, and a caller who makes
@@ -15,9 +15,9 @@ use arbitrary_calls::fixed_width::FixedWidth;
 pub fn swapped_twice<V: ByteOrders<N>, const N: usize>(value: V) -> V
     ensures { V.number result ≡ V.number value }
 {
-    let _known = value.extended();
+    let _known = value.to_u128_bits();
     let twice = value.swap_bytes().swap_bytes();
-    let _twice = twice.extended();
+    let _twice = twice.to_u128_bits();
     twice
 }
 
@@ -25,7 +25,7 @@ pub fn swapped_twice<V: ByteOrders<N>, const N: usize>(value: V) -> V
 pub fn through_le_bytes<V: ByteOrders<N>, const N: usize>(value: V) -> V
     ensures { V.number result ≡ V.number value }
 {
-    let _known = value.extended();
+    let _known = value.to_u128_bits();
     V::from_le_bytes(value.to_le_bytes())
 }
 
@@ -33,7 +33,7 @@ pub fn through_le_bytes<V: ByteOrders<N>, const N: usize>(value: V) -> V
 pub fn through_be_bytes<V: ByteOrders<N>, const N: usize>(value: V) -> V
     ensures { V.number result ≡ V.number value }
 {
-    let _known = value.extended();
+    let _known = value.to_u128_bits();
     V::from_be_bytes(value.to_be_bytes())
 }
 
@@ -41,11 +41,11 @@ pub fn through_be_bytes<V: ByteOrders<N>, const N: usize>(value: V) -> V
 pub fn through_borsh_bytes<V: FixedWidth>(value: V) -> Option<V>
     ensures { MatchOption result ⊥ (λ x. V.number x ≡ V.number value) }
 {
-    let _known = value.extended();
+    let _known = value.to_u128_bits();
     let mut bytes = [0; 16];
     let count = value.to_borsh_bytes(&mut bytes);
     let read = V::from_borsh_bytes(&bytes[..count])?;
-    let _read = read.extended();
+    let _read = read.to_u128_bits();
     Some(read)
 }
 
@@ -53,8 +53,8 @@ pub fn through_borsh_bytes<V: FixedWidth>(value: V) -> Option<V>
 pub fn share_borsh_bytes<V: FixedWidth>(x: V, y: V) -> bool
     ensures { IsTrue result ↔ (V.number x ≡ V.number y) }
 {
-    let _x = x.extended();
-    let _y = y.extended();
+    let _x = x.to_u128_bits();
+    let _y = y.to_u128_bits();
     let mut first = [0; 16];
     let mut second = [0; 16];
     let first_count = x.to_borsh_bytes(&mut first);

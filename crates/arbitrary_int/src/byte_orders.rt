@@ -28,7 +28,7 @@ pub trait ByteOrders<const N: usize>: FixedWidth {
         ensures plain { Self.IS_SIGNED ≡ false → (i : ℕ) → i < N → get_or result i 0 ≡ unsigned_abs (Self.number self) / 256 ^ i % 256 }
         ensures range { InRange Self.IS_SIGNED Self.BITS (Self.number self) }
     {
-        let all = all_bytes(self.extended());
+        let all = all_bytes(self.to_u128_bits());
         let mut list = [0; N];
         list.copy_from_slice(&all[..N]);
         list
@@ -63,7 +63,7 @@ pub trait ByteOrders<const N: usize>: FixedWidth {
         ensures unsigned { Self.IS_SIGNED ≡ false → Self.number result ≡ pos (bytes_number list.entry) }
         ensures only { (x : ℤ) → InRange Self.IS_SIGNED Self.BITS x → bytes N x ≡ list.entry → Self.number result ≡ x }
     {
-        Self::from_extended(pattern_of(&list))
+        Self::from_u128_bits(pattern_of(&list))
     }
 
     /// The value that has these bytes, the highest first.

@@ -6,11 +6,11 @@ ghost use Rattle.arbitrary_base.specs.Range.{lo, hi, InRange};
 ghost use Rattle.arbitrary_base.specs.Residue.{wrap};
 
 use arbitrary_base::error::TryNewError;
-use arbitrary_base::storage::{BuiltinInteger, PatternOf, SignedOf, UnsignedStorage};
+use arbitrary_base::storage::{BuiltinInteger, SignedOf, UnsignedOf, UnsignedStorage};
 use arbitrary_core::unsigned::UInt;
 use arbitrary_traits::integer::{Integer, UnsignedInteger};
 
-/// An unsigned integer type. Each call answers as that of `Integer` of the same name.
+/// An unsigned integer type. Each call does as that of `Integer` of the same name.
 ///
 /// It is deprecated, and not in the prelude: both traits have calls of these names, so a file that brings in
 /// both says which it means, as `Number::as_u8(&x)`.
@@ -78,7 +78,7 @@ pub trait Number: UnsignedInteger + Integer<UnderlyingType = <Self as Number>::U
         <Self as Integer>::from_(value)
     }
 
-    /// The number that is left of `value` at this width: high bits are dropped. The width is valid.
+    /// The truncation of `value` at this width: high bits are dropped. The width is valid.
     final fn masked_new<T: Number>(value: T) -> Self
         requires { Self.valid }
         ensures { Self.number result ≡ wrap Self.IS_SIGNED Self.Integer.BITS (T.number value) }
@@ -190,7 +190,7 @@ impl Number for u128 {
 impl<T: BuiltinInteger + UnsignedStorage, const BITS: usize> Number for UInt<T, BITS>
 where
     T::Signed: BuiltinInteger + SignedOf<T>,
-    <T::Signed as BuiltinInteger>::Unsigned: PatternOf<T::Signed>,
+    <T::Signed as BuiltinInteger>::Unsigned: UnsignedOf<T::Signed>,
 {
     type UnderlyingType = T;
 

@@ -3,7 +3,7 @@
 ghost use Rattle.std.specs.Prelude.{◌≡◌, ◌↔◌, ◌<◌, ℕ, Bool, map, length, pos, ◌-ℤ◌, IsTrue, MatchResult, Ok, Err};
 ghost use Rattle.std.specs.Ordering.{int_eq};
 ghost use Rattle.arbitrary_base.specs.Residue.{wrap};
-ghost use Rattle.arbitrary_int.specs.Step.{StepWithin, answer_of, by_meaning, meaning, one_meaning, target_of, two_meaning};
+ghost use Rattle.arbitrary_int.specs.Step.{StepWithin, result_of, by_meaning, meaning, one_meaning, target_of, two_meaning};
 ghost use Rattle.arbitrary_int.specs.Run.{RunOf, WellFormed};
 ghost use Rattle.arbitrary_int.specs.Widths.{OnlyCheckedArithmetic, RangeWithin, carried_out};
 
@@ -39,7 +39,7 @@ fn is_within(step: &Step, n: usize) -> bool
 fn is_zero<R: Integer>(x: R) -> bool
     ensures { result ≡ int_eq (R.number x) (pos 0) }
 {
-    x.extended() == 0
+    x.to_u128_bits() == 0
 }
 
 /// The quotient, wrapped, or a stop at a divisor of zero.
@@ -69,7 +69,7 @@ fn saturating_quotient<R: FixedWidth>(x: R, y: R) -> Result<R, Why>
 }
 
 /// What an operation makes of two values.
-#[tactic(auto, using(crate::proofs::StepLemmas::answers))]
+#[tactic(auto, using(crate::proofs::StepLemmas::results))]
 fn two<R: FixedWidth>(op: TwoOp, x: R, y: R) -> Result<R, Why>
     ensures { MatchResult result
         (λ v. two_meaning R.IS_SIGNED R.BITS op (R.number x) (R.number y) ≡ Ok (R.number v))
@@ -99,12 +99,12 @@ fn negated<R: FixedWidth>(x: R) -> R
     ensures { R.number result ≡ wrap R.IS_SIGNED R.BITS (pos 0 -ℤ R.number x) }
 {
     // shows that the width is valid
-    let _pattern = x.extended();
+    let _pattern = x.to_u128_bits();
     R::zero().wrapping_sub(x)
 }
 
 /// What an operation makes of one value.
-#[tactic(auto, using(crate::proofs::StepLemmas::answers))]
+#[tactic(auto, using(crate::proofs::StepLemmas::results))]
 fn one<R: FixedWidth>(op: OneOp, x: R) -> R
     ensures { one_meaning R.IS_SIGNED R.BITS op (R.number x) ≡ Ok (R.number result) }
 {
@@ -116,7 +116,7 @@ fn one<R: FixedWidth>(op: OneOp, x: R) -> R
 }
 
 /// What an operation makes of one value by an amount.
-#[tactic(auto, using(crate::proofs::StepLemmas::answers))]
+#[tactic(auto, using(crate::proofs::StepLemmas::results))]
 fn by<R: FixedWidth>(op: ByOp, x: R, amount: u32) -> Result<R, Why>
     ensures { MatchResult result
         (λ v. by_meaning R.IS_SIGNED R.BITS op (R.number x) amount ≡ Ok (R.number v))
@@ -135,11 +135,11 @@ fn by<R: FixedWidth>(op: ByOp, x: R, amount: u32) -> Result<R, Why>
 
 /// What the step makes of its sources.
 #[tactic(auto, using(crate::proofs::StepLemmas::sources))]
-fn answer<R: FixedWidth>(step: &Step, registers: &[R]) -> Result<R, Why>
+fn step_result<R: FixedWidth>(step: &Step, registers: &[R]) -> Result<R, Why>
     requires { StepWithin (length registers.now) step.now }
     ensures { MatchResult result
-        (λ v. answer_of R.IS_SIGNED R.BITS step.now (map R.number registers.now) ≡ Ok (R.number v))
-        (λ why. answer_of R.IS_SIGNED R.BITS step.now (map R.number registers.now) ≡ Err why) }
+        (λ v. result_of R.IS_SIGNED R.BITS step.now (map R.number registers.now) ≡ Ok (R.number v))
+        (λ why. result_of R.IS_SIGNED R.BITS step.now (map R.number registers.now) ≡ Err why) }
 {
     match step {
         Step::Two {
@@ -177,7 +177,7 @@ fn apply<R: FixedWidth>(step: &Step, registers: &mut [R]) -> Result<(), Why>
         (λ _. meaning R.IS_SIGNED R.BITS step.now (map R.number registers.old) ≡ Ok (map R.number registers.new))
         (λ why. (meaning R.IS_SIGNED R.BITS step.now (map R.number registers.old) ≡ Err why) × (registers.new ≡ registers.old)) }
 {
-    let value = answer(step, registers)?;
+    let value = step_result(step, registers)?;
     registers[target(step)] = value;
     Ok(())
 }
@@ -185,7 +185,7 @@ fn apply<R: FixedWidth>(step: &Step, registers: &mut [R]) -> Result<(), Why>
 /// The steps in order, up to the first that stops. That one writes nothing, and is told by its place.
 ///
 /// Afterwards the numbers of the registers, and the ending, are those that `RunOf` gives: the
-/// arithmetic of whole numbers and bit lists, whatever the storage. The caller shows that each register
+/// arithmetic of whole numbers and bit lists, whatever the storage. The precondition is that each register
 /// number is below the number of registers (test it by `well_formed`).
 ///
 /// Where the list has only checked sums, differences, products and quotients, the steps that were carried out

@@ -14,8 +14,8 @@ pub(crate) fn after<V: FixedWidth>(x: V, limit: V) -> V
     requires { V.number x <ℤ V.number limit }
     ensures { V.number result ≡ V.number x +ℤ pos 1 }
 {
-    let _known = x.extended();
-    let _limit = limit.extended();
+    let _known = x.to_u128_bits();
+    let _limit = limit.to_u128_bits();
     forward(x, 1)
 }
 
@@ -25,8 +25,8 @@ pub(crate) fn before<V: FixedWidth>(x: V, limit: V) -> V
     requires { V.number limit <ℤ V.number x }
     ensures { V.number result ≡ V.number x -ℤ pos 1 }
 {
-    let _known = x.extended();
-    let _limit = limit.extended();
+    let _known = x.to_u128_bits();
+    let _limit = limit.to_u128_bits();
     backward(x, 1)
 }
 
@@ -36,7 +36,7 @@ fn forward<V: FixedWidth>(x: V, by: u128) -> V
     requires { InRange V.IS_SIGNED V.BITS (V.number x +ℤ pos by) }
     ensures { V.number result ≡ V.number x +ℤ pos by }
 {
-    let _known = x.extended();
+    let _known = x.to_u128_bits();
     x.wrapping_add(V::masked_new(by))
 }
 
@@ -46,7 +46,7 @@ fn backward<V: FixedWidth>(x: V, by: u128) -> V
     requires { InRange V.IS_SIGNED V.BITS (V.number x -ℤ pos by) }
     ensures { V.number result ≡ V.number x -ℤ pos by }
 {
-    let _known = x.extended();
+    let _known = x.to_u128_bits();
     x.wrapping_sub(V::masked_new(by))
 }
 
@@ -56,8 +56,8 @@ fn distance<V: FixedWidth>(start: V, end: V) -> u128
     requires { V.number start ≤ℤ V.number end }
     ensures { pos result ≡ V.number end -ℤ V.number start }
 {
-    let _first = start.extended();
-    let _last = end.extended();
+    let _first = start.to_u128_bits();
+    let _last = end.to_u128_bits();
     Storage::wrapping_sub(end.as_u128(), start.as_u128())
 }
 
@@ -84,7 +84,7 @@ pub trait Stepping: FixedWidth {
     final fn forward_checked(start: Self, count: usize) -> Option<Self>
         ensures { ExactOrNone Self.number Self.IS_SIGNED Self.BITS (Self.number start +ℤ pos count) result }
     {
-        let _known = start.extended();
+        let _known = start.to_u128_bits();
         if count as u128 <= distance(start, Self::max_value()) {
             Some(forward(start, count as u128))
         } else {
@@ -97,7 +97,7 @@ pub trait Stepping: FixedWidth {
     final fn backward_checked(start: Self, count: usize) -> Option<Self>
         ensures { ExactOrNone Self.number Self.IS_SIGNED Self.BITS (Self.number start -ℤ pos count) result }
     {
-        let _known = start.extended();
+        let _known = start.to_u128_bits();
         if count as u128 <= distance(Self::min_value(), start) {
             Some(backward(start, count as u128))
         } else {

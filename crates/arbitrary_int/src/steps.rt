@@ -74,7 +74,7 @@ pub enum Step {
 /// Why a step stops.
 #[derive(Clone, Copy, Debug, PartialEq, Eq)]
 pub enum Why {
-    /// A checked operation has no answer.
+    /// A checked operation has no result.
     Refused,
     /// An unchecked division by zero.
     ZeroDivisor,

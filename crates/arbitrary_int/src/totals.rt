@@ -26,7 +26,7 @@ pub fn try_sum<V: FixedWidth, I: Iterator<Item = V> + Drop>(iter: I) -> Option<V
 }
 
 /// The number 1, and `None` where the type has none: the signed type of one bit.
-#[tactic(auto, using(crate::proofs::TotalSteps::ones))]
+#[tactic(auto, using(crate::proofs::TotalSteps::one_laws))]
 fn one<V: FixedWidth>() -> Option<V>
     requires { V.valid }
     ensures { ExactOrNone V.number V.IS_SIGNED V.BITS (pos 1) result }

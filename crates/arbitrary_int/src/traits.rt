@@ -1,12 +1,12 @@
 //! The traits of the integer types.
 
 pub use arbitrary_base::storage::{
-    BuiltinInteger, PatternOf, SignedOf, SignedStorage, Storage, UnsignedStorage,
+    BuiltinInteger, SignedOf, SignedStorage, Storage, UnsignedOf, UnsignedStorage,
 };
 pub use arbitrary_calls::extraction::Extraction;
 pub use arbitrary_calls::fixed_width::FixedWidth;
 pub use arbitrary_core::widths::HasWidth;
 pub use arbitrary_core::widths::valid::ValidWidth;
+pub use arbitrary_traits::counterparts::{SignedCounterpart, UnsignedCounterpart};
 pub use arbitrary_traits::integer::{Integer, SignedInteger, UnsignedInteger};
-pub use arbitrary_traits::mates::{SignedMate, UnsignedMate};
 pub use arbitrary_traits::shift_amount::ShiftAmount;

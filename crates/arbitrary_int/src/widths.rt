@@ -16,11 +16,11 @@ fn low_bits_of<W: Integer, N: Integer>(wide: W, narrow: N) -> N
     ensures width { 1 ≤ N.BITS }
 {
     // shows that the width is valid
-    let _pattern = narrow.extended();
+    let _pattern = narrow.to_u128_bits();
     N::masked_new(wide)
 }
 
-/// Each narrow register becomes what is left of the wide one.
+/// Each narrow register becomes the truncation of the wide one.
 #[tactic(auto, using(crate::proofs::LowBitRuns::narrowed))]
 fn narrow_all<W: Integer, N: Integer>(wide: &[W], narrow: &mut [N])
     requires { length wide.now ≡ length narrow.old }
@@ -32,12 +32,12 @@ fn narrow_all<W: Integer, N: Integer>(wide: &[W], narrow: &mut [N])
     }
 }
 
-/// `run` on the wide registers; then, with and without a stop, each narrow register is what is left of the
+/// `run` on the wide registers; then, with and without a stop, each narrow register is the truncation of the
 /// wide one: its number, wrapped.
 ///
 /// Where each step is a low-bit step of the narrow width (`IsLowBit` lists them), and that width is no more
 /// than the wide one, there is no stop, and the narrow registers are what masking first and running narrow
-/// gives. The two signs and storages may be any. The caller shows that each register number is below the
+/// gives. The two signs and storages may be any. The precondition is that each register number is below the
 /// number of wide registers (test it by `well_formed`), and that there are as many narrow ones.
 pub fn run_wide<W: FixedWidth, N: FixedWidth>(
     steps: &[Step],

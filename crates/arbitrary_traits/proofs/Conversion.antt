@@ -5,30 +5,30 @@ use Rattle.std.proofs.lemmas.Int.{ints}
 use Rattle.std.proofs.lemmas.Nat.{pow_pos}
 use Rattle.arbitrary_base.specs.Range.{InRange}
 use Rattle.arbitrary_base.specs.Residue.{residue, wrap}
-use Rattle.arbitrary_base.proofs.Congruence.{pow_le}
-use Rattle.arbitrary_base.proofs.Narrow.{wrap-residue}
-use Rattle.arbitrary_base.proofs.Primitive.{residue-pos}
-use Rattle.arbitrary_base.proofs.Wrapped.{wrapped-congruent}
+use Rattle.arbitrary_base.proofs.modular.Congruence.{pow_le}
+use Rattle.arbitrary_base.proofs.modular.Truncation.{wrap-residue}
+use Rattle.arbitrary_base.proofs.storages.Primitive.{residue-pos}
+use Rattle.arbitrary_base.proofs.modular.ExactOrCongruent.{wrapped-congruent}
 
 -- the residue modulo 2 ^ 128 wraps as the number does
-pub wrap-extended : (s : Bool) (B p : ℕ) (x z : ℤ) → (1 ≤ B) × (B ≤ 128) → p ≡ residue 128 x → z ≡ wrap s B (pos p) → z ≡ wrap s B x
-wrap-extended s B p x z h e f = wrap-residue s B p x z h.0 h.1 e f
+pub wrap-to_u128_bits : (s : Bool) (B p : ℕ) (x z : ℤ) → (1 ≤ B) × (B ≤ 128) → p ≡ residue 128 x → z ≡ wrap s B (pos p) → z ≡ wrap s B x
+wrap-to_u128_bits s B p x z h e f = wrap-residue s B p x z h.0 h.1 e f
 
-pub ruleset conversions = (wrap-extended)
+pub ruleset conversions = (wrap-to_u128_bits)
 
--- what is left of x at a width that is known to be B
+-- the truncation of x at a width that is known to be B
 pub wrap-at : (s : Bool) {W B : ℕ} (x : ℤ) {z : ℤ} → W ≡ B → z ≡ wrap s W x → z ≡ wrap s B x
 wrap-at s x w e = e ∙ ap (λ (n : ℕ). wrap s n x) w
 
-pub ruleset mates = (wrapped-congruent)
+pub ruleset counterparts = (wrapped-congruent)
 
 -- a number from 0 up is its own pattern
-pub amount-kept : (s : Bool) (B p : ℕ) (x : ℤ) → 1 ≤ B → p ≡ residue B x → InRange s B x → pos 0 ≤ℤ x → pos p ≡ x
-amount-kept s B p (negsuc n) h e f l = absurd (omega (arith, ints))
-amount-kept s B p (pos n) h e f l = ap pos (e ∙ residue-pos B n (below s f))
+pub amount-stays : (s : Bool) (B p : ℕ) (x : ℤ) → 1 ≤ B → p ≡ residue B x → InRange s B x → pos 0 ≤ℤ x → pos p ≡ x
+amount-stays s B p (negsuc n) h e f l = absurd (omega (arith, ints))
+amount-stays s B p (pos n) h e f l = ap pos (e ∙ residue-pos B n (below s f))
   where
     below : (s : Bool) → InRange s B (pos n) → n < 2 ^ B
     below false f = let u = f.high in let o = pow_pos B in omega (arith, ints)
     below true f = let u = f.high in let o = pow_le (B - 1) B (omega arith) in omega (arith, ints)
 
-pub ruleset amounts = (amount-kept)
+pub ruleset amounts = (amount-stays)

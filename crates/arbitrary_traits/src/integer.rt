@@ -115,13 +115,13 @@ pub trait Integer: Copy
         ensures width { valid };
 
     /// The number's 128 bits: its residue modulo `2 ^ 128`.
-    fn extended(self) -> u128
+    fn to_u128_bits(self) -> u128
         ensures value { result ≡ residue 128 (number self) }
         ensures range { InRange IS_SIGNED BITS (number self) }
         ensures width { valid };
 
     /// The type's number that is congruent to `pattern` modulo `2 ^ BITS`. The width is valid.
-    fn from_extended(pattern: u128) -> Self
+    fn from_u128_bits(pattern: u128) -> Self
         requires { valid }
         ensures { number result ≡ wrap IS_SIGNED BITS (pos pattern) };
 
@@ -153,19 +153,19 @@ pub trait Integer: Copy
     final fn masked_new<T: Integer>(value: T) -> Self
         requires { valid }
         ensures value { number result ≡ wrap IS_SIGNED BITS (T.number value) }
-        ensures kept { InRange IS_SIGNED BITS (T.number value) → number result ≡ T.number value }
+        ensures exact { InRange IS_SIGNED BITS (T.number value) → number result ≡ T.number value }
         ensures congruent { Congruent BITS (number result) (T.number value) }
         ensures range { InRange T.IS_SIGNED T.BITS (T.number value) }
         ensures width { T.valid }
     {
-        Self::from_extended(value.extended())
+        Self::from_u128_bits(value.to_u128_bits())
     }
 
     /// `T::masked_new` of the value. The width of `T` is valid.
     final fn as_<T: Integer>(self) -> T
         requires { T.valid }
         ensures value { T.number result ≡ wrap T.IS_SIGNED T.BITS (number self) }
-        ensures kept { InRange T.IS_SIGNED T.BITS (number self) → T.number result ≡ number self }
+        ensures exact { InRange T.IS_SIGNED T.BITS (number self) → T.number result ≡ number self }
         ensures congruent { Congruent T.BITS (T.number result) (number self) }
         ensures range { InRange IS_SIGNED BITS (number self) }
         ensures width { valid }
@@ -176,7 +176,7 @@ pub trait Integer: Copy
     /// The low 8 bits, unsigned.
     final fn as_u8(self) -> u8
         ensures value { pos result ≡ wrap false 8 (number self) }
-        ensures kept { InRange false 8 (number self) → pos result ≡ number self }
+        ensures exact { InRange false 8 (number self) → pos result ≡ number self }
         ensures congruent { Congruent 8 (pos result) (number self) }
         ensures range { InRange IS_SIGNED BITS (number self) }
         ensures width { valid }
@@ -187,7 +187,7 @@ pub trait Integer: Copy
     /// The low 16 bits, unsigned.
     final fn as_u16(self) -> u16
         ensures value { pos result ≡ wrap false 16 (number self) }
-        ensures kept { InRange false 16 (number self) → pos result ≡ number self }
+        ensures exact { InRange false 16 (number self) → pos result ≡ number self }
         ensures congruent { Congruent 16 (pos result) (number self) }
         ensures range { InRange IS_SIGNED BITS (number self) }
         ensures width { valid }
@@ -198,7 +198,7 @@ pub trait Integer: Copy
     /// The low 32 bits, unsigned.
     final fn as_u32(self) -> u32
         ensures value { pos result ≡ wrap false 32 (number self) }
-        ensures kept { InRange false 32 (number self) → pos result ≡ number self }
+        ensures exact { InRange false 32 (number self) → pos result ≡ number self }
         ensures congruent { Congruent 32 (pos result) (number self) }
         ensures range { InRange IS_SIGNED BITS (number self) }
         ensures width { valid }
@@ -209,7 +209,7 @@ pub trait Integer: Copy
     /// The low 64 bits, unsigned.
     final fn as_u64(self) -> u64
         ensures value { pos result ≡ wrap false 64 (number self) }
-        ensures kept { InRange false 64 (number self) → pos result ≡ number self }
+        ensures exact { InRange false 64 (number self) → pos result ≡ number self }
         ensures congruent { Congruent 64 (pos result) (number self) }
         ensures range { InRange IS_SIGNED BITS (number self) }
         ensures width { valid }
@@ -220,7 +220,7 @@ pub trait Integer: Copy
     /// The low 128 bits, unsigned.
     final fn as_u128(self) -> u128
         ensures value { pos result ≡ wrap false 128 (number self) }
-        ensures kept { InRange false 128 (number self) → pos result ≡ number self }
+        ensures exact { InRange false 128 (number self) → pos result ≡ number self }
         ensures congruent { Congruent 128 (pos result) (number self) }
         ensures range { InRange IS_SIGNED BITS (number self) }
         ensures width { valid }
@@ -231,7 +231,7 @@ pub trait Integer: Copy
     /// The low 64 bits, unsigned.
     final fn as_usize(self) -> usize
         ensures value { pos result ≡ wrap false 64 (number self) }
-        ensures kept { InRange false 64 (number self) → pos result ≡ number self }
+        ensures exact { InRange false 64 (number self) → pos result ≡ number self }
         ensures congruent { Congruent 64 (pos result) (number self) }
         ensures range { InRange IS_SIGNED BITS (number self) }
         ensures width { valid }
@@ -242,7 +242,7 @@ pub trait Integer: Copy
     /// The low 8 bits, in two's complement.
     final fn as_i8(self) -> i8
         ensures value { result ≡ wrap true 8 (number self) }
-        ensures kept { InRange true 8 (number self) → result ≡ number self }
+        ensures exact { InRange true 8 (number self) → result ≡ number self }
         ensures congruent { Congruent 8 result (number self) }
         ensures range { InRange IS_SIGNED BITS (number self) }
         ensures width { valid }
@@ -253,7 +253,7 @@ pub trait Integer: Copy
     /// The low 16 bits, in two's complement.
     final fn as_i16(self) -> i16
         ensures value { result ≡ wrap true 16 (number self) }
-        ensures kept { InRange true 16 (number self) → result ≡ number self }
+        ensures exact { InRange true 16 (number self) → result ≡ number self }
         ensures congruent { Congruent 16 result (number self) }
         ensures range { InRange IS_SIGNED BITS (number self) }
         ensures width { valid }
@@ -264,7 +264,7 @@ pub trait Integer: Copy
     /// The low 32 bits, in two's complement.
     final fn as_i32(self) -> i32
         ensures value { result ≡ wrap true 32 (number self) }
-        ensures kept { InRange true 32 (number self) → result ≡ number self }
+        ensures exact { InRange true 32 (number self) → result ≡ number self }
         ensures congruent { Congruent 32 result (number self) }
         ensures range { InRange IS_SIGNED BITS (number self) }
         ensures width { valid }
@@ -275,7 +275,7 @@ pub trait Integer: Copy
     /// The low 64 bits, in two's complement.
     final fn as_i64(self) -> i64
         ensures value { result ≡ wrap true 64 (number self) }
-        ensures kept { InRange true 64 (number self) → result ≡ number self }
+        ensures exact { InRange true 64 (number self) → result ≡ number self }
         ensures congruent { Congruent 64 result (number self) }
         ensures range { InRange IS_SIGNED BITS (number self) }
         ensures width { valid }
@@ -286,7 +286,7 @@ pub trait Integer: Copy
     /// The low 128 bits, in two's complement.
     final fn as_i128(self) -> i128
         ensures value { result ≡ wrap true 128 (number self) }
-        ensures kept { InRange true 128 (number self) → result ≡ number self }
+        ensures exact { InRange true 128 (number self) → result ≡ number self }
         ensures congruent { Congruent 128 result (number self) }
         ensures range { InRange IS_SIGNED BITS (number self) }
         ensures width { valid }
@@ -297,7 +297,7 @@ pub trait Integer: Copy
     /// The low 64 bits, in two's complement.
     final fn as_isize(self) -> isize
         ensures value { result ≡ wrap true 64 (number self) }
-        ensures kept { InRange true 64 (number self) → result ≡ number self }
+        ensures exact { InRange true 64 (number self) → result ≡ number self }
         ensures congruent { Congruent 64 result (number self) }
         ensures range { InRange IS_SIGNED BITS (number self) }
         ensures width { valid }

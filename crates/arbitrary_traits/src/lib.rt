@@ -2,7 +2,7 @@
 //! width are told apart by their sign and their width alone.
 #![tactic(auto)]
 
+pub mod counterparts;
 pub mod integer;
-pub mod mates;
 pub mod primitives;
 pub mod shift_amount;

@@ -10,8 +10,8 @@ ghost use Rattle.arbitrary_traits.specs.Assigned.{IsAssigned};
 use crate::integer::Integer;
 use arbitrary_base::ends::{highest, lowest, zero};
 use arbitrary_base::error::TryNewError;
-use arbitrary_base::narrowing::{convert, extended, from_low_bits};
-use arbitrary_base::storage::{BuiltinInteger, PatternOf};
+use arbitrary_base::storage::{BuiltinInteger, UnsignedOf};
+use arbitrary_base::truncation::{cast, from_low_bits, to_u128_bits};
 use std::fmt::{Binary, HasDigits, LowerHex, Octal, UpperHex};
 use std::ops::{
     Add, AddAssign, BitAnd, BitAndAssign, BitOr, BitOrAssign, BitXor, BitXorAssign, Div, DivAssign,
@@ -107,7 +107,7 @@ pub trait Primitive: BuiltinInteger
 
 impl<T: Primitive> Integer for T
 where
-    T::Unsigned: PatternOf<T>,
+    T::Unsigned: UnsignedOf<T>,
 {
     type UnderlyingType = T;
 
@@ -149,33 +149,33 @@ where
 
     // The pattern is taken for its clause, that the number is in range.
     fn try_new(value: T) -> Result<T, TryNewError> {
-        let _pattern = value.pattern();
+        let _pattern = value.storage_bits();
         Ok(value)
     }
 
     fn value(self) -> T {
-        let _pattern = self.pattern();
+        let _pattern = self.storage_bits();
         self
     }
 
-    fn extended(self) -> u128 {
-        let _pattern = self.pattern();
-        extended(self)
+    fn to_u128_bits(self) -> u128 {
+        let _pattern = self.storage_bits();
+        to_u128_bits(self)
     }
 
-    fn from_extended(pattern: u128) -> T {
+    fn from_u128_bits(pattern: u128) -> T {
         from_low_bits(pattern, T::WIDTH)
     }
 
-    #[tactic(auto, using(crate::proofs::Conversion::mates))]
+    #[tactic(auto, using(crate::proofs::Conversion::counterparts))]
     fn to_unsigned(self) -> T::Unsigned {
-        let _pattern = self.pattern();
-        convert(self, T::WIDTH)
+        let _pattern = self.storage_bits();
+        cast(self, T::WIDTH)
     }
 
-    #[tactic(auto, using(crate::proofs::Conversion::mates))]
+    #[tactic(auto, using(crate::proofs::Conversion::counterparts))]
     fn from_unsigned(value: T::Unsigned) -> T {
-        convert(value, T::WIDTH)
+        cast(value, T::WIDTH)
     }
 
     ghost width_law = { λ h. T.width_law };

@@ -5,8 +5,8 @@ use Rattle.arbitrary_int.specs.Field.{field}
 use Rattle.arbitrary_int.specs.Residue.{Congruent, wrap}
 use Rattle.arbitrary_int.specs.BitList.{val}
 use Rattle.arbitrary_int.specs.BitField.{field_bits}
-use Rattle.arbitrary_int.proofs.Extracted.{val-items, items-plain}
-use Rattle.arbitrary_int.proofs.Wrap.{wrap-congruent}
+use Rattle.arbitrary_int.proofs.ExtractedField.{val-items, items-plain}
+use Rattle.arbitrary_int.proofs.Residue.{wrap-congruent}
 
 module _ (s : Bool) (width start word : ℕ) (z : ℤ) (widths : (1 ≤ width) × (width ≤ 128)) (within : start + width ≤ 128) (fits : word < 2 ^ 128)
     (read : z ≡ wrap s width (pos (word / 2 ^ start))) where

@@ -6,15 +6,15 @@ use Rattle.arbitrary_int.specs.Range.{InRange}
 use Rattle.arbitrary_int.specs.Residue.{residue}
 use Rattle.arbitrary_int.specs.BitList.{bits, num, val, items}
 use Rattle.arbitrary_int.specs.BitField.{field_bits, with_field}
-use Rattle.arbitrary_int.proofs.Narrow.{cut-residue}
-use Rattle.arbitrary_int.proofs.BitNumber.{length-bits, num-bits_small}
-use Rattle.arbitrary_int.proofs.BitValue.{bits-residue, bits-val, val-bits_in_range}
-use Rattle.arbitrary_int.proofs.BitField.{field-put, field-put_above, field-put_below, length-field}
+use Rattle.arbitrary_int.proofs.Truncation.{masked-residue}
+use Rattle.arbitrary_int.proofs.UnsignedNumber.{length-bits, num-bits_small}
+use Rattle.arbitrary_int.proofs.TwosComplement.{bits-residue, bits-val, val-bits_in_range}
+use Rattle.arbitrary_int.proofs.Field.{field-put, field-put_above, field-put_below, length-field}
 
 -- the low bits of a number's 128 are its residue
 pub masked-is : (width p mask : ℕ) (x : ℤ) → (1 ≤ width) × (width ≤ 128) → p ≡ residue 128 x → mask + 1 ≡ 2 ^ width → bit_and p mask ≡ residue width x
 masked-is width p mask x w e m =
-    ap (bit_and p) (let d : mask ≡ 2 ^ width - 1 = omega arith in d) ∙ and_mask p width ∙ cut-residue width 128 p x w.0 w.1 e
+    ap (bit_and p) (let d : mask ≡ 2 ^ width - 1 = omega arith in d) ∙ and_mask p width ∙ masked-residue width 128 p x w.0 w.1 e
 
 pub put-is : (word start width count p new : ℕ) (x : ℤ) → count ≡ width → new ≡ with_field word start (bits count (pos p)) → p ≡ residue width x
     → new ≡ with_field word start (bits width x)

@@ -4,7 +4,7 @@ use Rattle.std.proofs.Math.Nat.{div-add-mod', div-div-eq-div-mul, div-lt_iff_lt-
 use Rattle.std.proofs.lemmas.Nat.{pow_pos, and_block, or_block, or_shifted, and_mask}
 use Rattle.std.specs.Int.Bits.{and_zero_r, or_zero_r}
 use Rattle.arbitrary_int.specs.BitList.{bits, num}
-use Rattle.arbitrary_int.proofs.BitNumber.{length-bits, num-bits_small, num-append, num-take, num-drop}
+use Rattle.arbitrary_int.proofs.UnsignedNumber.{length-bits, num-bits_small, num-append, num-take, num-drop}
 use Rattle.arbitrary_int.specs.BitField.{with_field}
 
 -- the number of a list with another in its middle
@@ -39,9 +39,9 @@ complement o K P J W M j h e m s =
     omega arith
 
 -- a number in three parts: those below place s, the k above these, and the rest
-kept-middle : (s k j a a0 p o c : ℕ) → p < 2 ^ s → a0 < 2 ^ k → a < 2 ^ j → o + 1 ≡ 2 ^ k → c ≡ (2 ^ j - 1) * 2 ^ k
+stays-middle : (s k j a a0 p o c : ℕ) → p < 2 ^ s → a0 < 2 ^ k → a < 2 ^ j → o + 1 ≡ 2 ^ k → c ≡ (2 ^ j - 1) * 2 ^ k
     → bit_and ((a * 2 ^ k + a0) * 2 ^ s + p) (c * 2 ^ s + (2 ^ s - 1)) ≡ (a * 2 ^ k) * 2 ^ s + p
-kept-middle s k j a a0 p o c h g f e d =
+stays-middle s k j a a0 p o c h g f e d =
     let q = pow_pos s in
     let last : 2 ^ s - 1 < 2 ^ s = omega arith in
     let zero' : 0 < 2 ^ k = pow_pos k in
@@ -85,10 +85,10 @@ replaced-is r s k v o W M w m h g small e =
     let rest : M - o * 2 ^ s ≡ c * 2 ^ s + (2 ^ s - 1) = complement o (2 ^ k) (2 ^ s) (2 ^ j) (2 ^ 128) M pj ps e m split in
     let parts : r ≡ (a * 2 ^ k + high % 2 ^ k) * 2 ^ s + low = sym (ap (λ (i : ℕ). i * 2 ^ s + low) (div-add-mod' high (2 ^ k)) ∙ div-add-mod' r (2 ^ s)) in
     let top : a < 2 ^ j = subst (λ (i : ℕ). a < 2 ^ i) (let d : 128 - s - k ≡ 128 - (k + s) = omega arith in d) (div-below high k (128 - s) (div-below r s 128 h (omega arith)) (omega arith)) in
-    let kept : bit_and r (M - o * 2 ^ s % W) ≡ (a * 2 ^ k) * 2 ^ s + low =
+    let stays : bit_and r (M - o * 2 ^ s % W) ≡ (a * 2 ^ k) * 2 ^ s + low =
     (λ i. bit_and (parts i) ((ap (λ (n : ℕ). M - n) mask_is ∙ rest) i))
-    ∙ kept-middle s k j a (high % 2 ^ k) low o c (mod-lt r ps) (mod-lt high pk) top e refl in
+    ∙ stays-middle s k j a (high % 2 ^ k) low o c (mod-lt r ps) (mod-lt high pk) top e refl in
     let code : bit_or (bit_and r (M - o * 2 ^ s % W)) (v * 2 ^ s % W) ≡ (a * 2 ^ k + v) * 2 ^ s + low =
-    (λ i. bit_or (kept i) (field_is i)) ∙ put-middle s k a v low (mod-lt r ps) small in
+    (λ i. bit_or (stays i) (field_is i)) ∙ put-middle s k a v low (mod-lt r ps) small in
     let above : r / 2 ^ (s + k) ≡ a = ap (λ (i : ℕ). r / i) (pow-add 2 s k) ∙ sym (div-div-eq-div-mul r (2 ^ s) (2 ^ k)) in
     code ∙ sym (num-placed r s k v h g small ∙ rw (above, pow-add 2 s k) (omega arith))

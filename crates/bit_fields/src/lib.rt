@@ -12,7 +12,7 @@ ghost use Rattle.bit_fields.specs.HasNumber.{HasNumber};
 use arbitrary_int::traits::Integer;
 
 #[cfg(test)]
-mod worked;
+mod vectors;
 
 /// A record of 128 bits. Bit 0 is the lowest.
 #[derive(Clone, Copy, Debug, PartialEq, Eq)]
@@ -30,7 +30,7 @@ impl Record {
         ensures plain { F.IS_SIGNED ≡ false → F.number result ≡ field self.now.bits start F.BITS }
         ensures congruent { Congruent F.BITS (F.number result) (pos (self.now.bits / 2 ^ start)) }
     {
-        F::from_extended(self.bits >> start)
+        F::from_u128_bits(self.bits >> start)
     }
 
     /// Puts the value's bits into the field of `F::BITS` bits from bit `start` on, of any of the types and of a
@@ -54,7 +54,7 @@ impl Record {
 }
 
 /// The pattern whose low `count` bits are one.
-fn ones(count: usize) -> u128
+fn low_mask(count: usize) -> u128
     requires { count ≤ 128 }
     ensures { result + 1 ≡ 2 ^ count }
 {
@@ -73,9 +73,9 @@ fn bits_alone<F: Integer>(value: F) -> u128
     ensures range { InRange F.IS_SIGNED F.BITS (F.number value) }
     ensures width { F.valid }
 {
-    let pattern = value.extended();
+    let pattern = value.to_u128_bits();
     if F::IS_SIGNED {
-        pattern & ones(F::BITS)
+        pattern & low_mask(F::BITS)
     } else {
         pattern
     }
@@ -88,7 +88,7 @@ fn replaced(word: u128, start: usize, count: usize, pattern: u128) -> u128
     requires short { pattern < 2 ^ count }
     ensures { result ≡ with_field word start (bits_of count (pos pattern)) }
 {
-    (word & !(ones(count) << start)) | (pattern << start)
+    (word & !(low_mask(count) << start)) | (pattern << start)
 }
 
 /// Whether no bit lies in both of the fields, each given by its start and its width. Each ends at or before

@@ -1,14 +1,14 @@
-//! Runs a list of steps that comes as text on standard input, and writes the answer. `step_service` says what the text is.
+//! Runs a list of steps that comes as text on standard input, and writes the output. `bitrun_service` says what the text is.
 #![tactic(auto)]
 
 #[cfg(test)]
 mod tests;
 
 use arbitrary_int::Watched;
+use bitrun_service::serving::serve;
+use bitrun_text::fault::Fault;
 use std::io;
 use std::process::ExitCode;
-use step_service::serving::serve;
-use step_text::fault::Fault;
 
 fn main(rt: HostRuntime) -> ExitCode {
     let mut reader = Watched::new(rt.reader());

@@ -1,3 +1,3 @@
-//! Whole answers, and streams and memory that give out.
-mod answers;
+//! Whole outputs, and streams and memory that give out.
+mod outputs;
 mod streams;

@@ -5,7 +5,7 @@ use Rattle.std.proofs.lemmas.Int.{ints}
 use Rattle.arbitrary_int.specs.Range.{InRange}
 use Rattle.arbitrary_int.specs.Residue.{wrap}
 use Rattle.arbitrary_int.specs.Field.{field}
-use Rattle.arbitrary_int.proofs.Wrap.{wrap-in_range, wrap-congruent, wrap-same, wrap-of_in_range}
+use Rattle.arbitrary_int.proofs.Residue.{wrap-in_range, wrap-congruent, wrap-same, wrap-of_in_range}
 
 -- a sample goes through the number with the same bits
 wrap-unsigned : (x : ℤ) → InRange true 12 x → wrap true 12 (wrap false 12 x) ≡ x

@@ -4,8 +4,8 @@ use Rattle.std.proofs.Common.{arith, ap, refl, ◌∙◌}
 use Rattle.std.proofs.lemmas.Int.{ints}
 use Rattle.arbitrary_int.specs.Range.{InRange}
 use Rattle.arbitrary_int.specs.Residue.{residue}
-use Rattle.arbitrary_int.proofs.Narrow.{InRange-wider, residue-wrap}
-use Rattle.arbitrary_int.proofs.Wrap.{wrap-of_in_range}
+use Rattle.arbitrary_int.proofs.Truncation.{InRange-wider, residue-wrap}
+use Rattle.arbitrary_int.proofs.Residue.{wrap-of_in_range}
 
 number-is : (B p : ℕ) (x : ℤ) → (1 ≤ B) × (B ≤ 128) → InRange false B x → p ≡ residue 128 x → pos p ≡ x
 number-is B p x w f e = ap pos e ∙ residue-wrap 128 x (omega arith) ∙ wrap-of_in_range false 128 x (omega arith) (InRange-wider false B 128 x w.0 w.1 f)

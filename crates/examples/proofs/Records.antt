@@ -7,7 +7,7 @@ use Rattle.arbitrary_int.specs.Range.{InRange}
 use Rattle.arbitrary_int.specs.Bytes.{BorshBytes, Canonical, byte_count}
 use Rattle.arbitrary_int.specs.Reading.{Unreadable}
 use Rattle.arbitrary_int.specs.Stream.{AppendsBeginning}
-use Rattle.arbitrary_int.proofs.ByteNumber.{length-Borsh, Borsh-canonical, Borsh-unique}
+use Rattle.arbitrary_int.proofs.NumberOfBytes.{length-Borsh, Borsh-canonical, Borsh-unique}
 use Rattle.arbitrary_int.proofs.StreamSteps.{begun_append, begun_after}
 use Rattle.examples.specs.Journal.{FailedOrNoRecord, record_bytes}
 

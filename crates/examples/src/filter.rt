@@ -34,7 +34,7 @@ fn sum(a: i24, b: i24, c: i24) -> i26
 pub fn saturated(wide: i26) -> i12
     ensures below { wide <ℤ neg_ℤ (pos 2048) → result ≡ neg_ℤ (pos 2048) }
     ensures above { pos 2047 <ℤ wide → result ≡ pos 2047 }
-    ensures kept { neg_ℤ (pos 2048) ≤ℤ wide → wide ≤ℤ pos 2047 → result ≡ wide }
+    ensures exact { neg_ℤ (pos 2048) ≤ℤ wide → wide ≤ℤ pos 2047 → result ≡ wide }
 {
     if wide < i26::new(-2048) {
         i12::min_value()

@@ -1,7 +1,7 @@
 //! Code for every width.
 
 ghost use Rattle.std.specs.Prelude.{◌≡◌, ◌↔◌, ◌+ℤ◌, ◌%◌, pos, int_div, IsTrue};
-ghost use Rattle.arbitrary_int.specs.BitList.{bits, ones};
+ghost use Rattle.arbitrary_int.specs.BitList.{bits, popcount};
 
 use arbitrary_int::prelude::*;
 
@@ -10,13 +10,13 @@ use arbitrary_int::prelude::*;
 pub fn mean<T: UnsignedInteger>(a: T, b: T) -> T
     ensures { T.number result ≡ int_div (T.number a +ℤ T.number b) (pos 2) }
 {
-    let (a, b) = (a.extended(), b.extended());
+    let (a, b) = (a.to_u128_bits(), b.to_u128_bits());
     T::from_(a / 2 + b / 2 + (a % 2 + b % 2) / 2)
 }
 
 /// Whether an odd number of the bits are one.
 pub fn parity<V: FixedWidth>(value: V) -> bool
-    ensures { IsTrue result ↔ (ones (bits V.BITS (V.number value)) % 2 ≡ 1) }
+    ensures { IsTrue result ↔ (popcount (bits V.BITS (V.number value)) % 2 ≡ 1) }
 {
     value.count_ones() % 2 == 1
 }

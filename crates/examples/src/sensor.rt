@@ -38,7 +38,7 @@ pub fn difference(a: i12, b: i12) -> i13
     a.widen::<13>() - b.widen::<13>()
 }
 
-/// The sample in millivolts, cut toward zero: 2048 steps are 2500 millivolts.
+/// The sample in millivolts, rounded toward zero: 2048 steps are 2500 millivolts.
 #[tactic(auto, using(crate::proofs::Samples::samples))]
 pub fn millivolts(sample: i12) -> i32
     ensures { result ≡ int_div (sample *ℤ pos 2500) (pos 2048) }

@@ -7,7 +7,7 @@ use arbitrary_int::prelude::*;
 use arbitrary_int::{Step, Stop, run, well_formed};
 
 /// Runs the steps and tells how that ended. Where a step names a register that is not there, nothing is
-/// done, and the answer is `None`.
+/// done, and the result is `None`.
 pub fn run_tested<R: FixedWidth>(steps: &[Step], registers: &mut [R]) -> Option<Result<(), Stop>>
     ensures none { IsNone result ↔ ¬ (WellFormed steps.now (length registers.old)) }
     ensures ending { IfSome result (λ ending. ending ≡ (RunOf R.IS_SIGNED R.BITS steps.now (map R.number registers.old)).1) }

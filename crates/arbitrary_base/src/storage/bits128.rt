@@ -4,7 +4,7 @@ ghost use Rattle.std.specs.Prelude.{◌≡◌, if◌then◌else◌, true, pos, n
 ghost use Rattle.arbitrary_base.specs.Residue.{wrap};
 
 use crate::storage::{
-    BuiltinInteger, PatternOf, Sealed, SignedOf, SignedStorage, Storage, UnsignedStorage,
+    BuiltinInteger, Sealed, SignedOf, SignedStorage, Storage, UnsignedOf, UnsignedStorage,
 };
 
 impl Sealed for u128 {}
@@ -13,12 +13,12 @@ impl UnsignedStorage for u128 {
     ghost unsigned_law = { refl };
 }
 
-impl PatternOf<u128> for u128 {
-    ghost pattern_width_law = { refl };
+impl UnsignedOf<u128> for u128 {
+    ghost unsigned_width_law = { refl };
 }
 
-impl PatternOf<i128> for u128 {
-    ghost pattern_width_law = { refl };
+impl UnsignedOf<i128> for u128 {
+    ghost unsigned_width_law = { refl };
 }
 
 impl BuiltinInteger for u128 {
@@ -27,7 +27,7 @@ impl BuiltinInteger for u128 {
     type Signed = i128;
 }
 
-#[tactic(auto, using(crate::proofs::Primitive::unsigned_laws))]
+#[tactic(auto, using(crate::proofs::storages::Primitive::unsigned_laws))]
 impl Storage for u128 {
     ghost use Rattle.std.specs.Prelude.{false, pos, unsigned_abs, refl};
     ghost use Rattle.std.proofs.Common.{lit≤};
@@ -47,21 +47,21 @@ impl Storage for u128 {
 
     const SIGNED: bool = false;
 
-    fn pattern(self) -> u128 {
+    fn storage_bits(self) -> u128 {
         self
     }
 
-    #[tactic(auto, using(crate::proofs::BitSign::unsigned_shifts))]
+    #[tactic(auto, using(crate::proofs::bit_lists::SignBit::unsigned_shifts))]
     fn shl_by(self, n: usize) -> Self {
         self << n
     }
 
-    #[tactic(auto, using(crate::proofs::BitSign::unsigned_shifts))]
+    #[tactic(auto, using(crate::proofs::bit_lists::SignBit::unsigned_shifts))]
     fn shr_by(self, n: usize) -> Self {
         self >> n
     }
 
-    fn from_pattern(pattern: u128) -> Self {
+    fn from_storage_bits(pattern: u128) -> Self {
         pattern
     }
 
@@ -99,7 +99,7 @@ impl Storage for u128 {
 }
 
 /// The number of this size, below zero where the flag is set, wrapped.
-#[tactic(auto, using(crate::proofs::Size::signs))]
+#[tactic(auto, using(crate::proofs::integers::SignAndMagnitude::signs))]
 fn with_sign(size: u128, is_negative: bool) -> i128
     ensures { result ≡ wrap true 128 (if is_negative then neg_ℤ (pos size) else pos size) }
 {
@@ -130,7 +130,7 @@ impl BuiltinInteger for i128 {
     type Signed = i128;
 }
 
-#[tactic(auto, using(crate::proofs::Primitive::signed_laws))]
+#[tactic(auto, using(crate::proofs::storages::Primitive::signed_laws))]
 impl Storage for i128 {
     ghost use Rattle.std.specs.Prelude.{true, refl};
     ghost use Rattle.std.proofs.Common.{lit≤};
@@ -149,21 +149,21 @@ impl Storage for i128 {
 
     const SIGNED: bool = true;
 
-    fn pattern(self) -> u128 {
+    fn storage_bits(self) -> u128 {
         self.cast_unsigned()
     }
 
-    #[tactic(auto, using(crate::proofs::BitSign::signed_shifts))]
+    #[tactic(auto, using(crate::proofs::bit_lists::SignBit::signed_shifts))]
     fn shl_by(self, n: usize) -> Self {
         self << n
     }
 
-    #[tactic(auto, using(crate::proofs::BitSign::signed_shifts))]
+    #[tactic(auto, using(crate::proofs::bit_lists::SignBit::signed_shifts))]
     fn shr_by(self, n: usize) -> Self {
         self >> n
     }
 
-    fn from_pattern(pattern: u128) -> Self {
+    fn from_storage_bits(pattern: u128) -> Self {
         pattern.cast_signed()
     }
 

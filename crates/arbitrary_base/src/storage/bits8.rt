@@ -3,7 +3,7 @@
 ghost use Rattle.std.specs.Prelude.{refl};
 
 use crate::storage::{
-    BuiltinInteger, PatternOf, Sealed, SignedOf, SignedStorage, Storage, UnsignedStorage,
+    BuiltinInteger, Sealed, SignedOf, SignedStorage, Storage, UnsignedOf, UnsignedStorage,
 };
 
 impl Sealed for u8 {}
@@ -12,12 +12,12 @@ impl UnsignedStorage for u8 {
     ghost unsigned_law = { refl };
 }
 
-impl PatternOf<u8> for u8 {
-    ghost pattern_width_law = { refl };
+impl UnsignedOf<u8> for u8 {
+    ghost unsigned_width_law = { refl };
 }
 
-impl PatternOf<i8> for u8 {
-    ghost pattern_width_law = { refl };
+impl UnsignedOf<i8> for u8 {
+    ghost unsigned_width_law = { refl };
 }
 
 impl BuiltinInteger for u8 {
@@ -26,7 +26,7 @@ impl BuiltinInteger for u8 {
     type Signed = i8;
 }
 
-#[tactic(auto, using(crate::proofs::Primitive::unsigned_laws))]
+#[tactic(auto, using(crate::proofs::storages::Primitive::unsigned_laws))]
 impl Storage for u8 {
     ghost use Rattle.std.specs.Prelude.{false, pos, unsigned_abs, refl};
     ghost use Rattle.std.proofs.Common.{lit≤};
@@ -46,21 +46,21 @@ impl Storage for u8 {
 
     const SIGNED: bool = false;
 
-    fn pattern(self) -> u128 {
+    fn storage_bits(self) -> u128 {
         self as u128
     }
 
-    #[tactic(auto, using(crate::proofs::BitSign::unsigned_shifts))]
+    #[tactic(auto, using(crate::proofs::bit_lists::SignBit::unsigned_shifts))]
     fn shl_by(self, n: usize) -> Self {
         self << n
     }
 
-    #[tactic(auto, using(crate::proofs::BitSign::unsigned_shifts))]
+    #[tactic(auto, using(crate::proofs::bit_lists::SignBit::unsigned_shifts))]
     fn shr_by(self, n: usize) -> Self {
         self >> n
     }
 
-    fn from_pattern(pattern: u128) -> Self {
+    fn from_storage_bits(pattern: u128) -> Self {
         (pattern % 256) as u8
     }
 
@@ -117,7 +117,7 @@ impl BuiltinInteger for i8 {
     type Signed = i8;
 }
 
-#[tactic(auto, using(crate::proofs::Primitive::signed_laws))]
+#[tactic(auto, using(crate::proofs::storages::Primitive::signed_laws))]
 impl Storage for i8 {
     ghost use Rattle.std.specs.Prelude.{true, refl};
     ghost use Rattle.std.proofs.Common.{lit≤};
@@ -136,21 +136,21 @@ impl Storage for i8 {
 
     const SIGNED: bool = true;
 
-    fn pattern(self) -> u128 {
+    fn storage_bits(self) -> u128 {
         self.cast_unsigned() as u128
     }
 
-    #[tactic(auto, using(crate::proofs::BitSign::signed_shifts))]
+    #[tactic(auto, using(crate::proofs::bit_lists::SignBit::signed_shifts))]
     fn shl_by(self, n: usize) -> Self {
         self << n
     }
 
-    #[tactic(auto, using(crate::proofs::BitSign::signed_shifts))]
+    #[tactic(auto, using(crate::proofs::bit_lists::SignBit::signed_shifts))]
     fn shr_by(self, n: usize) -> Self {
         self >> n
     }
 
-    fn from_pattern(pattern: u128) -> Self {
+    fn from_storage_bits(pattern: u128) -> Self {
         ((pattern % 256) as u8).cast_signed()
     }
 

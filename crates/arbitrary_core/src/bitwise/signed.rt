@@ -8,12 +8,12 @@ ghost use Rattle.arbitrary_base.specs.BitList.{bits, val, bits_and, bits_or, bit
 
 use crate::signed::Int;
 use arbitrary_base::bitwise;
-use arbitrary_base::storage::{BuiltinInteger, PatternOf, SignedStorage};
+use arbitrary_base::storage::{BuiltinInteger, SignedStorage, UnsignedOf};
 use std::ops::{BitAnd, BitAndAssign, BitOr, BitOrAssign, BitXor, BitXorAssign, Not};
 
 impl<T: BuiltinInteger + SignedStorage, const BITS: usize> BitAnd<Int<T, BITS>> for Int<T, BITS>
 where
-    T::Unsigned: PatternOf<T>,
+    T::Unsigned: UnsignedOf<T>,
 {
     type Output = Int<T, BITS>;
 
@@ -33,7 +33,7 @@ where
 impl<T: BuiltinInteger + SignedStorage, const BITS: usize> BitAndAssign<Int<T, BITS>>
     for Int<T, BITS>
 where
-    T::Unsigned: PatternOf<T>,
+    T::Unsigned: UnsignedOf<T>,
 {
     ghost bitand_assign_gives = { λ a b r. r ≡ val T.SIGNED (bits_and (bits BITS a) (bits BITS b)) };
 
@@ -50,7 +50,7 @@ where
 
 impl<T: BuiltinInteger + SignedStorage, const BITS: usize> BitOr<Int<T, BITS>> for Int<T, BITS>
 where
-    T::Unsigned: PatternOf<T>,
+    T::Unsigned: UnsignedOf<T>,
 {
     type Output = Int<T, BITS>;
 
@@ -68,7 +68,7 @@ where
 impl<T: BuiltinInteger + SignedStorage, const BITS: usize> BitOrAssign<Int<T, BITS>>
     for Int<T, BITS>
 where
-    T::Unsigned: PatternOf<T>,
+    T::Unsigned: UnsignedOf<T>,
 {
     ghost bitor_assign_gives = { λ a b r. r ≡ val T.SIGNED (bits_or (bits BITS a) (bits BITS b)) };
 
@@ -83,7 +83,7 @@ where
 
 impl<T: BuiltinInteger + SignedStorage, const BITS: usize> BitXor<Int<T, BITS>> for Int<T, BITS>
 where
-    T::Unsigned: PatternOf<T>,
+    T::Unsigned: UnsignedOf<T>,
 {
     type Output = Int<T, BITS>;
 
@@ -103,7 +103,7 @@ where
 impl<T: BuiltinInteger + SignedStorage, const BITS: usize> BitXorAssign<Int<T, BITS>>
     for Int<T, BITS>
 where
-    T::Unsigned: PatternOf<T>,
+    T::Unsigned: UnsignedOf<T>,
 {
     ghost bitxor_assign_gives = { λ a b r. r ≡ val T.SIGNED (bits_xor (bits BITS a) (bits BITS b)) };
 
@@ -118,7 +118,7 @@ where
 
 impl<T: BuiltinInteger + SignedStorage, const BITS: usize> Not for Int<T, BITS>
 where
-    T::Unsigned: PatternOf<T>,
+    T::Unsigned: UnsignedOf<T>,
 {
     type Output = Int<T, BITS>;
 

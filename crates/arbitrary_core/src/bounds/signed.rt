@@ -3,19 +3,19 @@
 ghost use Rattle.std.specs.Prelude.{◌≡◌, ◌<ℤ◌, ◌+ℤ◌, ◌-ℤ◌, pos};
 ghost use Rattle.arbitrary_base.specs.Range.{lo, hi, InRange};
 ghost use Rattle.arbitrary_base.specs.Saturation.{clamp};
-ghost use Rattle.arbitrary_core.specs.Bounds.{bounds, low_fits, high_fits, saturates};
+ghost use Rattle.arbitrary_base.proofs.storages.RangeEnds.{bounds, low_fits, high_fits, saturates};
 
 use crate::signed::Int;
 use crate::widths::HasWidth;
 use arbitrary_base::ends::{highest, lowest};
-use arbitrary_base::narrowing::from_low_bits;
 use arbitrary_base::saturating;
-use arbitrary_base::storage::{BuiltinInteger, PatternOf, SignedStorage};
+use arbitrary_base::storage::{BuiltinInteger, SignedStorage, UnsignedOf};
+use arbitrary_base::truncation::from_low_bits;
 use num_traits::{Bounded, SaturatingAdd, SaturatingSub};
 
 impl<T: BuiltinInteger + SignedStorage + HasWidth<BITS>, const BITS: usize> Bounded for Int<T, BITS>
 where
-    T::Unsigned: PatternOf<T>,
+    T::Unsigned: UnsignedOf<T>,
 {
     ghost low = { lo T.SIGNED BITS };
 
@@ -43,14 +43,14 @@ where
 impl<T: BuiltinInteger + SignedStorage + HasWidth<BITS>, const BITS: usize> SaturatingAdd
     for Int<T, BITS>
 where
-    T::Unsigned: PatternOf<T>,
+    T::Unsigned: UnsignedOf<T>,
 {
     ghost saturating_add_gives = { λ a b r. r ≡ clamp T.SIGNED BITS (a +ℤ b) };
 
-    #[tactic(auto, using(arbitrary_base::proofs::Clamp::clamped))]
+    #[tactic(auto, using(arbitrary_base::proofs::storages::Clamp::clamped))]
     fn saturating_add(&self, v: &Int<T, BITS>) -> Int<T, BITS>
         ensures value { result ≡ clamp T.SIGNED BITS (self.now +ℤ v.now) }
-        ensures kept { InRange T.SIGNED BITS (self.now +ℤ v.now) → result ≡ self.now +ℤ v.now }
+        ensures exact { InRange T.SIGNED BITS (self.now +ℤ v.now) → result ≡ self.now +ℤ v.now }
         ensures above { hi T.SIGNED BITS <ℤ (self.now +ℤ v.now) → result ≡ hi T.SIGNED BITS }
         ensures below { (self.now +ℤ v.now) <ℤ lo T.SIGNED BITS → result ≡ lo T.SIGNED BITS }
     {
@@ -63,14 +63,14 @@ where
 impl<T: BuiltinInteger + SignedStorage + HasWidth<BITS>, const BITS: usize> SaturatingSub
     for Int<T, BITS>
 where
-    T::Unsigned: PatternOf<T>,
+    T::Unsigned: UnsignedOf<T>,
 {
     ghost saturating_sub_gives = { λ a b r. r ≡ clamp T.SIGNED BITS (a -ℤ b) };
 
-    #[tactic(auto, using(arbitrary_base::proofs::Clamp::clamped))]
+    #[tactic(auto, using(arbitrary_base::proofs::storages::Clamp::clamped))]
     fn saturating_sub(&self, v: &Int<T, BITS>) -> Int<T, BITS>
         ensures value { result ≡ clamp T.SIGNED BITS (self.now -ℤ v.now) }
-        ensures kept { InRange T.SIGNED BITS (self.now -ℤ v.now) → result ≡ self.now -ℤ v.now }
+        ensures exact { InRange T.SIGNED BITS (self.now -ℤ v.now) → result ≡ self.now -ℤ v.now }
         ensures above { hi T.SIGNED BITS <ℤ (self.now -ℤ v.now) → result ≡ hi T.SIGNED BITS }
         ensures below { (self.now -ℤ v.now) <ℤ lo T.SIGNED BITS → result ≡ lo T.SIGNED BITS }
     {
@@ -82,11 +82,11 @@ where
 
 impl<T: BuiltinInteger + SignedStorage + HasWidth<BITS>, const BITS: usize> Default for Int<T, BITS>
 where
-    T::Unsigned: PatternOf<T>,
+    T::Unsigned: UnsignedOf<T>,
 {
     ghost is_default = { λ x. x ≡ pos 0 };
 
-    #[tactic(auto, using(arbitrary_base::proofs::Sum::zeros))]
+    #[tactic(auto, using(arbitrary_base::proofs::storages::CheckedSum::zeros))]
     fn default() -> Int<T, BITS> {
         Int::<T, BITS>::new(from_low_bits(0, BITS))
     }

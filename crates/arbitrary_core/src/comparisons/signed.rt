@@ -9,15 +9,15 @@ ghost use Rattle.arbitrary_base.specs.Range.{IsValidWidth};
 
 use crate::signed::Int;
 use arbitrary_base::ends::lowest;
-use arbitrary_base::narrowing::{compare, equal};
-use arbitrary_base::storage::{BuiltinInteger, PatternOf, SignedStorage, Storage};
+use arbitrary_base::storage::{BuiltinInteger, SignedStorage, Storage, UnsignedOf};
+use arbitrary_base::truncation::{compare, equal};
 use std::cmp::Ordering;
 
 /// The number's place in the order: the bits less those of the least number, in the unsigned storage.
 // Numbers below 0 stay in the lower half of their type's bits, and the others come to the top of the storage, so no sign is extended.
 fn place<T: BuiltinInteger + SignedStorage, const BITS: usize>(x: Int<T, BITS>) -> T::Unsigned
 where
-    T::Unsigned: PatternOf<T>,
+    T::Unsigned: UnsignedOf<T>,
     ensures above { pos 0 ≤ℤ x → T.Unsigned.number result ≡ x +ℤ pos (2 ^ T.WIDTH) -ℤ pos (2 ^ (BITS - 1)) }
     ensures below { x <ℤ pos 0 → T.Unsigned.number result ≡ x +ℤ pos (2 ^ (BITS - 1)) }
     ensures width { IsValidWidth BITS T.WIDTH }
@@ -29,7 +29,7 @@ where
 
 impl<T: BuiltinInteger + SignedStorage, const BITS: usize> PartialEq for Int<T, BITS>
 where
-    T::Unsigned: PatternOf<T>,
+    T::Unsigned: UnsignedOf<T>,
 {
     ghost eq = { int_eq };
 
@@ -42,14 +42,14 @@ where
 
 impl<T: BuiltinInteger + SignedStorage, const BITS: usize> Eq for Int<T, BITS>
 where
-    T::Unsigned: PatternOf<T>,
+    T::Unsigned: UnsignedOf<T>,
 {
     ghost laws = { Prim.search (comparing, rules) };
 }
 
 impl<T: BuiltinInteger + SignedStorage, const BITS: usize> PartialOrd for Int<T, BITS>
 where
-    T::Unsigned: PatternOf<T>,
+    T::Unsigned: UnsignedOf<T>,
 {
     ghost partial_cmp = { as_partial_cmp int_cmp };
 
@@ -62,7 +62,7 @@ where
 
 impl<T: BuiltinInteger + SignedStorage, const BITS: usize> Ord for Int<T, BITS>
 where
-    T::Unsigned: PatternOf<T>,
+    T::Unsigned: UnsignedOf<T>,
 {
     ghost cmp = { int_cmp };
 

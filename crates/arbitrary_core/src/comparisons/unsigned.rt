@@ -6,8 +6,8 @@ ghost use Rattle.std.specs.Cmp.Rules.{comparing};
 ghost use Rattle.std.proofs.Common.{rules};
 
 use crate::unsigned::UInt;
-use arbitrary_base::narrowing::{compare, equal};
 use arbitrary_base::storage::UnsignedStorage;
+use arbitrary_base::truncation::{compare, equal};
 use std::cmp::Ordering;
 
 impl<T: UnsignedStorage, const BITS: usize> PartialEq for UInt<T, BITS> {

@@ -4,12 +4,12 @@ ghost use Rattle.std.specs.Prelude.{Some};
 ghost use Rattle.std.specs.Fmt.{signed_decimal};
 
 use crate::signed::Int;
-use arbitrary_base::storage::{BuiltinInteger, PatternOf, SignedStorage};
+use arbitrary_base::storage::{BuiltinInteger, SignedStorage, UnsignedOf};
 use std::fmt;
 
 impl<T: BuiltinInteger + SignedStorage, const BITS: usize> fmt::Display for Int<T, BITS>
 where
-    T::Unsigned: PatternOf<T>,
+    T::Unsigned: UnsignedOf<T>,
 {
     ghost output = { λ x. Some (signed_decimal x) };
 
@@ -20,7 +20,7 @@ where
 
 impl<T: BuiltinInteger + SignedStorage, const BITS: usize> fmt::Debug for Int<T, BITS>
 where
-    T::Unsigned: PatternOf<T>,
+    T::Unsigned: UnsignedOf<T>,
 {
     ghost debug_output = { λ x. Some (signed_decimal x) };
 

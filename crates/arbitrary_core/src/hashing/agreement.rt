@@ -6,7 +6,7 @@ ghost use Rattle.std.specs.declared.cmp.Ordering.TheVariants.{Equal};
 
 use crate::signed::Int;
 use crate::unsigned::UInt;
-use arbitrary_base::storage::{BuiltinInteger, PatternOf, SignedStorage, UnsignedStorage};
+use arbitrary_base::storage::{BuiltinInteger, SignedStorage, UnsignedOf, UnsignedStorage};
 use std::hash::Hash;
 
 /// Two values of `UInt` are equal exactly where their numbers are, and exactly where neither is ordered
@@ -24,7 +24,7 @@ pub fn unsigned_agreement_law<T: UnsignedStorage, const BITS: usize>()
 #[tactic(auto, using(crate::proofs::Agreement::agreements))]
 pub fn signed_agreement_law<T: BuiltinInteger + SignedStorage, const BITS: usize>()
 where
-    T::Unsigned: PatternOf<T>,
+    T::Unsigned: UnsignedOf<T>,
     ensures equality { (x y : ℤ) → IsTrue (⟦<Int<T, BITS> as PartialEq>⟧.eq x y) ↔ (x ≡ y) }
     ensures order { (x y : ℤ) → (⟦<Int<T, BITS> as Ord>⟧.cmp x y ≡ Equal) ↔ IsTrue (⟦<Int<T, BITS> as PartialEq>⟧.eq x y) }
     ensures hash { (x y : ℤ) → IsTrue (⟦<Int<T, BITS> as PartialEq>⟧.eq x y)

@@ -9,21 +9,21 @@ use crate::signed::Int;
 use crate::unsigned::UInt;
 use arbitrary_base::ends::{highest, lowest};
 use arbitrary_base::error::TryNewError;
-use arbitrary_base::narrowing::{extended, from_low_bits};
 use arbitrary_base::storage::{
-    BuiltinInteger, PatternOf, Sealed, SignedOf, SignedStorage, Storage,
+    BuiltinInteger, Sealed, SignedOf, SignedStorage, Storage, UnsignedOf,
 };
+use arbitrary_base::truncation::{from_low_bits, to_u128_bits};
+use arbitrary_traits::counterparts::{SignedCounterpart, UnsignedCounterpart};
 use arbitrary_traits::integer::{Integer, SignedInteger};
-use arbitrary_traits::mates::{SignedMate, UnsignedMate};
 
 impl<T: BuiltinInteger + SignedStorage, const BITS: usize> Sealed for Int<T, BITS>
 where
-    T::Unsigned: PatternOf<T>,
+    T::Unsigned: UnsignedOf<T>,
 {}
 
 impl<T: BuiltinInteger + SignedStorage, const BITS: usize> Integer for Int<T, BITS>
 where
-    T::Unsigned: PatternOf<T>,
+    T::Unsigned: UnsignedOf<T>,
 {
     type UnderlyingType = T;
 
@@ -55,7 +55,7 @@ where
         Int::<T, BITS>::new(highest(BITS))
     }
 
-    #[tactic(auto, using(arbitrary_base::proofs::Sum::zeros))]
+    #[tactic(auto, using(arbitrary_base::proofs::storages::CheckedSum::zeros))]
     fn zero() -> Int<T, BITS> {
         Int::<T, BITS>::new(from_low_bits(0, BITS))
     }
@@ -72,11 +72,11 @@ where
         Int::<T, BITS>::value(self)
     }
 
-    fn extended(self) -> u128 {
-        extended(Int::<T, BITS>::value(self))
+    fn to_u128_bits(self) -> u128 {
+        to_u128_bits(Int::<T, BITS>::value(self))
     }
 
-    fn from_extended(pattern: u128) -> Int<T, BITS> {
+    fn from_u128_bits(pattern: u128) -> Int<T, BITS> {
         Int::<T, BITS>::from_bits(from_low_bits(pattern, BITS))
     }
 
@@ -139,7 +139,7 @@ where
 
 impl<T: BuiltinInteger + SignedStorage, const BITS: usize> SignedInteger for Int<T, BITS>
 where
-    T::Unsigned: PatternOf<T>,
+    T::Unsigned: UnsignedOf<T>,
 {
     ghost signed_law = { T.signed_law };
 
@@ -148,19 +148,20 @@ where
     ghost neg_law = { λ a r h. h };
 }
 
-impl<T: BuiltinInteger + SignedStorage, const BITS: usize> SignedMate<Int<T, BITS>> for Int<T, BITS>
+impl<T: BuiltinInteger + SignedStorage, const BITS: usize> SignedCounterpart<Int<T, BITS>>
+    for Int<T, BITS>
 where
-    T::Unsigned: PatternOf<T>,
+    T::Unsigned: UnsignedOf<T>,
 {
     ghost width_law = { refl };
 }
 
-impl<T: BuiltinInteger + SignedStorage, const BITS: usize> UnsignedMate<Int<T, BITS>>
+impl<T: BuiltinInteger + SignedStorage, const BITS: usize> UnsignedCounterpart<Int<T, BITS>>
     for UInt<T::Unsigned, BITS>
 where
-    T::Unsigned: BuiltinInteger + PatternOf<T>,
+    T::Unsigned: BuiltinInteger + UnsignedOf<T>,
     <T::Unsigned as BuiltinInteger>::Signed: BuiltinInteger + SignedOf<T::Unsigned>,
-    <<T::Unsigned as BuiltinInteger>::Signed as BuiltinInteger>::Unsigned: PatternOf<
+    <<T::Unsigned as BuiltinInteger>::Signed as BuiltinInteger>::Unsigned: UnsignedOf<
         <T::Unsigned as BuiltinInteger>::Signed,
     >,
 {

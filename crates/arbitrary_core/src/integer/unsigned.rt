@@ -9,19 +9,19 @@ use crate::signed::Int;
 use crate::unsigned::UInt;
 use arbitrary_base::ends::{highest, lowest};
 use arbitrary_base::error::TryNewError;
-use arbitrary_base::narrowing::{extended, from_low_bits};
 use arbitrary_base::storage::{
-    BuiltinInteger, PatternOf, Sealed, SignedOf, Storage, UnsignedStorage,
+    BuiltinInteger, Sealed, SignedOf, Storage, UnsignedOf, UnsignedStorage,
 };
+use arbitrary_base::truncation::{from_low_bits, to_u128_bits};
+use arbitrary_traits::counterparts::{SignedCounterpart, UnsignedCounterpart};
 use arbitrary_traits::integer::{Integer, UnsignedInteger};
-use arbitrary_traits::mates::{SignedMate, UnsignedMate};
 
 impl<T: UnsignedStorage, const BITS: usize> Sealed for UInt<T, BITS> {}
 
 impl<T: BuiltinInteger + UnsignedStorage, const BITS: usize> Integer for UInt<T, BITS>
 where
     T::Signed: BuiltinInteger + SignedOf<T>,
-    <T::Signed as BuiltinInteger>::Unsigned: PatternOf<T::Signed>,
+    <T::Signed as BuiltinInteger>::Unsigned: UnsignedOf<T::Signed>,
 {
     type UnderlyingType = T;
 
@@ -53,7 +53,7 @@ where
         UInt::<T, BITS>::new(highest(BITS))
     }
 
-    #[tactic(auto, using(arbitrary_base::proofs::Sum::zeros))]
+    #[tactic(auto, using(arbitrary_base::proofs::storages::CheckedSum::zeros))]
     fn zero() -> UInt<T, BITS> {
         UInt::<T, BITS>::new(from_low_bits(0, BITS))
     }
@@ -70,11 +70,11 @@ where
         UInt::<T, BITS>::value(self)
     }
 
-    fn extended(self) -> u128 {
-        extended(UInt::<T, BITS>::value(self))
+    fn to_u128_bits(self) -> u128 {
+        to_u128_bits(UInt::<T, BITS>::value(self))
     }
 
-    fn from_extended(pattern: u128) -> UInt<T, BITS> {
+    fn from_u128_bits(pattern: u128) -> UInt<T, BITS> {
         UInt::<T, BITS>::new(from_low_bits(pattern, BITS))
     }
 
@@ -138,27 +138,27 @@ where
 impl<T: BuiltinInteger + UnsignedStorage, const BITS: usize> UnsignedInteger for UInt<T, BITS>
 where
     T::Signed: BuiltinInteger + SignedOf<T>,
-    <T::Signed as BuiltinInteger>::Unsigned: PatternOf<T::Signed>,
+    <T::Signed as BuiltinInteger>::Unsigned: UnsignedOf<T::Signed>,
 {
     ghost unsigned_law = { T.unsigned_law };
 }
 
-impl<T: BuiltinInteger + UnsignedStorage, const BITS: usize> UnsignedMate<UInt<T, BITS>>
+impl<T: BuiltinInteger + UnsignedStorage, const BITS: usize> UnsignedCounterpart<UInt<T, BITS>>
     for UInt<T, BITS>
 where
     T::Signed: BuiltinInteger + SignedOf<T>,
-    <T::Signed as BuiltinInteger>::Unsigned: PatternOf<T::Signed>,
+    <T::Signed as BuiltinInteger>::Unsigned: UnsignedOf<T::Signed>,
 {
     ghost width_law = { refl };
 
     ghost number_law = { λ x. refl };
 }
 
-impl<T: BuiltinInteger + UnsignedStorage, const BITS: usize> SignedMate<UInt<T, BITS>>
+impl<T: BuiltinInteger + UnsignedStorage, const BITS: usize> SignedCounterpart<UInt<T, BITS>>
     for Int<T::Signed, BITS>
 where
     T::Signed: BuiltinInteger + SignedOf<T>,
-    <T::Signed as BuiltinInteger>::Unsigned: PatternOf<T::Signed>,
+    <T::Signed as BuiltinInteger>::Unsigned: UnsignedOf<T::Signed>,
 {
     ghost width_law = { refl };
 }

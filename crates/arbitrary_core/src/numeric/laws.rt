@@ -6,19 +6,19 @@ ghost use Rattle.arbitrary_base.specs.Range.{InRange};
 
 use crate::signed::Int;
 use crate::unsigned::UInt;
-use arbitrary_base::storage::{BuiltinInteger, PatternOf, SignedStorage, UnsignedStorage};
+use arbitrary_base::storage::{BuiltinInteger, SignedStorage, UnsignedOf, UnsignedStorage};
 use num_traits::Number;
 
 /// At `UInt`, an integer fits exactly where it is in range.
-#[tactic(auto, using(crate::specs::Fits::ranges))]
+#[tactic(auto, using(arbitrary_base::proofs::modular::Representable::ranges))]
 pub fn unsigned_range_law<T: UnsignedStorage, const BITS: usize>()
     ensures { (x : ℤ) → 1 ≤ BITS → ⟦<UInt<T, BITS> as Number>⟧.fits x ↔ InRange T.SIGNED BITS x }
 {}
 
 /// At `Int`, an integer fits exactly where it is in range.
-#[tactic(auto, using(crate::specs::Fits::ranges))]
+#[tactic(auto, using(arbitrary_base::proofs::modular::Representable::ranges))]
 pub fn signed_range_law<T: BuiltinInteger + SignedStorage, const BITS: usize>()
 where
-    T::Unsigned: PatternOf<T>,
+    T::Unsigned: UnsignedOf<T>,
     ensures { (x : ℤ) → 1 ≤ BITS → ⟦<Int<T, BITS> as Number>⟧.fits x ↔ InRange T.SIGNED BITS x }
 {}

@@ -1,17 +1,17 @@
-//! `+ - * /` and unary minus of `Int`, exact: the caller shows that the result is in range, and that a
+//! `+ - * /` and unary minus of `Int`, exact: the precondition is that the result is in range, and that a
 //! divisor is not zero. That the operands are in range is given.
 
 ghost use Rattle.std.specs.Prelude.{◌≡◌, ◌≢◌, ◌+ℤ◌, ◌-ℤ◌, ◌*ℤ◌, neg_ℤ, pos, int_div};
 ghost use Rattle.arbitrary_base.specs.Range.{InRange};
 
 use crate::signed::Int;
-use arbitrary_base::storage::{BuiltinInteger, PatternOf, SignedStorage};
+use arbitrary_base::storage::{BuiltinInteger, SignedStorage, UnsignedOf};
 use arbitrary_base::wrapping;
 use std::ops::{Add, AddAssign, Div, DivAssign, Mul, MulAssign, Neg, Sub, SubAssign};
 
 impl<T: BuiltinInteger + SignedStorage, const BITS: usize> Add<Int<T, BITS>> for Int<T, BITS>
 where
-    T::Unsigned: PatternOf<T>,
+    T::Unsigned: UnsignedOf<T>,
 {
     type Output = Int<T, BITS>;
 
@@ -19,7 +19,7 @@ where
 
     ghost add_gives = { λ a b r. r ≡ a +ℤ b };
 
-    #[tactic(auto, using(arbitrary_base::proofs::Sum::fitting))]
+    #[tactic(auto, using(arbitrary_base::proofs::storages::CheckedSum::fitting))]
     fn add(self, rhs: Int<T, BITS>) -> Int<T, BITS> {
         Int::<T, BITS>::new(wrapping::add(self.value(), rhs.value(), BITS))
     }
@@ -27,7 +27,7 @@ where
 
 impl<T: BuiltinInteger + SignedStorage, const BITS: usize> AddAssign<Int<T, BITS>> for Int<T, BITS>
 where
-    T::Unsigned: PatternOf<T>,
+    T::Unsigned: UnsignedOf<T>,
 {
     ghost can_add_assign = { λ a b. InRange T.SIGNED BITS a → InRange T.SIGNED BITS b → InRange T.SIGNED BITS (a +ℤ b) };
 
@@ -40,7 +40,7 @@ where
 
 impl<T: BuiltinInteger + SignedStorage, const BITS: usize> Sub<Int<T, BITS>> for Int<T, BITS>
 where
-    T::Unsigned: PatternOf<T>,
+    T::Unsigned: UnsignedOf<T>,
 {
     type Output = Int<T, BITS>;
 
@@ -48,7 +48,7 @@ where
 
     ghost sub_gives = { λ a b r. r ≡ a -ℤ b };
 
-    #[tactic(auto, using(arbitrary_base::proofs::Sum::fitting))]
+    #[tactic(auto, using(arbitrary_base::proofs::storages::CheckedSum::fitting))]
     fn sub(self, rhs: Int<T, BITS>) -> Int<T, BITS> {
         Int::<T, BITS>::new(wrapping::sub(self.value(), rhs.value(), BITS))
     }
@@ -56,7 +56,7 @@ where
 
 impl<T: BuiltinInteger + SignedStorage, const BITS: usize> SubAssign<Int<T, BITS>> for Int<T, BITS>
 where
-    T::Unsigned: PatternOf<T>,
+    T::Unsigned: UnsignedOf<T>,
 {
     ghost can_sub_assign = { λ a b. InRange T.SIGNED BITS a → InRange T.SIGNED BITS b → InRange T.SIGNED BITS (a -ℤ b) };
 
@@ -69,7 +69,7 @@ where
 
 impl<T: BuiltinInteger + SignedStorage, const BITS: usize> Mul<Int<T, BITS>> for Int<T, BITS>
 where
-    T::Unsigned: PatternOf<T>,
+    T::Unsigned: UnsignedOf<T>,
 {
     type Output = Int<T, BITS>;
 
@@ -77,7 +77,7 @@ where
 
     ghost mul_gives = { λ a b r. r ≡ a *ℤ b };
 
-    #[tactic(auto, using(arbitrary_base::proofs::Sum::fitting))]
+    #[tactic(auto, using(arbitrary_base::proofs::storages::CheckedSum::fitting))]
     fn mul(self, rhs: Int<T, BITS>) -> Int<T, BITS> {
         Int::<T, BITS>::new(wrapping::mul(self.value(), rhs.value(), BITS))
     }
@@ -85,7 +85,7 @@ where
 
 impl<T: BuiltinInteger + SignedStorage, const BITS: usize> MulAssign<Int<T, BITS>> for Int<T, BITS>
 where
-    T::Unsigned: PatternOf<T>,
+    T::Unsigned: UnsignedOf<T>,
 {
     ghost can_mul_assign = { λ a b. InRange T.SIGNED BITS a → InRange T.SIGNED BITS b → InRange T.SIGNED BITS (a *ℤ b) };
 
@@ -98,7 +98,7 @@ where
 
 impl<T: BuiltinInteger + SignedStorage, const BITS: usize> Div<Int<T, BITS>> for Int<T, BITS>
 where
-    T::Unsigned: PatternOf<T>,
+    T::Unsigned: UnsignedOf<T>,
 {
     type Output = Int<T, BITS>;
 
@@ -106,7 +106,7 @@ where
 
     ghost div_gives = { λ a b r. r ≡ int_div a b };
 
-    #[tactic(auto, using(arbitrary_base::proofs::Sum::fitting))]
+    #[tactic(auto, using(arbitrary_base::proofs::storages::CheckedSum::fitting))]
     fn div(self, rhs: Int<T, BITS>) -> Int<T, BITS> {
         Int::<T, BITS>::new(wrapping::div(self.value(), rhs.value(), BITS))
     }
@@ -114,7 +114,7 @@ where
 
 impl<T: BuiltinInteger + SignedStorage, const BITS: usize> DivAssign<Int<T, BITS>> for Int<T, BITS>
 where
-    T::Unsigned: PatternOf<T>,
+    T::Unsigned: UnsignedOf<T>,
 {
     ghost can_div_assign = { λ a b. (b ≢ pos 0) × InRange T.SIGNED BITS (int_div a b) };
 
@@ -127,7 +127,7 @@ where
 
 impl<T: BuiltinInteger + SignedStorage, const BITS: usize> Neg for Int<T, BITS>
 where
-    T::Unsigned: PatternOf<T>,
+    T::Unsigned: UnsignedOf<T>,
 {
     type Output = Int<T, BITS>;
 
@@ -135,7 +135,7 @@ where
 
     ghost neg_gives = { λ a r. r ≡ neg_ℤ a };
 
-    #[tactic(auto, using(arbitrary_base::proofs::Sum::fitting))]
+    #[tactic(auto, using(arbitrary_base::proofs::storages::CheckedSum::fitting))]
     fn neg(self) -> Int<T, BITS> {
         Int::<T, BITS>::new(wrapping::neg(self.value(), BITS))
     }

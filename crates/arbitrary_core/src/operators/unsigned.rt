@@ -1,4 +1,4 @@
-//! `+ - * /` of `UInt`, exact: the caller shows that the result is in range, and that a
+//! `+ - * /` of `UInt`, exact: the precondition is that the result is in range, and that a
 //! divisor is not zero. That the operands are in range is given.
 
 ghost use Rattle.std.specs.Prelude.{◌≡◌, ◌≢◌, ◌+ℤ◌, ◌-ℤ◌, ◌*ℤ◌, pos, int_div};
@@ -16,7 +16,7 @@ impl<T: UnsignedStorage, const BITS: usize> Add<UInt<T, BITS>> for UInt<T, BITS>
 
     ghost add_gives = { λ a b r. r ≡ a +ℤ b };
 
-    #[tactic(auto, using(arbitrary_base::proofs::Sum::fitting))]
+    #[tactic(auto, using(arbitrary_base::proofs::storages::CheckedSum::fitting))]
     fn add(self, rhs: UInt<T, BITS>) -> UInt<T, BITS> {
         UInt::new(wrapping::add(self.value(), rhs.value(), BITS))
     }
@@ -39,7 +39,7 @@ impl<T: UnsignedStorage, const BITS: usize> Sub<UInt<T, BITS>> for UInt<T, BITS>
 
     ghost sub_gives = { λ a b r. r ≡ a -ℤ b };
 
-    #[tactic(auto, using(arbitrary_base::proofs::Sum::fitting))]
+    #[tactic(auto, using(arbitrary_base::proofs::storages::CheckedSum::fitting))]
     fn sub(self, rhs: UInt<T, BITS>) -> UInt<T, BITS> {
         UInt::new(wrapping::sub(self.value(), rhs.value(), BITS))
     }
@@ -62,7 +62,7 @@ impl<T: UnsignedStorage, const BITS: usize> Mul<UInt<T, BITS>> for UInt<T, BITS>
 
     ghost mul_gives = { λ a b r. r ≡ a *ℤ b };
 
-    #[tactic(auto, using(arbitrary_base::proofs::Sum::fitting))]
+    #[tactic(auto, using(arbitrary_base::proofs::storages::CheckedSum::fitting))]
     fn mul(self, rhs: UInt<T, BITS>) -> UInt<T, BITS> {
         UInt::new(wrapping::mul(self.value(), rhs.value(), BITS))
     }
@@ -85,7 +85,7 @@ impl<T: UnsignedStorage, const BITS: usize> Div<UInt<T, BITS>> for UInt<T, BITS>
 
     ghost div_gives = { λ a b r. r ≡ int_div a b };
 
-    #[tactic(auto, using(arbitrary_base::proofs::Sum::fitting))]
+    #[tactic(auto, using(arbitrary_base::proofs::storages::CheckedSum::fitting))]
     fn div(self, rhs: UInt<T, BITS>) -> UInt<T, BITS> {
         UInt::new(wrapping::div(self.value(), rhs.value(), BITS))
     }

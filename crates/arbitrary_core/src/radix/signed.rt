@@ -7,12 +7,12 @@ ghost use Rattle.arbitrary_base.specs.Residue.{residue};
 
 use crate::radix;
 use crate::signed::Int;
-use arbitrary_base::storage::{BuiltinInteger, PatternOf, SignedStorage};
+use arbitrary_base::storage::{BuiltinInteger, SignedStorage, UnsignedOf};
 use std::fmt;
 
 impl<T: BuiltinInteger + SignedStorage, const BITS: usize> fmt::LowerHex for Int<T, BITS>
 where
-    T::Unsigned: PatternOf<T>,
+    T::Unsigned: UnsignedOf<T>,
 {
     fn fmt<W: fmt::Write>(&self, f: &mut fmt::Formatter<W>) -> fmt::Result
         ensures pattern { T.WIDTH ≤ 64 → WritesOnOk W.write_str_gives f.old result (digits 16 false (residue T.WIDTH self.now)) f.new }
@@ -25,7 +25,7 @@ where
 
 impl<T: BuiltinInteger + SignedStorage, const BITS: usize> fmt::UpperHex for Int<T, BITS>
 where
-    T::Unsigned: PatternOf<T>,
+    T::Unsigned: UnsignedOf<T>,
 {
     fn fmt<W: fmt::Write>(&self, f: &mut fmt::Formatter<W>) -> fmt::Result
         ensures pattern { T.WIDTH ≤ 64 → WritesOnOk W.write_str_gives f.old result (digits 16 true (residue T.WIDTH self.now)) f.new }
@@ -38,7 +38,7 @@ where
 
 impl<T: BuiltinInteger + SignedStorage, const BITS: usize> fmt::Octal for Int<T, BITS>
 where
-    T::Unsigned: PatternOf<T>,
+    T::Unsigned: UnsignedOf<T>,
 {
     fn fmt<W: fmt::Write>(&self, f: &mut fmt::Formatter<W>) -> fmt::Result
         ensures pattern { T.WIDTH ≤ 64 → WritesOnOk W.write_str_gives f.old result (digits 8 false (residue T.WIDTH self.now)) f.new }
@@ -51,7 +51,7 @@ where
 
 impl<T: BuiltinInteger + SignedStorage, const BITS: usize> fmt::Binary for Int<T, BITS>
 where
-    T::Unsigned: PatternOf<T>,
+    T::Unsigned: UnsignedOf<T>,
 {
     fn fmt<W: fmt::Write>(&self, f: &mut fmt::Formatter<W>) -> fmt::Result
         ensures pattern { T.WIDTH ≤ 64 → WritesOnOk W.write_str_gives f.old result (digits 2 false (residue T.WIDTH self.now)) f.new }
@@ -65,7 +65,7 @@ where
 // What `{:x}` and its kin in a format string ask.
 impl<T: BuiltinInteger + SignedStorage, const BITS: usize> fmt::HasDigits for Int<T, BITS>
 where
-    T::Unsigned: PatternOf<T>,
+    T::Unsigned: UnsignedOf<T>,
 {
     ghost word = { λ x. cond (nat_le T.WIDTH 64) (Some (residue T.WIDTH x)) None };
 

@@ -8,13 +8,13 @@ ghost use Rattle.arbitrary_base.specs.BitList.{bits, val, fill, shl as moved_lef
 
 use crate::signed::Int;
 use arbitrary_base::shifts;
-use arbitrary_base::storage::{BuiltinInteger, PatternOf, SignedStorage};
+use arbitrary_base::storage::{BuiltinInteger, SignedStorage, UnsignedOf};
 use arbitrary_traits::shift_amount::ShiftAmount;
 use std::ops::{Shl, ShlAssign, Shr, ShrAssign};
 
 impl<T: BuiltinInteger + SignedStorage, const BITS: usize, S: ShiftAmount> Shl<S> for Int<T, BITS>
 where
-    T::Unsigned: PatternOf<T>,
+    T::Unsigned: UnsignedOf<T>,
 {
     type Output = Int<T, BITS>;
 
@@ -35,7 +35,7 @@ where
 impl<T: BuiltinInteger + SignedStorage, const BITS: usize, S: ShiftAmount> ShlAssign<S>
     for Int<T, BITS>
 where
-    T::Unsigned: PatternOf<T>,
+    T::Unsigned: UnsignedOf<T>,
 {
     ghost can_shl_assign = { λ a k. (pos 0 ≤ℤ S.amount k) × (S.amount k <ℤ pos BITS) };
 
@@ -54,7 +54,7 @@ where
 
 impl<T: BuiltinInteger + SignedStorage, const BITS: usize, S: ShiftAmount> Shr<S> for Int<T, BITS>
 where
-    T::Unsigned: PatternOf<T>,
+    T::Unsigned: UnsignedOf<T>,
 {
     type Output = Int<T, BITS>;
 
@@ -77,7 +77,7 @@ where
 impl<T: BuiltinInteger + SignedStorage, const BITS: usize, S: ShiftAmount> ShrAssign<S>
     for Int<T, BITS>
 where
-    T::Unsigned: PatternOf<T>,
+    T::Unsigned: UnsignedOf<T>,
 {
     ghost can_shr_assign = { λ a k. (pos 0 ≤ℤ S.amount k) × (S.amount k <ℤ pos BITS) };
 

@@ -5,7 +5,7 @@ use crate::signed::Int;
 use crate::unsigned::UInt;
 use crate::widths::HasWidth;
 use arbitrary_base::storage::{
-    BuiltinInteger, PatternOf, SignedOf, SignedStorage, UnsignedStorage,
+    BuiltinInteger, SignedOf, SignedStorage, UnsignedOf, UnsignedStorage,
 };
 use arbitrary_traits::integer::Integer;
 
@@ -19,7 +19,7 @@ impl<T: BuiltinInteger + UnsignedStorage + HasWidth<BITS>, const BITS: usize> Va
     for UInt<T, BITS>
 where
     T::Signed: BuiltinInteger + SignedOf<T>,
-    <T::Signed as BuiltinInteger>::Unsigned: PatternOf<T::Signed>,
+    <T::Signed as BuiltinInteger>::Unsigned: UnsignedOf<T::Signed>,
 {
     ghost valid_law = { T.valid_law };
 }
@@ -27,7 +27,7 @@ where
 impl<T: BuiltinInteger + SignedStorage + HasWidth<BITS>, const BITS: usize> ValidWidth
     for Int<T, BITS>
 where
-    T::Unsigned: PatternOf<T>,
+    T::Unsigned: UnsignedOf<T>,
 {
     ghost valid_law = { T.valid_law };
 }

@@ -4,8 +4,8 @@ ghost use Rattle.std.specs.Prelude.{◌+◌, ◌*◌, ◌+ℤ◌, ◌-ℤ◌, �
 ghost use Rattle.std.specs.Int.{w32};
 ghost use Rattle.std.proofs.Common.{ap};
 ghost use Rattle.arbitrary_traits.specs.Assigned.{is_assigned};
-ghost use Rattle.arbitrary_traits.specs.Primitive.{lt-of_in_range, nat_eq-pos, nonzero-pos, signed-fits, signed-nonzero, sub-in_range, sub-pos};
-ghost use Rattle.arbitrary_traits.specs.PrimitiveBits.{bitand-signed, bitand-unsigned, bitor-signed, bitor-unsigned, bitxor-signed, bitxor-unsigned, not-signed, not-unsigned};
+ghost use Rattle.arbitrary_base.proofs.storages.PrimitiveOperators.{lt-of_in_range, nat_eq-pos, nonzero-pos, signed-fits, signed-nonzero, sub-in_range, sub-pos};
+ghost use Rattle.arbitrary_base.proofs.storages.PrimitiveBits.{bitand-signed, bitand-unsigned, bitor-signed, bitor-unsigned, bitxor-signed, bitxor-unsigned, not-signed, not-unsigned};
 
 use crate::integer::{SignedInteger, UnsignedInteger};
 use crate::primitives::Primitive;

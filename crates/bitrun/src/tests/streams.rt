@@ -1,10 +1,10 @@
 //! Readers and writers that take a byte a call, and give out.
 use arbitrary_int::Watched;
+use bitrun_service::serving::serve;
+use bitrun_text::fault::Fault;
 use std::io;
 use std::io::{ErrorKind, Read, Write};
 use std::test::Fail;
-use step_service::serving::serve;
-use step_text::fault::Fault;
 
 /// Gives one byte a call, and fails at one of its calls.
 #[derive(Drop)]
@@ -84,7 +84,7 @@ impl Write for Nibble {
 
 const INPUT: &[u8] = b"run i7\n5 -0 \t-64\r\n\nnot 0 0\n";
 
-const ANSWER: &[u8] = b"-6 0 -64\ndone\n";
+const OUTPUT: &[u8] = b"-6 0 -64\ndone\n";
 
 #[test]
 fn reader_fails(rt: HostRuntime) -> Result<(), Fail> {
@@ -102,7 +102,7 @@ fn reader_fails(rt: HostRuntime) -> Result<(), Fail> {
             assert_eq!(rt; outcome, if failed { Err(Fault::Read) } else { Ok(()) });
             assert_eq!(rt; reader.failed(), failed);
             let written = writer.into_inner();
-            assert_eq!(rt; written.as_slice(), if failed { b"" } else { ANSWER });
+            assert_eq!(rt; written.as_slice(), if failed { b"" } else { OUTPUT });
             let reader = reader.into_inner();
             assert_eq!(rt; reader.calls, fails_at.min(INPUT.len() + 1));
         }
@@ -113,7 +113,7 @@ fn reader_fails(rt: HostRuntime) -> Result<(), Fail> {
 #[test]
 fn writer_fails(rt: HostRuntime) -> Result<(), Fail> {
     for kind in [Some(ErrorKind::Other), Some(ErrorKind::Interrupted), None] {
-        for fails_at in 1..ANSWER.len() + 2 {
+        for fails_at in 1..OUTPUT.len() + 2 {
             let mut reader = Watched::new(INPUT);
             let mut writer = Watched::new(Nibble {
                 taken: Vec::new(rt.alloc()),
@@ -122,12 +122,12 @@ fn writer_fails(rt: HostRuntime) -> Result<(), Fail> {
                 kind,
             });
             let outcome = serve(rt.alloc(), &mut reader, &mut writer);
-            let failed = fails_at <= ANSWER.len();
+            let failed = fails_at <= OUTPUT.len();
             assert_eq!(rt; outcome, if failed { Err(Fault::Write) } else { Ok(()) });
             assert_eq!(rt; writer.failed(), failed);
             let writer = writer.into_inner();
-            assert_eq!(rt; writer.calls, fails_at.min(ANSWER.len()));
-            let begun = &ANSWER[..(fails_at - 1).min(ANSWER.len())];
+            assert_eq!(rt; writer.calls, fails_at.min(OUTPUT.len()));
+            let begun = &OUTPUT[..(fails_at - 1).min(OUTPUT.len())];
             assert_eq!(rt; writer.taken.as_slice(), begun);
         }
     }

@@ -1,7 +1,7 @@
 use Rattle.std.proofs.Common.{List, get_or, Fits, w8, ◌∙◌, ◌<◌, ℕ, length, arith, ap, sym, subst, ◌-◌, ◌*◌, ◌^◌}
 use Rattle.std.specs.Prelude.{pos}
 use Rattle.arbitrary_base.specs.Bytes.{bytes}
-use Rattle.arbitrary_base.proofs.ByteNumber.{room, whole, bytes-number, bytes_number-lt}
+use Rattle.arbitrary_base.proofs.bytes.NumberOfBytes.{room, whole, bytes-number, bytes_number-lt}
 use Rattle.arbitrary_base.proofs.byte_lists.pattern_of.Goals as goal
 
 byte : (l : List ℕ) → ((j : ℕ) → Fits w8 (get_or l j 0)) → (j : ℕ) → get_or l j 0 < 256

@@ -1,5 +1,5 @@
 use Rattle.std.proofs.Common.{arith, ◌<◌}
-use Rattle.arbitrary_base.proofs.Spare.{add-tells, none-told, flag-exact}
+use Rattle.arbitrary_base.proofs.storages.SpareBit.{add-tells, none-told, flag-exact}
 use Rattle.arbitrary_base.proofs.checked.add.Goals as goal
 
 pub returns-then-is_within : goal.returns-then-is_within

@@ -1,4 +1,4 @@
-use Rattle.arbitrary_base.proofs.Sum.{add-refuses_test}
+use Rattle.arbitrary_base.proofs.storages.CheckedSum.{add-refuses_test}
 use Rattle.arbitrary_base.proofs.checked.add_by_order.Goals as goal
 
 pub returns-else-is_below-is_below_zero : goal.returns-else-is_below-is_below_zero

@@ -1,5 +1,5 @@
 use Rattle.std.proofs.Common.{◌∙◌, sym}
-use Rattle.arbitrary_base.proofs.Quotient.{div-refuses, div-checks}
+use Rattle.arbitrary_base.proofs.integers.Quotient.{div-refuses, div-checks}
 use Rattle.arbitrary_base.proofs.checked.div_by_nonzero.Goals as goal
 
 pub returns-then-is_turned : goal.returns-then-is_turned

@@ -1,9 +1,9 @@
-use Rattle.arbitrary_base.proofs.Narrow.{InRange-wider}
-use Rattle.arbitrary_base.proofs.Spare.{flag-exact, flag-none, mul-kept}
+use Rattle.arbitrary_base.proofs.modular.Truncation.{InRange-wider}
+use Rattle.arbitrary_base.proofs.storages.SpareBit.{flag-exact, flag-none, mul-stays}
 use Rattle.arbitrary_base.proofs.checked.mul.Goals as goal
 
-pub kept-requires : goal.kept-requires
-kept-requires g c = record {
+pub from_i64-requires : goal.from_i64-requires
+from_i64-requires g c = record {
   range = InRange-wider g.T.Storage.SIGNED c.args.bits g.T.Storage.WIDTH _ c.requires.width c.requires.storage (c.is_number_of.ensures.0 c.if-is_number_of.true);
 }
 
@@ -19,5 +19,5 @@ returns-then-overflow-2 g c =
 
 pub returns-then-is_within : goal.returns-then-is_within
 returns-then-is_within g c =
-    mul-kept g.T.Storage.SIGNED c.args.bits g.T.Storage.WIDTH _ _ _ c.requires.width c.requires.storage c.overflowing_mul-product.ensures.value
+    mul-stays g.T.Storage.SIGNED c.args.bits g.T.Storage.WIDTH _ _ _ c.requires.width c.requires.storage c.overflowing_mul-product.ensures.value
     c.overflowing_mul-product.ensures.overflow c.if-overflow-2.false (c.is_within.ensures.0 c.if-is_within.true)

@@ -1,6 +1,6 @@
 use Rattle.std.proofs.Common.{ℤ, subst}
 use Rattle.arbitrary_base.specs.Exact.{ExactOrNone}
-use Rattle.arbitrary_base.proofs.Sum.{sub-from_zero, zero-InRange}
+use Rattle.arbitrary_base.proofs.storages.CheckedSum.{sub-from_zero, zero-InRange}
 use Rattle.arbitrary_base.proofs.checked.neg.Goals as goal
 
 pub sub-requires-clause-x_in : goal.sub-requires-clause-x_in

@@ -1,5 +1,5 @@
 use Rattle.std.proofs.Common.{arith, ◌<◌}
-use Rattle.arbitrary_base.proofs.Spare.{sub-tells, none-told}
+use Rattle.arbitrary_base.proofs.storages.SpareBit.{sub-tells, none-told}
 use Rattle.arbitrary_base.proofs.checked.sub.Goals as goal
 
 pub returns-then-is_within : goal.returns-then-is_within

@@ -1,4 +1,4 @@
-use Rattle.arbitrary_base.proofs.Sum.{sub-refuses_test}
+use Rattle.arbitrary_base.proofs.storages.CheckedSum.{sub-refuses_test}
 use Rattle.arbitrary_base.proofs.checked.sub_by_order.Goals as goal
 
 pub returns-else-is_below-is_below_zero : goal.returns-else-is_below-is_below_zero

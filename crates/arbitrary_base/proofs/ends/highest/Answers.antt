@@ -1,5 +1,5 @@
 use Rattle.std.proofs.Common.{◌∙◌, arith, refl, le_trans}
-use Rattle.arbitrary_base.proofs.Clamp.{wrap-below_reach}
+use Rattle.arbitrary_base.proofs.storages.Clamp.{wrap-below_reach}
 use Rattle.arbitrary_base.proofs.ends.highest.Goals as goal
 
 pub returns-clause-value : goal.returns-clause-value

@@ -1,5 +1,5 @@
 use Rattle.std.proofs.Common.{◌∙◌}
-use Rattle.arbitrary_base.proofs.Clamp.{wrap-reach}
+use Rattle.arbitrary_base.proofs.storages.Clamp.{wrap-reach}
 use Rattle.arbitrary_base.proofs.ends.lowest.Goals as goal
 
 pub returns-clause-value : goal.returns-clause-value

@@ -1,14 +1,14 @@
 use Rattle.std.proofs.Common.{arith, ◌<◌}
-use Rattle.arbitrary_base.proofs.Spare.{add-tells, overflow-told, wrap-kept}
+use Rattle.arbitrary_base.proofs.storages.SpareBit.{add-tells, overflow-told, wrap-stays}
 use Rattle.arbitrary_base.proofs.overflowing.add.Goals as goal
 
 pub returns-then-bits-WIDTH-clause-value : goal.returns-then-bits-WIDTH-clause-value
 returns-then-bits-WIDTH-clause-value g c =
-    wrap-kept g.T.Storage.SIGNED c.args.bits g.T.Storage.WIDTH _ _ _ c.requires.width c.requires.storage c.narrow-sum.ensures.value c.wrapping_add-spare.ensures
+    wrap-stays g.T.Storage.SIGNED c.args.bits g.T.Storage.WIDTH _ _ _ c.requires.width c.requires.storage c.truncated-sum.ensures.value c.wrapping_add-spare.ensures
 
 pub returns-then-bits-WIDTH-clause-overflow : goal.returns-then-bits-WIDTH-clause-overflow
 returns-then-bits-WIDTH-clause-overflow g c =
     let room : c.args.bits < g.T.Storage.WIDTH = omega (arith, c.WIDTH-then-SIGNED-2.ensures, c.if-bits-WIDTH.true) in
     overflow-told g.T.Storage.SIGNED c.args.bits _ _ _ _ c.requires.width
     (add-tells g.T.Storage.SIGNED c.args.bits g.T.Storage.WIDTH _ _ _ c.requires.width room c.requires.x_in c.requires.y_in c.wrapping_add-spare.ensures)
-    c.narrow-sum.ensures.value c.equal.ensures
+    c.truncated-sum.ensures.value c.equal.ensures

@@ -1,9 +1,9 @@
-use Rattle.arbitrary_base.proofs.Spare.{wrap-kept, mul-overflow_told}
+use Rattle.arbitrary_base.proofs.storages.SpareBit.{wrap-stays, mul-overflow_told}
 use Rattle.arbitrary_base.proofs.overflowing.mul.Goals as goal
 
 pub returns-else-WIDTH-le16-clause-value : goal.returns-else-WIDTH-le16-clause-value
 returns-else-WIDTH-le16-clause-value g c =
-    wrap-kept g.T.Storage.SIGNED c.args.bits g.T.Storage.WIDTH _ _ _ c.requires.width c.requires.storage c.narrow.ensures.value c.overflowing_mul-product.ensures.value
+    wrap-stays g.T.Storage.SIGNED c.args.bits g.T.Storage.WIDTH _ _ _ c.requires.width c.requires.storage c.truncated.ensures.value c.overflowing_mul-product.ensures.value
 
 pub returns-else-WIDTH-le16-clause-overflow : goal.returns-else-WIDTH-le16-clause-overflow
 returns-else-WIDTH-le16-clause-overflow g c =

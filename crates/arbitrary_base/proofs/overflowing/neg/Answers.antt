@@ -2,7 +2,7 @@ use Rattle.std.proofs.Common.{◌≡◌, ℤ, subst}
 use Rattle.std.specs.Prelude.{IsTrue, ◌↔◌}
 use Rattle.arbitrary_base.specs.Range.{InRange}
 use Rattle.arbitrary_base.specs.Residue.{wrap}
-use Rattle.arbitrary_base.proofs.Sum.{sub-from_zero, zero-InRange}
+use Rattle.arbitrary_base.proofs.storages.CheckedSum.{sub-from_zero, zero-InRange}
 use Rattle.arbitrary_base.proofs.overflowing.neg.Goals as goal
 
 pub sub-requires-clause-x_in : goal.sub-requires-clause-x_in

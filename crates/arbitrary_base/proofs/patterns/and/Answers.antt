@@ -1,4 +1,4 @@
-use Rattle.arbitrary_base.proofs.BitPattern.{and_pattern}
+use Rattle.arbitrary_base.proofs.bit_lists.CodeOnPatterns.{and_pattern}
 use Rattle.arbitrary_base.proofs.patterns.and.Goals as goal
 
 pub returns : goal.returns

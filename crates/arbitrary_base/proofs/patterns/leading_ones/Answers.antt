@@ -1,4 +1,4 @@
-use Rattle.arbitrary_base.proofs.BitPattern.{leading_ones_pattern, not_fits}
+use Rattle.arbitrary_base.proofs.bit_lists.CodeOnPatterns.{leading_ones_pattern, not_fits}
 use Rattle.arbitrary_base.proofs.patterns.leading_ones.Goals as goal
 
 pub leading_zeros-requires-clause-fits : goal.leading_zeros-requires-clause-fits

@@ -1,5 +1,5 @@
 use Rattle.std.proofs.Common.{arith}
-use Rattle.arbitrary_base.proofs.BitPattern.{leading_pattern}
+use Rattle.arbitrary_base.proofs.bit_lists.CodeOnPatterns.{leading_pattern}
 use Rattle.arbitrary_base.proofs.patterns.leading_zeros.Goals as goal
 
 pub overflow_sub-result-2 : goal.overflow_sub-result-2

@@ -1,4 +1,4 @@
-use Rattle.arbitrary_base.proofs.BitPattern.{or_pattern}
+use Rattle.arbitrary_base.proofs.bit_lists.CodeOnPatterns.{or_pattern}
 use Rattle.arbitrary_base.proofs.patterns.or.Goals as goal
 
 pub returns : goal.returns

@@ -1,4 +1,4 @@
-use Rattle.arbitrary_base.proofs.BitPattern.{reverse_pattern}
+use Rattle.arbitrary_base.proofs.bit_lists.CodeOnPatterns.{reverse_pattern}
 use Rattle.arbitrary_base.proofs.patterns.reverse_bits.Goals as goal
 
 pub returns-then-width-le8 : goal.returns-then-width-le8

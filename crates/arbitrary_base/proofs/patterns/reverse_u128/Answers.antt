@@ -1,5 +1,5 @@
 use Rattle.std.proofs.Common.{refl}
-use Rattle.arbitrary_base.proofs.BitPattern.{reverse_halves}
+use Rattle.arbitrary_base.proofs.bit_lists.CodeOnPatterns.{reverse_halves}
 use Rattle.arbitrary_base.proofs.patterns.reverse_u128.Goals as goal
 
 pub returns : goal.returns

@@ -1,4 +1,4 @@
-use Rattle.arbitrary_base.proofs.BitPattern.{trailing_ones_pattern, not_fits}
+use Rattle.arbitrary_base.proofs.bit_lists.CodeOnPatterns.{trailing_ones_pattern, not_fits}
 use Rattle.arbitrary_base.proofs.patterns.trailing_ones.Goals as goal
 
 pub trailing_zeros-requires-clause-fits : goal.trailing_zeros-requires-clause-fits

@@ -1,5 +1,5 @@
 use Rattle.std.proofs.Common.{◌∙◌}
-use Rattle.arbitrary_base.proofs.BitPattern.{trailing_pattern}
+use Rattle.arbitrary_base.proofs.bit_lists.CodeOnPatterns.{trailing_pattern}
 use Rattle.arbitrary_base.proofs.patterns.trailing_zeros.Goals as goal
 
 pub returns : goal.returns

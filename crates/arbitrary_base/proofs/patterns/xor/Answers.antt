@@ -1,4 +1,4 @@
-use Rattle.arbitrary_base.proofs.BitPattern.{xor_pattern}
+use Rattle.arbitrary_base.proofs.bit_lists.CodeOnPatterns.{xor_pattern}
 use Rattle.arbitrary_base.proofs.patterns.xor.Goals as goal
 
 pub returns : goal.returns

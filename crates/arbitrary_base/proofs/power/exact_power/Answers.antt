@@ -1,6 +1,6 @@
 use Rattle.std.proofs.Common.{◌≡◌, ◌/◌, ◌*ℤ◌, arith, ap}
 use Rattle.arbitrary_base.specs.Range.{InRange}
-use Rattle.arbitrary_base.proofs.Squaring.{Squaring, power-none, begun, odd-turn, even-turn, last-turn, steady-turn, room, spent, product-beyond, square-beyond, last-product, one-in_range, InRange-equal}
+use Rattle.arbitrary_base.proofs.integers.Squaring.{Squaring, power-none, begun, odd-turn, even-turn, last-turn, steady-turn, room, spent, product-beyond, square-beyond, last-product, one-in_range, InRange-equal}
 use Rattle.arbitrary_base.proofs.power.exact_power.Goals as goal
 use Rattle.arbitrary_base.proofs.power.exact_power.Goals.{then-left-eq1+in_ok-product, else-left-eq1}
 

@@ -1,5 +1,5 @@
 use Rattle.arbitrary_base.specs.Range.{InRange}
-use Rattle.arbitrary_base.proofs.Squaring.{Squaring}
+use Rattle.arbitrary_base.proofs.integers.Squaring.{Squaring}
 use Rattle.arbitrary_base.proofs.power.exact_power.Given as goal
 
 abbrev pub invariant-loop-left : goal.invariant-loop-left

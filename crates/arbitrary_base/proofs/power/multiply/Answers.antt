@@ -3,8 +3,8 @@
 use Rattle.std.proofs.Common.{◌≡◌, ℕ, arith, sym, subst, refl, ◌∙◌}
 use Rattle.std.specs.Prelude.{◌*ℤ◌, Some}
 use Rattle.arbitrary_base.specs.Exact.{ExactOrNone}
-use Rattle.arbitrary_base.proofs.Spare.{flag-exact}
-use Rattle.arbitrary_base.proofs.Squaring.{half-product}
+use Rattle.arbitrary_base.proofs.storages.SpareBit.{flag-exact}
+use Rattle.arbitrary_base.proofs.integers.Squaring.{half-product}
 use Rattle.arbitrary_base.proofs.power.multiply.Goals as goal
 
 pub returns-else-overflow-clause-product : goal.returns-else-overflow-clause-product

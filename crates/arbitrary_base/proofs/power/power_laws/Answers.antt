@@ -1,5 +1,5 @@
 -- For `power_laws` in src/power.rt: each clause is a lemma of Powers.antt, where they are proved.
-use Rattle.arbitrary_base.proofs.Powers.{power-add, power-mul}
+use Rattle.arbitrary_base.proofs.integers.Powers.{power-add, power-mul}
 use Rattle.arbitrary_base.proofs.power.power_laws.Goals as goal
 
 pub returns-clause-sums : goal.returns-clause-sums

@@ -1,6 +1,6 @@
-use Rattle.arbitrary_base.proofs.Narrow.{InRange-wider}
-use Rattle.arbitrary_base.proofs.Clamp.{clamp-InRange}
-use Rattle.arbitrary_base.proofs.Squaring.{count-bound, far-end}
+use Rattle.arbitrary_base.proofs.modular.Truncation.{InRange-wider}
+use Rattle.arbitrary_base.proofs.storages.Clamp.{clamp-InRange}
+use Rattle.arbitrary_base.proofs.integers.Squaring.{count-bound, far-end}
 use Rattle.arbitrary_base.proofs.power.saturating_pow_counted.Goals as goal
 use Rattle.arbitrary_base.proofs.power.saturating_pow_counted.Goals.{in-Some, in-None}
 

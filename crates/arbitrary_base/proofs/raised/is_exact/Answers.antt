@@ -1,4 +1,4 @@
-use Rattle.arbitrary_base.proofs.Product.{product-test}
+use Rattle.arbitrary_base.proofs.integers.ExactProduct.{product-test}
 use Rattle.arbitrary_base.proofs.raised.is_exact.Goals as goal
 
 pub returns-else-is_zero : goal.returns-else-is_zero

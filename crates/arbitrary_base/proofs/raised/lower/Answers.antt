@@ -1,4 +1,4 @@
-use Rattle.arbitrary_base.proofs.Multiple.{lower-value}
+use Rattle.arbitrary_base.proofs.storages.RaisedNumber.{lower-value}
 use Rattle.arbitrary_base.proofs.raised.lower.Goals as goal
 
 pub returns : goal.returns

@@ -1,8 +1,8 @@
 use Rattle.std.proofs.Common.{arith, refl}
 use Rattle.std.specs.Prelude.{◌-◌, ◌*ℤ◌}
-use Rattle.arbitrary_base.proofs.Narrow.{InRange-of_wrap}
-use Rattle.arbitrary_base.proofs.Multiple.{lowered, raised-overflow}
-use Rattle.arbitrary_base.proofs.Product.{raised-even, raised-in, raised-product}
+use Rattle.arbitrary_base.proofs.modular.Truncation.{InRange-of_wrap}
+use Rattle.arbitrary_base.proofs.storages.RaisedNumber.{lowered, raised-overflow}
+use Rattle.arbitrary_base.proofs.integers.ExactProduct.{raised-even, raised-in, raised-product}
 use Rattle.arbitrary_base.proofs.raised.mul.Goals as goal
 
 pub lower-requires-clause-x_in : goal.lower-requires-clause-x_in

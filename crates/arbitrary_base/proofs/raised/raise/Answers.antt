@@ -1,4 +1,4 @@
-use Rattle.arbitrary_base.proofs.Multiple.{raise-value}
+use Rattle.arbitrary_base.proofs.storages.RaisedNumber.{raise-value}
 use Rattle.arbitrary_base.proofs.raised.raise.Goals as goal
 
 pub returns : goal.returns

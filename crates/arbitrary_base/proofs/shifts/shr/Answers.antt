@@ -1,12 +1,12 @@
-use Rattle.arbitrary_base.proofs.BitSign.{shr-narrow_value, shr-narrow_range}
+use Rattle.arbitrary_base.proofs.bit_lists.SignBit.{shr-narrow_value, shr-narrow_range}
 use Rattle.arbitrary_base.proofs.shifts.shr.Goals as goal
 
 pub returns-clause-value : goal.returns-clause-value
 returns-clause-value g c =
-    shr-narrow_value g.T.Storage.SIGNED c.args.bits g.T.Storage.WIDTH c.args.amount (g.T.Storage.number c.args.x) (g.T.Storage.number c.narrow.result) (g.T.Storage.number c.shr_by.result)
-    c.shr_by.ensures c.narrow.ensures.value c.narrow.ensures.range c.requires.width c.requires.storage c.requires.within
+    shr-narrow_value g.T.Storage.SIGNED c.args.bits g.T.Storage.WIDTH c.args.amount (g.T.Storage.number c.args.x) (g.T.Storage.number c.truncated.result) (g.T.Storage.number c.shr_by.result)
+    c.shr_by.ensures c.truncated.ensures.value c.truncated.ensures.range c.requires.width c.requires.storage c.requires.within
 
 pub returns-clause-range : goal.returns-clause-range
 returns-clause-range g c =
-    shr-narrow_range g.T.Storage.SIGNED c.args.bits g.T.Storage.WIDTH c.args.amount (g.T.Storage.number c.narrow.result) (g.T.Storage.number c.shr_by.result)
-    c.shr_by.ensures c.narrow.ensures.range c.requires.width c.requires.storage c.requires.within
+    shr-narrow_range g.T.Storage.SIGNED c.args.bits g.T.Storage.WIDTH c.args.amount (g.T.Storage.number c.truncated.result) (g.T.Storage.number c.shr_by.result)
+    c.shr_by.ensures c.truncated.ensures.range c.requires.width c.requires.storage c.requires.within

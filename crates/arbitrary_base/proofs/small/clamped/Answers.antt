@@ -1,6 +1,6 @@
 use Rattle.std.proofs.Common.{◌∙◌, to_z-of_z}
 use Rattle.std.specs.Int.{w64}
-use Rattle.arbitrary_base.proofs.SmallNumber.{end-high, between-ends}
+use Rattle.arbitrary_base.proofs.storages.SixteenBits.{end-high, between-ends}
 use Rattle.arbitrary_base.proofs.small.clamped.Goals as goal
 
 pub returns-then-high-x : goal.returns-then-high-x

@@ -1,7 +1,7 @@
 use Rattle.std.proofs.Common.{◌∙◌, to_z-of_z}
 use Rattle.std.specs.Prelude.{◌*ℤ◌}
 use Rattle.std.specs.Int.{w64}
-use Rattle.arbitrary_base.proofs.SmallNumber.{small-product}
+use Rattle.arbitrary_base.proofs.storages.SixteenBits.{small-product}
 use Rattle.arbitrary_base.proofs.small.product.Goals as goal
 
 pub overflow_mul-result : goal.overflow_mul-result

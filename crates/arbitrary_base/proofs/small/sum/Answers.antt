@@ -1,7 +1,7 @@
 use Rattle.std.proofs.Common.{◌∙◌, to_z-of_z}
 use Rattle.std.specs.Prelude.{◌+ℤ◌}
 use Rattle.std.specs.Int.{w64}
-use Rattle.arbitrary_base.proofs.SmallNumber.{small-sum}
+use Rattle.arbitrary_base.proofs.storages.SixteenBits.{small-sum}
 use Rattle.arbitrary_base.proofs.small.sum.Goals as goal
 
 pub overflow_add-result : goal.overflow_add-result

@@ -1,6 +1,6 @@
 use Rattle.std.proofs.Common.{◌≡◌, ℤ, subst}
 use Rattle.arbitrary_base.specs.Residue.{wrap}
-use Rattle.arbitrary_base.proofs.Sum.{sub-from_zero}
+use Rattle.arbitrary_base.proofs.storages.CheckedSum.{sub-from_zero}
 use Rattle.arbitrary_base.proofs.wrapping.neg.Goals as goal
 
 pub returns-clause-value : goal.returns-clause-value

@@ -4,5 +4,5 @@ use Rattle.arbitrary_int.proofs.runs.is_zero.Goals as goal
 
 pub returns : goal.returns
 returns g c =
-    zero_test g.R.Integer.IS_SIGNED g.R.Integer.BITS c.extended.result (g.R.Integer.number c.args.x) _ (g.met.R.Integer.width_law c.extended.ensures.width) c.extended.ensures.range
-    c.extended.ensures.value refl
+    zero_test g.R.Integer.IS_SIGNED g.R.Integer.BITS c.to_u128_bits.result (g.R.Integer.number c.args.x) _ (g.met.R.Integer.width_law c.to_u128_bits.ensures.width) c.to_u128_bits.ensures.range
+    c.to_u128_bits.ensures.value refl

@@ -4,11 +4,11 @@ use Rattle.examples.proofs.generic.mean.Goals as goal
 
 pub from_-requires-clause-range : goal.from_-requires-clause-range
 from_-requires-clause-range g c _ =
-    (mean-is g.T.Integer.IS_SIGNED g.T.Integer.BITS c.extended-a.result c.extended-b.result _ (g.T.Integer.number c.args.a) (g.T.Integer.number c.args.b) g.met.T.UnsignedInteger.unsigned_law (g.met.T.Integer.width_law c.extended-a.ensures.width)
-    c.extended-a.ensures.range c.extended-b.ensures.range c.extended-a.ensures.value c.extended-b.ensures.value refl).0
+    (mean-is g.T.Integer.IS_SIGNED g.T.Integer.BITS c.to_u128_bits-a.result c.to_u128_bits-b.result _ (g.T.Integer.number c.args.a) (g.T.Integer.number c.args.b) g.met.T.UnsignedInteger.unsigned_law (g.met.T.Integer.width_law c.to_u128_bits-a.ensures.width)
+    c.to_u128_bits-a.ensures.range c.to_u128_bits-b.ensures.range c.to_u128_bits-a.ensures.value c.to_u128_bits-b.ensures.value refl).0
 
 pub returns : goal.returns
 returns g c =
     c.from_.ensures.value
-    ∙ (mean-is g.T.Integer.IS_SIGNED g.T.Integer.BITS c.extended-a.result c.extended-b.result _ (g.T.Integer.number c.args.a) (g.T.Integer.number c.args.b) g.met.T.UnsignedInteger.unsigned_law (g.met.T.Integer.width_law c.extended-a.ensures.width)
-    c.extended-a.ensures.range c.extended-b.ensures.range c.extended-a.ensures.value c.extended-b.ensures.value refl).1
+    ∙ (mean-is g.T.Integer.IS_SIGNED g.T.Integer.BITS c.to_u128_bits-a.result c.to_u128_bits-b.result _ (g.T.Integer.number c.args.a) (g.T.Integer.number c.args.b) g.met.T.UnsignedInteger.unsigned_law (g.met.T.Integer.width_law c.to_u128_bits-a.ensures.width)
+    c.to_u128_bits-a.ensures.range c.to_u128_bits-b.ensures.range c.to_u128_bits-a.ensures.value c.to_u128_bits-b.ensures.value refl).1

@@ -2,7 +2,7 @@ use Rattle.std.proofs.Common.{◌∙◌, Bool, sym, ap, to_z-of_z, pos}
 use Rattle.std.specs.Prelude.{true, neg_ℤ, if◌then◌else◌}
 use Rattle.std.specs.Int.{w128}
 use Rattle.arbitrary_base.specs.Residue.{wrap}
-use Rattle.arbitrary_base.proofs.Primitive.{signed-from_small}
+use Rattle.arbitrary_base.proofs.storages.Primitive.{signed-from_small}
 use Rattle.arbitrary_base.proofs.storage.bits128.with_sign.Goals as goal
 
 pub returns-else-is_negative : goal.returns-else-is_negative

@@ -2,44 +2,44 @@ use Rattle.std.specs.Prelude.{◌≡◌, Bool, ◌<◌}
 use Rattle.std.proofs.Common.{arith, sym, subst, ◌∙◌}
 use Rattle.arbitrary_base.specs.Range.{InRange}
 use Rattle.arbitrary_base.specs.BitList.{bits, val, fill, shr}
-use Rattle.arbitrary_base.proofs.Operation.{right-is}
-use Rattle.arbitrary_base.proofs.Shifted.{shr-high, shr-low, shr-quotient, shr-range}
+use Rattle.arbitrary_base.proofs.operations.Definition.{right-is}
+use Rattle.arbitrary_base.proofs.operations.ShiftAsProduct.{shr-high, shr-low, shr-quotient, shr-range}
 use Rattle.arbitrary_calls.proofs.fixed_width.FixedWidth.checked_shr.Goals as goal
 
 pub returns-then-amount-BITS-clause-operation : goal.returns-then-amount-BITS-clause-operation
 returns-then-amount-BITS-clause-operation g c =
     let t = g.met.Self.FixedWidth.sign_law in
-    let e : g.Self.Integer.number c.from_kept.result ≡ val g.Self.Integer.IS_SIGNED (shr (bits g.Self.Integer.BITS (g.Self.Integer.number c.args.self)) c.args.amount (fill g.Self.Integer.IS_SIGNED (bits g.Self.Integer.BITS (g.Self.Integer.number c.args.self)))) = cc in
+    let e : g.Self.Integer.number c.from_storage.result ≡ val g.Self.Integer.IS_SIGNED (shr (bits g.Self.Integer.BITS (g.Self.Integer.number c.args.self)) c.args.amount (fill g.Self.Integer.IS_SIGNED (bits g.Self.Integer.BITS (g.Self.Integer.number c.args.self)))) = cc in
     e ∙ sym (right-is _ _ _ _)
 
 pub returns-then-amount-BITS-clause-quotient : goal.returns-then-amount-BITS-clause-quotient
 returns-then-amount-BITS-clause-quotient g c d =
     let t = g.met.Self.FixedWidth.sign_law in
     let l : c.args.amount < g.Self.Integer.BITS = omega arith in
-    let r = subst (λ (s : Bool). InRange s g.Self.Integer.BITS (g.Self.Integer.number c.args.self)) t c.kept.ensures.range in
-    let e : g.Self.Integer.number c.from_kept.result ≡ val g.Self.Integer.IS_SIGNED (shr (bits g.Self.Integer.BITS (g.Self.Integer.number c.args.self)) c.args.amount (fill g.Self.Integer.IS_SIGNED (bits g.Self.Integer.BITS (g.Self.Integer.number c.args.self)))) = cc in
-    shr-quotient _ _ _ _ _ d c.kept.ensures.some l r e
+    let r = subst (λ (s : Bool). InRange s g.Self.Integer.BITS (g.Self.Integer.number c.args.self)) t c.to_storage.ensures.range in
+    let e : g.Self.Integer.number c.from_storage.result ≡ val g.Self.Integer.IS_SIGNED (shr (bits g.Self.Integer.BITS (g.Self.Integer.number c.args.self)) c.args.amount (fill g.Self.Integer.IS_SIGNED (bits g.Self.Integer.BITS (g.Self.Integer.number c.args.self)))) = cc in
+    shr-quotient _ _ _ _ _ d c.to_storage.ensures.some l r e
 
 pub returns-then-amount-BITS-clause-low : goal.returns-then-amount-BITS-clause-low
 returns-then-amount-BITS-clause-low g c =
     let t = g.met.Self.FixedWidth.sign_law in
     let l : c.args.amount < g.Self.Integer.BITS = omega arith in
-    let r = subst (λ (s : Bool). InRange s g.Self.Integer.BITS (g.Self.Integer.number c.args.self)) t c.kept.ensures.range in
-    let e : g.Self.Integer.number c.from_kept.result ≡ val g.Self.Integer.IS_SIGNED (shr (bits g.Self.Integer.BITS (g.Self.Integer.number c.args.self)) c.args.amount (fill g.Self.Integer.IS_SIGNED (bits g.Self.Integer.BITS (g.Self.Integer.number c.args.self)))) = cc in
-    shr-low _ _ _ _ _ c.kept.ensures.some l r e
+    let r = subst (λ (s : Bool). InRange s g.Self.Integer.BITS (g.Self.Integer.number c.args.self)) t c.to_storage.ensures.range in
+    let e : g.Self.Integer.number c.from_storage.result ≡ val g.Self.Integer.IS_SIGNED (shr (bits g.Self.Integer.BITS (g.Self.Integer.number c.args.self)) c.args.amount (fill g.Self.Integer.IS_SIGNED (bits g.Self.Integer.BITS (g.Self.Integer.number c.args.self)))) = cc in
+    shr-low _ _ _ _ _ c.to_storage.ensures.some l r e
 
 pub returns-then-amount-BITS-clause-high : goal.returns-then-amount-BITS-clause-high
 returns-then-amount-BITS-clause-high g c =
     let t = g.met.Self.FixedWidth.sign_law in
     let l : c.args.amount < g.Self.Integer.BITS = omega arith in
-    let r = subst (λ (s : Bool). InRange s g.Self.Integer.BITS (g.Self.Integer.number c.args.self)) t c.kept.ensures.range in
-    let e : g.Self.Integer.number c.from_kept.result ≡ val g.Self.Integer.IS_SIGNED (shr (bits g.Self.Integer.BITS (g.Self.Integer.number c.args.self)) c.args.amount (fill g.Self.Integer.IS_SIGNED (bits g.Self.Integer.BITS (g.Self.Integer.number c.args.self)))) = cc in
-    shr-high _ _ _ _ _ c.kept.ensures.some l r e
+    let r = subst (λ (s : Bool). InRange s g.Self.Integer.BITS (g.Self.Integer.number c.args.self)) t c.to_storage.ensures.range in
+    let e : g.Self.Integer.number c.from_storage.result ≡ val g.Self.Integer.IS_SIGNED (shr (bits g.Self.Integer.BITS (g.Self.Integer.number c.args.self)) c.args.amount (fill g.Self.Integer.IS_SIGNED (bits g.Self.Integer.BITS (g.Self.Integer.number c.args.self)))) = cc in
+    shr-high _ _ _ _ _ c.to_storage.ensures.some l r e
 
 pub returns-then-amount-BITS-clause-range : goal.returns-then-amount-BITS-clause-range
 returns-then-amount-BITS-clause-range g c =
     let t = g.met.Self.FixedWidth.sign_law in
     let l : c.args.amount < g.Self.Integer.BITS = omega arith in
-    let r = subst (λ (s : Bool). InRange s g.Self.Integer.BITS (g.Self.Integer.number c.args.self)) t c.kept.ensures.range in
-    let e : g.Self.Integer.number c.from_kept.result ≡ val g.Self.Integer.IS_SIGNED (shr (bits g.Self.Integer.BITS (g.Self.Integer.number c.args.self)) c.args.amount (fill g.Self.Integer.IS_SIGNED (bits g.Self.Integer.BITS (g.Self.Integer.number c.args.self)))) = cc in
-    shr-range _ _ _ _ _ c.kept.ensures.some l r e
+    let r = subst (λ (s : Bool). InRange s g.Self.Integer.BITS (g.Self.Integer.number c.args.self)) t c.to_storage.ensures.range in
+    let e : g.Self.Integer.number c.from_storage.result ≡ val g.Self.Integer.IS_SIGNED (shr (bits g.Self.Integer.BITS (g.Self.Integer.number c.args.self)) c.args.amount (fill g.Self.Integer.IS_SIGNED (bits g.Self.Integer.BITS (g.Self.Integer.number c.args.self)))) = cc in
+    shr-range _ _ _ _ _ c.to_storage.ensures.some l r e

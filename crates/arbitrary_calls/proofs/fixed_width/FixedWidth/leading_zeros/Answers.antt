@@ -2,9 +2,9 @@ use Rattle.std.specs.Prelude.{◌≡◌, ◌≤◌, ◌<◌, ◌-◌, ◌%◌, �
 use Rattle.std.proofs.Common.{ap, sym, subst, ◌∙◌}
 use Rattle.std.proofs.Math.Nat.{mod-eq_of_lt}
 use Rattle.arbitrary_base.specs.BitList.{bits, tail}
-use Rattle.arbitrary_base.proofs.BitCount.{tail-fits}
-use Rattle.arbitrary_base.proofs.BitValue.{bits-residue}
-use Rattle.arbitrary_base.proofs.CountBounds.{leading-none, leading-found, leading-negative, leading-low, leading-high}
+use Rattle.arbitrary_base.proofs.bit_lists.Count.{tail-fits}
+use Rattle.arbitrary_base.proofs.bit_lists.TwosComplement.{bits-residue}
+use Rattle.arbitrary_base.proofs.operations.ZeroRunBounds.{leading-none, leading-found, leading-negative, leading-low, leading-high}
 use Rattle.arbitrary_calls.proofs.fixed_width.FixedWidth.leading_zeros.Goals as goal
 
 pub returns : goal.returns
@@ -12,11 +12,11 @@ returns g c =
     let s = g.Self.Integer.IS_SIGNED in
     let B = g.Self.Integer.BITS in
     let x = g.Self.Integer.number c.args.self in
-    let h = c.pattern.ensures.some in
-    let f = c.pattern.ensures.range in
-    let n : c.cut.result ≡ c.pattern.result % 2 ^ B = cc in
-    let p = n ∙ mod-eq_of_lt c.pattern.ensures.fits ∙ c.pattern.ensures.value in
-    let v : c.leading_zeros.result ≡ tail false (bits B (pos c.cut.result)) = cc in
+    let h = c.low_bits.ensures.some in
+    let f = c.low_bits.ensures.range in
+    let n : c.masked.result ≡ c.low_bits.result % 2 ^ B = cc in
+    let p = n ∙ mod-eq_of_lt c.low_bits.ensures.fits ∙ c.low_bits.ensures.value in
+    let v : c.leading_zeros.result ≡ tail false (bits B (pos c.masked.result)) = cc in
     let e = v ∙ ap (tail false) (bits-residue B _ x p) in
     record {
       value = e;

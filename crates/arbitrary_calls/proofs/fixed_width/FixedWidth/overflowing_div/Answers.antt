@@ -1,5 +1,5 @@
-use Rattle.arbitrary_base.proofs.Wrapped.{wrapped-kept}
+use Rattle.arbitrary_base.proofs.modular.ExactOrCongruent.{wrapped-exact}
 use Rattle.arbitrary_calls.proofs.fixed_width.FixedWidth.overflowing_div.Goals as goal
 
-pub returns-clause-kept : goal.returns-clause-kept
-returns-clause-kept g c f = let t = g.met.Self.FixedWidth.sign_law in wrapped-kept _ _ _ _ c.kept.ensures.some f (cc)
+pub returns-clause-exact : goal.returns-clause-exact
+returns-clause-exact g c f = let t = g.met.Self.FixedWidth.sign_law in wrapped-exact _ _ _ _ c.to_storage.ensures.some f (cc)

@@ -1,20 +1,20 @@
 use Rattle.std.specs.Prelude.{◌≡◌, pos, ◌%◌, ◌≤◌}
 use Rattle.std.proofs.Common.{arith, sym, ◌∙◌}
 use Rattle.arbitrary_base.specs.BitList.{bits, num, rotr}
-use Rattle.arbitrary_base.proofs.BitResult.{rotr-value}
-use Rattle.arbitrary_base.proofs.Undone.{rotr-undoes}
-use Rattle.arbitrary_base.proofs.Operation.{rotr-is}
+use Rattle.arbitrary_base.proofs.bit_lists.ResultOfPattern.{rotr-value}
+use Rattle.arbitrary_base.proofs.modular.Inverse.{rotr-undoes}
+use Rattle.arbitrary_base.proofs.operations.Definition.{rotr-is}
 use Rattle.arbitrary_calls.proofs.fixed_width.FixedWidth.rotate_right.Goals as goal
 
 pub returns : goal.returns
 returns g c =
-    let o = c.pattern.ensures.some in
+    let o = c.low_bits.ensures.some in
     let l : c.args.amount % g.Self.Integer.BITS ≤ g.Self.Integer.BITS = omega arith in
-    let q : c.rotate_right.result ≡ num (rotr (bits g.Self.Integer.BITS (pos c.pattern.result)) (c.args.amount % g.Self.Integer.BITS)) = cc in
-    let e = rotr-value g.Self.Integer.IS_SIGNED g.Self.Integer.BITS _ _ (c.args.amount % g.Self.Integer.BITS) _ _ c.pattern.ensures.value q c.from_extended.ensures in
+    let q : c.rotate_right.result ≡ num (rotr (bits g.Self.Integer.BITS (pos c.low_bits.result)) (c.args.amount % g.Self.Integer.BITS)) = cc in
+    let e = rotr-value g.Self.Integer.IS_SIGNED g.Self.Integer.BITS _ _ (c.args.amount % g.Self.Integer.BITS) _ _ c.low_bits.ensures.value q c.from_u128_bits.ensures in
     record {
       operation = e ∙ sym (rotr-is _ _ _ _);
       value = e;
       undo = λ y f d. rotr-undoes _ _ (c.args.amount % g.Self.Integer.BITS) _ _ y o l f d e;
-      range = c.pattern.ensures.range;
+      range = c.low_bits.ensures.range;
     }

@@ -3,21 +3,21 @@ use Rattle.std.proofs.Common.{arith, subst, sym, ◌∙◌}
 use Rattle.arbitrary_base.specs.Range.{InRange}
 use Rattle.arbitrary_base.specs.Residue.{Congruent}
 use Rattle.arbitrary_base.specs.BitList.{bits, val, shl}
-use Rattle.arbitrary_base.proofs.Shifted.{shl-congruent, shl-kept, shl-plain}
-use Rattle.arbitrary_base.proofs.Operation.{left-is}
+use Rattle.arbitrary_base.proofs.operations.ShiftAsProduct.{shl-congruent, shl-stays, shl-plain}
+use Rattle.arbitrary_base.proofs.operations.Definition.{left-is}
 use Rattle.arbitrary_calls.proofs.fixed_width.FixedWidth.wrapping_shl.Goals as goal
 
 pub returns : goal.returns
 returns g c =
     let t = g.met.Self.FixedWidth.sign_law in
-    let o = c.kept.ensures.some in
+    let o = c.to_storage-storage.ensures.some in
     let l : c.args.amount % g.Self.Integer.BITS < g.Self.Integer.BITS = omega arith in
-    let r = subst (λ (s : Bool). InRange s g.Self.Integer.BITS (g.Self.Integer.number c.args.self)) t c.kept.ensures.range in
-    let e : g.Self.Integer.number c.from_kept.result ≡ val g.Self.Integer.IS_SIGNED (shl (bits g.Self.Integer.BITS (g.Self.Integer.number c.args.self)) (c.args.amount % g.Self.Integer.BITS)) = cc in
+    let r = subst (λ (s : Bool). InRange s g.Self.Integer.BITS (g.Self.Integer.number c.args.self)) t c.to_storage-storage.ensures.range in
+    let e : g.Self.Integer.number c.from_storage.result ≡ val g.Self.Integer.IS_SIGNED (shl (bits g.Self.Integer.BITS (g.Self.Integer.number c.args.self)) (c.args.amount % g.Self.Integer.BITS)) = cc in
     record {
       operation = e ∙ sym (left-is _ _ _ _);
       value = e;
       plain = λ d. shl-plain _ _ _ _ _ d o l r e;
-      kept = λ f. shl-kept _ _ _ _ _ o l f e;
-      congruent = λ y d. subst (Congruent g.Self.Integer.BITS (g.Self.Integer.number c.from_kept.result)) (sym d) (shl-congruent _ _ _ _ _ o l e);
+      exact = λ f. shl-stays _ _ _ _ _ o l f e;
+      congruent = λ y d. subst (Congruent g.Self.Integer.BITS (g.Self.Integer.number c.from_storage.result)) (sym d) (shl-congruent _ _ _ _ _ o l e);
     }

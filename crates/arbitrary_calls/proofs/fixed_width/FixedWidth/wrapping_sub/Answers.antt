@@ -1,19 +1,19 @@
 use Rattle.std.proofs.Common.{refl, sym, ◌∙◌}
-use Rattle.arbitrary_base.proofs.PatternArithmetic.{difference-of_patterns}
-use Rattle.arbitrary_base.proofs.Undone.{sub-undoes}
-use Rattle.arbitrary_base.proofs.Wrapped.{wrapped-congruent, wrapped-kept}
-use Rattle.arbitrary_base.proofs.Operation.{difference-is, sum-is}
+use Rattle.arbitrary_base.proofs.modular.LowBitSums.{difference-of_patterns}
+use Rattle.arbitrary_base.proofs.modular.Inverse.{sub-undoes}
+use Rattle.arbitrary_base.proofs.modular.ExactOrCongruent.{wrapped-congruent, wrapped-exact}
+use Rattle.arbitrary_base.proofs.operations.Definition.{difference-is, sum-is}
 use Rattle.arbitrary_calls.proofs.fixed_width.FixedWidth.wrapping_sub.Goals as goal
 
 pub returns : goal.returns
 returns g c =
-    let o = c.pattern.ensures.some in
-    let e = difference-of_patterns g.Self.Integer.IS_SIGNED g.Self.Integer.BITS _ _ _ _ _ _ o c.pattern.ensures.high c.pattern.ensures.value c.pattern-2.ensures.value refl c.from_extended.ensures in
+    let o = c.low_bits.ensures.some in
+    let e = difference-of_patterns g.Self.Integer.IS_SIGNED g.Self.Integer.BITS _ _ _ _ _ _ o c.low_bits.ensures.high c.low_bits.ensures.value c.low_bits-2.ensures.value refl c.from_u128_bits.ensures in
     record {
       operation = e ∙ sym (difference-is _ _ _ _);
       value = e;
-      kept = λ f. wrapped-kept _ _ _ _ o f e;
+      exact = λ f. wrapped-exact _ _ _ _ o f e;
       congruent = wrapped-congruent _ _ _ _ e;
       undo = λ y f d. sub-undoes _ _ _ (g.Self.Integer.number c.args.rhs) _ y o f (d ∙ sum-is _ _ _ _) e;
-      range = c.pattern.ensures.range;
+      range = c.low_bits.ensures.range;
     }

@@ -1,6 +1,6 @@
 use Rattle.std.proofs.Common.{sym}
-use Rattle.arbitrary_base.proofs.Narrow.{InRange-of_wrap}
-use Rattle.arbitrary_core.proofs.Patterns.{pattern-range}
+use Rattle.arbitrary_base.proofs.modular.Truncation.{InRange-of_wrap}
+use Rattle.arbitrary_core.proofs.StoredBits.{pattern-range}
 use Rattle.arbitrary_core.proofs.signed.Int+T+BITS.to_bits.Goals as goal
 
 pub returns-clause-self_range : goal.returns-clause-self_range

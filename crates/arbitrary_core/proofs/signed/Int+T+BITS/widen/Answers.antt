@@ -1,5 +1,5 @@
 use Rattle.std.proofs.Common.{rules, ◌≤◌, arith}
-use Rattle.arbitrary_base.proofs.Narrow.{widened}
+use Rattle.arbitrary_base.proofs.modular.Truncation.{widened}
 use Rattle.arbitrary_core.proofs.signed.Int+T+BITS.widen.Goals as goal
 
 pub new-requires : goal.new-requires

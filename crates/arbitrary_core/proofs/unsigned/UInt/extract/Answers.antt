@@ -1,4 +1,4 @@
-use Rattle.arbitrary_base.proofs.Extracted.{items-number}
+use Rattle.arbitrary_base.proofs.bit_lists.ExtractedField.{items-number}
 use Rattle.arbitrary_core.proofs.unsigned.UInt.extract.Goals as goal
 
 pub returns-clause-plain : goal.returns-clause-plain

@@ -2,14 +2,14 @@ use Rattle.std.proofs.Common.{◌≡◌, ◌<◌, ◌*◌, ◌^◌, ◌∙◌, r
 use Rattle.std.specs.Prelude.{pos}
 use Rattle.arbitrary_base.specs.Residue.{wrap}
 use Rattle.arbitrary_base.specs.Bytes.{bytes_number}
-use Rattle.arbitrary_base.proofs.ByteNumber.{bytes-wrap, wrap-number_of, unsigned-number_of}
+use Rattle.arbitrary_base.proofs.bytes.NumberOfBytes.{bytes-wrap, wrap-number_of, unsigned-number_of}
 use Rattle.arbitrary_int.proofs.byte_orders.ByteOrders.from_le_bytes.Goals as goal
 
 pub returns-clause-bytes : goal.returns-clause-bytes
-returns-clause-bytes g c = bytes-wrap _ _ _ _ _ g.met.Self.ByteOrders.width_law c.from_extended.ensures ∙ search rules
+returns-clause-bytes g c = bytes-wrap _ _ _ _ _ g.met.Self.ByteOrders.width_law c.from_u128_bits.ensures ∙ search rules
 
 pub returns-clause-number : goal.returns-clause-number
-returns-clause-number g c = c.from_extended.ensures ∙ ap (λ (p : ℕ). wrap g.Self.Integer.IS_SIGNED g.Self.Integer.BITS (pos p)) c.pattern_of.ensures.value
+returns-clause-number g c = c.from_u128_bits.ensures ∙ ap (λ (p : ℕ). wrap g.Self.Integer.IS_SIGNED g.Self.Integer.BITS (pos p)) c.pattern_of.ensures.value
 
 pub returns-clause-unsigned : goal.returns-clause-unsigned
 returns-clause-unsigned g c u =

@@ -1,5 +1,5 @@
 use Rattle.std.proofs.Common.{◌∙◌}
-use Rattle.arbitrary_base.proofs.Wrap.{wrap-of_in_range}
+use Rattle.arbitrary_base.proofs.modular.Residue.{wrap-of_in_range}
 use Rattle.arbitrary_traits.proofs.integer.Integer.from_.Goals as goal
 
 pub returns-clause-value : goal.returns-clause-value

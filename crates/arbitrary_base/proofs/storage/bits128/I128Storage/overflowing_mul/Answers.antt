@@ -1,7 +1,7 @@
 use Rattle.std.proofs.Common.{◌∙◌, ◌≡◌, ℤ, ◌*◌, ◌%◌, ◌^◌, ap, to_z-of_z, pos, to_z, of_z}
 use Rattle.std.specs.Prelude.{unsigned_abs, int_lt}
 use Rattle.std.specs.Int.{w128}
-use Rattle.arbitrary_base.proofs.Size.{mul-by_sizes}
+use Rattle.arbitrary_base.proofs.integers.SignAndMagnitude.{mul-by_sizes}
 use Rattle.arbitrary_base.proofs.storage.bits128.I128Storage.overflowing_mul.Goals as goal
 
 pub returns-clause-value : goal.returns-clause-value

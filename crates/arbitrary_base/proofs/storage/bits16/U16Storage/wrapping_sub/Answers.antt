@@ -1,5 +1,5 @@
 use Rattle.std.proofs.Common.{arith}
-use Rattle.arbitrary_base.proofs.Primitive.{unsigned-sub}
+use Rattle.arbitrary_base.proofs.storages.Primitive.{unsigned-sub}
 use Rattle.arbitrary_base.proofs.storage.bits16.U16Storage.wrapping_sub.Goals as goal
 
 pub returns : goal.returns

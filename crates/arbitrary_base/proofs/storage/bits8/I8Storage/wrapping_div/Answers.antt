@@ -1,7 +1,7 @@
 use Rattle.std.proofs.Common.{◌∙◌, rules, to_z-of_z}
 use Rattle.std.specs.Prelude.{FitsSigned}
 use Rattle.std.specs.Int.{w8, int_wrapping_div}
-use Rattle.arbitrary_base.proofs.Quotient.{signed-wrapping_div}
+use Rattle.arbitrary_base.proofs.integers.Quotient.{signed-wrapping_div}
 use Rattle.arbitrary_base.proofs.storage.bits8.I8Storage.wrapping_div.Goals as goal
 
 pub returns : goal.returns

@@ -1,15 +1,15 @@
 use Rattle.std.proofs.Common.{ap, ◌∙◌, sym}
 use Rattle.arbitrary_base.specs.BitList.{bits, bits_not}
-use Rattle.arbitrary_base.proofs.BitArithmetic.{not-signed}
-use Rattle.arbitrary_base.proofs.BitNumber.{length-bits, length-not}
-use Rattle.arbitrary_core.proofs.Patterns.{bits-kept, number-of_list}
-use Rattle.arbitrary_base.proofs.Operation.{not-is}
+use Rattle.arbitrary_base.proofs.bit_lists.StdBitwise.{not-signed}
+use Rattle.arbitrary_base.proofs.bit_lists.UnsignedNumber.{length-bits, length-not}
+use Rattle.arbitrary_core.proofs.StoredBits.{bits-stays, number-of_list}
+use Rattle.arbitrary_base.proofs.operations.Definition.{not-is}
 use Rattle.arbitrary_core.proofs.bitwise.signed.IntNot.not.Goals as goal
 
 pub returns : goal.returns
 returns g c =
     let w = c.to_bits.ensures.width.0 in
-    let p = bits-kept g.row.BITS c.args.self _ c.to_bits.ensures.value in
+    let p = bits-stays g.row.BITS c.args.self _ c.to_bits.ensures.value in
     let n = length-not (bits g.row.BITS c.args.self) ∙ length-bits g.row.BITS c.args.self in
     let e = number-of_list g.T.Storage.SIGNED g.T.Unsigned.Storage.SIGNED g.row.BITS _ _ _ _ w n (ap bits_not p) c.not.ensures.value c.from_bits.ensures.number in
     record {

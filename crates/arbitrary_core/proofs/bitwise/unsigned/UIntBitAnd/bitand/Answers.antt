@@ -1,8 +1,8 @@
 use Rattle.std.specs.Prelude.{◌≡◌}
 use Rattle.std.proofs.Common.{sym, ◌∙◌}
 use Rattle.arbitrary_base.specs.BitList.{bits, val, bits_and}
-use Rattle.arbitrary_base.proofs.BitArithmetic.{and-plain, and-left, and-right, not_below_zero}
-use Rattle.arbitrary_base.proofs.Operation.{and-is}
+use Rattle.arbitrary_base.proofs.bit_lists.StdBitwise.{and-plain, and-left, and-right, not_below_zero}
+use Rattle.arbitrary_base.proofs.operations.Definition.{and-is}
 use Rattle.arbitrary_core.proofs.bitwise.unsigned.UIntBitAnd.bitand.Goals as goal
 
 pub returns : goal.returns

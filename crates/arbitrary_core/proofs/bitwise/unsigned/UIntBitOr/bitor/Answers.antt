@@ -1,8 +1,8 @@
 use Rattle.std.specs.Prelude.{◌≡◌}
 use Rattle.std.proofs.Common.{sym, ◌∙◌}
 use Rattle.arbitrary_base.specs.BitList.{bits, val, bits_or}
-use Rattle.arbitrary_base.proofs.BitArithmetic.{or-plain, not_below_zero}
-use Rattle.arbitrary_base.proofs.Operation.{or-is}
+use Rattle.arbitrary_base.proofs.bit_lists.StdBitwise.{or-plain, not_below_zero}
+use Rattle.arbitrary_base.proofs.operations.Definition.{or-is}
 use Rattle.arbitrary_core.proofs.bitwise.unsigned.UIntBitOr.bitor.Goals as goal
 
 pub returns : goal.returns

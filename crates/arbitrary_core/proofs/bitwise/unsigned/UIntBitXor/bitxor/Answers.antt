@@ -1,9 +1,9 @@
 use Rattle.std.specs.Prelude.{◌≡◌}
 use Rattle.std.proofs.Common.{sym, ◌∙◌}
 use Rattle.arbitrary_base.specs.BitList.{bits, val, bits_xor}
-use Rattle.arbitrary_base.proofs.BitArithmetic.{xor-plain, xor-same, not_below_zero}
-use Rattle.arbitrary_base.proofs.Undone.{xor-undoes}
-use Rattle.arbitrary_base.proofs.Operation.{xor-is}
+use Rattle.arbitrary_base.proofs.bit_lists.StdBitwise.{xor-plain, xor-same, not_below_zero}
+use Rattle.arbitrary_base.proofs.modular.Inverse.{xor-undoes}
+use Rattle.arbitrary_base.proofs.operations.Definition.{xor-is}
 use Rattle.arbitrary_core.proofs.bitwise.unsigned.UIntBitXor.bitxor.Goals as goal
 
 pub returns : goal.returns

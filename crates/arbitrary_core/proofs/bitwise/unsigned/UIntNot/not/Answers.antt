@@ -1,8 +1,8 @@
 use Rattle.std.specs.Prelude.{◌≡◌}
 use Rattle.std.proofs.Common.{sym, ◌∙◌}
 use Rattle.arbitrary_base.specs.BitList.{bits, val, bits_not}
-use Rattle.arbitrary_base.proofs.BitArithmetic.{not-unsigned}
-use Rattle.arbitrary_base.proofs.Operation.{not-is}
+use Rattle.arbitrary_base.proofs.bit_lists.StdBitwise.{not-unsigned}
+use Rattle.arbitrary_base.proofs.operations.Definition.{not-is}
 use Rattle.arbitrary_core.proofs.bitwise.unsigned.UIntNot.not.Goals as goal
 
 pub returns : goal.returns

@@ -1,4 +1,4 @@
-use Rattle.arbitrary_core.proofs.Patterns.{same-patterns}
+use Rattle.arbitrary_core.proofs.StoredBits.{same-patterns}
 use Rattle.arbitrary_core.proofs.comparisons.signed.IntPartialEq.eq.Goals as goal
 
 pub returns : goal.returns

@@ -1,7 +1,7 @@
 use Rattle.std.proofs.Common.{◌∙◌, ap}
 use Rattle.arbitrary_base.specs.Residue.{wrap}
-use Rattle.arbitrary_base.proofs.Undone.{mate-undoes}
-use Rattle.arbitrary_base.proofs.Wrapped.{wrapped-congruent}
+use Rattle.arbitrary_base.proofs.modular.Inverse.{counterpart-undoes}
+use Rattle.arbitrary_base.proofs.modular.ExactOrCongruent.{wrapped-congruent}
 use Rattle.arbitrary_core.proofs.integer.signed.IntInteger.from_unsigned.Goals as goal
 
 pub returns : goal.returns
@@ -10,5 +10,5 @@ returns g c =
     record {
       value = e;
       congruent = wrapped-congruent g.T.Storage.SIGNED g.row.BITS _ _ e;
-      undo = λ y f d. mate-undoes g.T.Storage.SIGNED g.row.BITS _ _ y (c.value.ensures.width.0) f d e;
+      undo = λ y f d. counterpart-undoes g.T.Storage.SIGNED g.row.BITS _ _ y (c.value.ensures.width.0) f d e;
     }

@@ -1,6 +1,6 @@
 use Rattle.std.specs.Prelude.{false}
-use Rattle.arbitrary_base.proofs.Wrapped.{wrapped-congruent}
-use Rattle.arbitrary_core.proofs.Mate.{wrap-bits}
+use Rattle.arbitrary_base.proofs.modular.ExactOrCongruent.{wrapped-congruent}
+use Rattle.arbitrary_core.proofs.Counterpart.{wrap-bits}
 use Rattle.arbitrary_core.proofs.integer.signed.IntInteger.to_unsigned.Goals as goal
 
 pub returns-clause-value : goal.returns-clause-value

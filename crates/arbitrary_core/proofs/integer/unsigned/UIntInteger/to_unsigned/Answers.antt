@@ -1,6 +1,6 @@
 use Rattle.std.specs.Prelude.{false}
-use Rattle.arbitrary_base.proofs.Wrapped.{wrapped-congruent}
-use Rattle.arbitrary_core.proofs.Mate.{wrap-kept_at}
+use Rattle.arbitrary_base.proofs.modular.ExactOrCongruent.{wrapped-congruent}
+use Rattle.arbitrary_core.proofs.Counterpart.{wrap-kept_at}
 use Rattle.arbitrary_core.proofs.integer.unsigned.UIntInteger.to_unsigned.Goals as goal
 
 pub returns : goal.returns

@@ -2,11 +2,11 @@ use Rattle.std.specs.Prelude.{◌≡◌, ◌≤◌, ◌<◌, length, unsigned_ab
 use Rattle.std.proofs.Common.{arith, ap, ◌∙◌, sym}
 use Rattle.std.proofs.lemmas.Int.{ints}
 use Rattle.arbitrary_base.specs.BitList.{bits, shl}
-use Rattle.arbitrary_base.proofs.BitNumber.{length-bits}
-use Rattle.arbitrary_base.proofs.BitShift.{length-shl}
-use Rattle.arbitrary_base.proofs.Shifted.{shl-congruent}
-use Rattle.arbitrary_core.proofs.Patterns.{bits-kept, number-of_list}
-use Rattle.arbitrary_base.proofs.Operation.{left-is}
+use Rattle.arbitrary_base.proofs.bit_lists.UnsignedNumber.{length-bits}
+use Rattle.arbitrary_base.proofs.bit_lists.Movement.{length-shl}
+use Rattle.arbitrary_base.proofs.operations.ShiftAsProduct.{shl-congruent}
+use Rattle.arbitrary_core.proofs.StoredBits.{bits-stays, number-of_list}
+use Rattle.arbitrary_base.proofs.operations.Definition.{left-is}
 use Rattle.arbitrary_core.proofs.shifting.signed.IntShl.shl.Goals as goal
 
 pub returns : goal.returns
@@ -17,7 +17,7 @@ returns g c =
     let l : a < g.row.BITS = let low = c.requires.0 in let high = c.requires.1 in let m = c.to_amount.ensures in omega (arith, ints) in
     let t : a ≤ length (bits g.row.BITS c.args.self) = omega (arith, length-bits g.row.BITS c.args.self) in
     let n = length-shl (bits g.row.BITS c.args.self) a t ∙ length-bits g.row.BITS c.args.self in
-    let p = bits-kept g.row.BITS c.args.self _ c.to_bits.ensures.value in
+    let p = bits-stays g.row.BITS c.args.self _ c.to_bits.ensures.value in
     let e = number-of_list g.T.Storage.SIGNED g.T.Unsigned.Storage.SIGNED g.row.BITS _ _ _ _ w n (λ i. shl (p i) (k i)) c.shl.ensures.value c.from_bits.ensures.number in
     record {
       operation = e ∙ sym (left-is _ _ _ _);

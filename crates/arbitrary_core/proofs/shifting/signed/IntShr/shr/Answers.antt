@@ -2,8 +2,8 @@ use Rattle.std.specs.Prelude.{◌≡◌, ◌<◌, unsigned_abs}
 use Rattle.std.proofs.Common.{arith, ap, sym, ◌∙◌}
 use Rattle.std.proofs.lemmas.Int.{ints}
 use Rattle.arbitrary_base.specs.BitList.{bits, val, fill, shr}
-use Rattle.arbitrary_base.proofs.Shifted.{shr-low, shr-high, shr-range}
-use Rattle.arbitrary_base.proofs.Operation.{right-is}
+use Rattle.arbitrary_base.proofs.operations.ShiftAsProduct.{shr-low, shr-high, shr-range}
+use Rattle.arbitrary_base.proofs.operations.Definition.{right-is}
 use Rattle.arbitrary_core.proofs.shifting.signed.IntShr.shr.Goals as goal
 
 pub returns : goal.returns

@@ -2,8 +2,8 @@ use Rattle.std.specs.Prelude.{◌≡◌, ◌<◌, unsigned_abs}
 use Rattle.std.proofs.Common.{arith, ap, sym, ◌∙◌}
 use Rattle.std.proofs.lemmas.Int.{ints}
 use Rattle.arbitrary_base.specs.BitList.{bits, val, shl}
-use Rattle.arbitrary_base.proofs.Shifted.{shl-plain, shl-congruent}
-use Rattle.arbitrary_base.proofs.Operation.{left-is}
+use Rattle.arbitrary_base.proofs.operations.ShiftAsProduct.{shl-plain, shl-congruent}
+use Rattle.arbitrary_base.proofs.operations.Definition.{left-is}
 use Rattle.arbitrary_core.proofs.shifting.unsigned.UIntShl.shl.Goals as goal
 
 pub returns : goal.returns

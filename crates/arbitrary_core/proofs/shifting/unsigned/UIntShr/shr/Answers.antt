@@ -2,8 +2,8 @@ use Rattle.std.specs.Prelude.{◌≡◌, ◌<◌, unsigned_abs}
 use Rattle.std.proofs.Common.{arith, ap, sym, ◌∙◌}
 use Rattle.std.proofs.lemmas.Int.{ints}
 use Rattle.arbitrary_base.specs.BitList.{bits, val, fill, shr}
-use Rattle.arbitrary_base.proofs.Shifted.{shr-quotient}
-use Rattle.arbitrary_base.proofs.Operation.{right-is}
+use Rattle.arbitrary_base.proofs.operations.ShiftAsProduct.{shr-quotient}
+use Rattle.arbitrary_base.proofs.operations.Definition.{right-is}
 use Rattle.arbitrary_core.proofs.shifting.unsigned.UIntShr.shr.Goals as goal
 
 pub returns : goal.returns

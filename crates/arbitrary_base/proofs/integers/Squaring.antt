@@ -1,0 +1,284 @@
+-- Why powers by squaring are right, and how many multiplications they take.
+use Rattle.std.specs.Prelude.{◌≡◌, ℕ, ℤ, Bool, true, false, zero, suc, pos, negsuc, ◌*ℤ◌, ◌≤ℤ◌, ◌<ℤ◌, ◌+◌, ◌-◌, ◌*◌, ◌/◌, ◌%◌, ◌^◌, ◌≤◌, ◌<◌, unsigned_abs, int_lt, Option, Some, None, MatchOption}
+use Rattle.std.proofs.Common.{arith, ap, sym, subst, ◌∙◌, ⊎_elim, le_trans}
+use Rattle.std.proofs.lemmas.Int.{ints, unsigned_abs-mul}
+use Rattle.std.proofs.lemmas.Int.Digits.{length-digits_of_step, length-digits_of-le}
+use Rattle.std.specs.Ordering.{int_eq}
+use Rattle.std.proofs.lemmas.Bool.{cases_lt}
+use Rattle.std.proofs.lemmas.Bool.Decides.{Decides-int_eq}
+use Rattle.std.proofs.lemmas.Nat.{pow_pos, mul-le}
+use Rattle.arbitrary_base.specs.Range.{lo, hi, InRange, range_end}
+use Rattle.arbitrary_base.specs.Residue.{wrap}
+use Rattle.arbitrary_base.specs.Saturation.{clamp}
+use Rattle.arbitrary_base.specs.Exact.{ExactOrNone}
+use Rattle.arbitrary_base.specs.Power.{power, binary_digits}
+use Rattle.arbitrary_base.proofs.integers.Ring.{mul_assoc_z}
+use Rattle.arbitrary_base.proofs.modular.Congruence.{pow_half, pow_le}
+use Rattle.arbitrary_base.proofs.modular.Residue.{wrap-of_in_range}
+use Rattle.arbitrary_base.proofs.storages.CheckedSum.{three_ways, zero-in_range}
+use Rattle.arbitrary_base.proofs.storages.Clamp.{clamp-in_range, clamp-out}
+use Rattle.arbitrary_base.proofs.integers.Powers.{mul_comm_z, one-mul_z, power-zero, power-suc, power-one, power-square, size_grows, power-positive, natural-mul}
+
+-- p is the power so far, to which the power of b to what remains of the exponent is still to come,
+-- at no more than two multiplications for each digit that is left
+pub record Squaring (x : ℤ) (e : ℕ) (p b : ℤ) (left count : ℕ) : Type 0 where
+  pub whole : power x e ≡ p *ℤ power b left
+  pub nonzero : 0 < unsigned_abs b → 0 < unsigned_abs p
+  pub some : 1 ≤ left
+  pub counted : count + 2 * binary_digits left ≤ 2 * binary_digits e
+
+-- ---- binary digits
+
+digits-step : (n : ℕ) → 1 ≤ n → binary_digits n ≡ binary_digits (n / 2) + 1
+unfolding binary_digits
+digits-step n h = length-digits_of_step 2 n (omega arith) h
+
+few_digits : (n : ℕ) → n < 2 ^ 32 → binary_digits n ≤ 32
+unfolding binary_digits
+few_digits n h = length-digits_of-le 2 32 n (omega arith) h
+
+-- ---- one, where the squaring begins
+
+pub one-in_range : (s : Bool) (W : ℕ) → 2 ≤ W → InRange s W (pos 1)
+one-in_range false W h = let p = pow_half W (omega arith) in let q = pow_pos (W - 1) in record { low = omega (arith, ints); high = omega (arith, ints) }
+one-in_range true W h = let p = pow_half (W - 1) (omega arith) in let q = pow_pos (W - 1 - 1) in record { low = omega (arith, ints); high = omega (arith, ints) }
+
+pub wrap-one : (s : Bool) (W : ℕ) → 2 ≤ W → wrap s W (pos 1) ≡ pos 1
+wrap-one s W h = wrap-of_in_range s W (pos 1) (omega arith) (one-in_range s W h)
+
+pub InRange-equal : {s : Bool} {W : ℕ} {x y : ℤ} → y ≡ x → InRange s W x → InRange s W y
+InRange-equal {s} {W} {x} {y} e f = subst (λ (z : ℤ). InRange s W z) (sym e) f
+
+-- ---- a product of two numbers of 64 bits, in 128
+
+half-size-unsigned : (x : ℤ) → InRange false 64 x → unsigned_abs x ≤ 2 ^ 64 - 1
+half-size-unsigned (pos n) i = let u = i.high in omega (arith, ints)
+half-size-unsigned (negsuc n) i = let l = i.low in absurd (omega (arith, ints))
+
+half-size-signed : (x : ℤ) → InRange true 64 x → unsigned_abs x ≤ 2 ^ 63
+half-size-signed (pos n) i = let u = i.high in omega (arith, ints)
+half-size-signed (negsuc n) i = let l = i.low in omega (arith, ints)
+
+half-product-in : (s : Bool) (x y : ℤ) → InRange s 64 x → InRange s 64 y → InRange s 128 (x *ℤ y)
+half-product-in false x y f g =
+    let size = unsigned_abs-mul x y in
+    let most = mul-le (unsigned_abs x) (unsigned_abs y) (2 ^ 64 - 1) (2 ^ 64 - 1) (half-size-unsigned x f) (half-size-unsigned y g) in
+    let some = natural-mul x y f.low g.low in
+    fits (x *ℤ y) some (omega arith)
+  where
+    fits : (z : ℤ) → pos 0 ≤ℤ z → unsigned_abs z < 2 ^ 128 → InRange false 128 z
+    fits (pos n) some most = record { low = omega (arith, ints); high = omega (arith, ints) }
+    fits (negsuc n) some most = absurd (omega (arith, ints))
+half-product-in true x y f g =
+    let size = unsigned_abs-mul x y in
+    let most = mul-le (unsigned_abs x) (unsigned_abs y) (2 ^ 63) (2 ^ 63) (half-size-signed x f) (half-size-signed y g) in
+    fits (x *ℤ y) (omega arith)
+  where
+    fits : (z : ℤ) → unsigned_abs z < 2 ^ 127 → InRange true 128 z
+    fits (pos n) most = record { low = omega (arith, ints); high = omega (arith, ints) }
+    fits (negsuc n) most = record { low = omega (arith, ints); high = omega (arith, ints) }
+
+pub half-product : {T : Type 0} (number : T → ℤ) (s : Bool) (W : ℕ) (x y : ℤ) (z : T) → W ≡ 128 → InRange s 64 x → InRange s 64 y
+    → number z ≡ wrap s W (x *ℤ y) → ExactOrNone number s W (x *ℤ y) (Some z)
+half-product number s W x y z width f g e =
+    let fits : InRange s W (x *ℤ y) = subst (λ (w : ℕ). InRange s w (x *ℤ y)) (sym width) (half-product-in s x y f g) in
+    (fits, e ∙ wrap-of_in_range s W (x *ℤ y) (omega arith) fits)
+
+-- ---- the steps
+
+pub power-none : (x p : ℤ) (e : ℕ) → p ≡ pos 1 → e ≡ 0 → p ≡ power x e
+power-none x p e is none = is ∙ sym (power-zero x) ∙ ap (power x) (sym none)
+
+pub begun : (x p : ℤ) (e : ℕ) → 1 ≤ e → p ≡ pos 1 → Squaring x e p x e 0
+begun x p e h is = record {
+  whole = sym (one-mul_z (power x e)) ∙ ap (λ (z : ℤ). z *ℤ power x e) (sym is);
+  nonzero = λ k. subst (λ (z : ℤ). 0 < unsigned_abs z) (sym is) (omega arith);
+  some = h;
+  counted = omega arith;
+}
+
+squared : (b d : ℤ) (left : ℕ) → d ≡ b *ℤ b → power d (left / 2) ≡ power b (left / 2 + left / 2)
+squared b d left is = ap (λ (z : ℤ). power z (left / 2)) is ∙ power-square b (left / 2)
+
+nonzero-mul : (a b : ℤ) → 0 < unsigned_abs a → 0 < unsigned_abs b → 0 < unsigned_abs (a *ℤ b)
+nonzero-mul a b h k = le_trans h (size_grows a b k)
+
+left_nonzero : (a b : ℤ) → 0 < unsigned_abs (a *ℤ b) → 0 < unsigned_abs a
+left_nonzero a b h = ⊎_elim
+    (λ (k : 0 < unsigned_abs a). k)
+    (λ (k : unsigned_abs a ≤ 0).
+    let z : unsigned_abs a ≡ 0 = omega arith in
+    let e = unsigned_abs-mul a b ∙ ap (λ (n : ℕ). n * unsigned_abs b) z in
+    absurd (omega arith))
+    (cases_lt 0 (unsigned_abs a))
+
+right_nonzero : (a b : ℤ) → 0 < unsigned_abs (a *ℤ b) → 0 < unsigned_abs b
+right_nonzero a b h = left_nonzero b a (subst (λ (z : ℤ). 0 < unsigned_abs z) (mul_comm_z a b) h)
+
+pub odd-turn : {x p b : ℤ} {e left count : ℕ} (q d : ℤ) (c : ℕ) → Squaring x e p b left count → 1 < left → left % 2 ≡ 1
+    → q ≡ p *ℤ b → d ≡ b *ℤ b → c ≡ count + 1 + 1 → Squaring x e q d (left / 2) c
+odd-turn {x} {p} {b} {e} {left} {count} q d c s h o is square add =
+    let base : 0 < unsigned_abs d → 0 < unsigned_abs b = λ k. left_nonzero b b (subst (λ (z : ℤ). 0 < unsigned_abs z) square k) in
+    record {
+      whole =
+          s.whole
+          ∙ ap (λ (n : ℕ). p *ℤ power b n) (let m : left ≡ suc (left / 2 + left / 2) = omega arith in m)
+          ∙ ap (λ (z : ℤ). p *ℤ z) (power-suc b (left / 2 + left / 2))
+          ∙ sym (mul_assoc_z p b (power b (left / 2 + left / 2)))
+          ∙ ap (λ (z : ℤ). z *ℤ power b (left / 2 + left / 2)) (sym is)
+          ∙ ap (λ (z : ℤ). q *ℤ z) (sym (squared b d left square));
+      nonzero = λ k. subst (λ (z : ℤ). 0 < unsigned_abs z) (sym is) (nonzero-mul p b (s.nonzero (base k)) (base k));
+      some = omega arith;
+      counted = let t = digits-step left s.some in let k = s.counted in omega arith;
+    }
+
+pub even-turn : {x p b : ℤ} {e left count : ℕ} (q d : ℤ) (c : ℕ) → Squaring x e p b left count → 1 < left → (left % 2 ≡ 1 → ⊥)
+    → q ≡ p → d ≡ b *ℤ b → c ≡ count + 1 → Squaring x e q d (left / 2) c
+even-turn {x} {p} {b} {e} {left} {count} q d c s h o is square add =
+    let base : 0 < unsigned_abs d → 0 < unsigned_abs b = λ k. left_nonzero b b (subst (λ (z : ℤ). 0 < unsigned_abs z) square k) in
+    record {
+      whole =
+          s.whole
+          ∙ ap (λ (n : ℕ). p *ℤ power b n) (let m : left ≡ left / 2 + left / 2 = omega arith in m)
+          ∙ ap (λ (z : ℤ). z *ℤ power b (left / 2 + left / 2)) (sym is)
+          ∙ ap (λ (z : ℤ). q *ℤ z) (sym (squared b d left square));
+      nonzero = λ k. subst (λ (z : ℤ). 0 < unsigned_abs z) (sym is) (s.nonzero (base k));
+      some = omega arith;
+      counted = let t = digits-step left s.some in let k = s.counted in omega arith;
+    }
+
+-- the last digit is one
+pub last-turn : {x p b : ℤ} {e left count : ℕ} → Squaring x e p b left count → left ≤ 1 → p *ℤ b ≡ power x e
+last-turn {x} {p} {b} {e} {left} {count} s h =
+    let some = s.some in
+    ap (λ (z : ℤ). p *ℤ z) (sym (power-one b)) ∙ ap (λ (n : ℕ). p *ℤ power b n) (let m : 1 ≡ left = omega arith in m) ∙ sym s.whole
+
+power-steady : (b : ℤ) (n : ℕ) → b *ℤ b ≡ b → power b (suc n) ≡ b
+power-steady b zero h = power-one b
+power-steady b (suc n) h = power-suc b (suc n) ∙ ap (λ (z : ℤ). b *ℤ z) (power-steady b n h) ∙ h
+
+-- a base that is its own square is each of its powers
+pub steady-turn : {x p b d : ℤ} {e left count : ℕ} → Squaring x e p b left count → d ≡ b *ℤ b → true ≡ int_eq d b → p *ℤ b ≡ power x e
+steady-turn {x} {p} {b} {d} {e} {left} {count} s square t =
+    let some = s.some in
+    let same : d ≡ b = (Decides-int_eq d b).0 (sym t) in
+    ap (λ (z : ℤ). p *ℤ z) (sym (power-steady b (left - 1) (sym square ∙ same)))
+    ∙ ap (λ (n : ℕ). p *ℤ power b n) (let m : suc (left - 1) ≡ left = omega arith in m) ∙ sym s.whole
+
+-- ---- the count
+
+pub room : {x p b : ℤ} {e left count : ℕ} → Squaring x e p b left count → e < 2 ^ 32 → count + 1 < 64
+room {x} {p} {b} {e} {left} {count} s h =
+    let t = digits-step left s.some in let k = s.counted in let f = few_digits e h in omega arith
+
+pub spent : {x p b : ℤ} {e left count : ℕ} → Squaring x e p b left count → count + 1 + 1 ≤ 2 * binary_digits e
+spent {x} {p} {b} {e} {left} {count} s =
+    let t = digits-step left s.some in let k = s.counted in omega arith
+
+pub count-bound : (e count : ℕ) → e < 2 ^ 32 → count ≤ 2 * binary_digits e → count ≤ 64
+count-bound e count h k = let f = few_digits e h in omega arith
+
+-- ---- a product that the storage does not have
+
+positive-of : (z : ℤ) (n : ℕ) → pos n <ℤ pos (unsigned_abs z) → 0 < unsigned_abs z
+positive-of z n h = omega (arith, ints)
+
+hi-natural : (s : Bool) (W : ℕ) → (n : ℕ) × (hi s W ≡ pos n)
+hi-natural false W = let p = pow_pos W in (2 ^ W - 1, omega (arith, ints))
+hi-natural true W = let p = pow_pos (W - 1) in (2 ^ (W - 1) - 1, omega (arith, ints))
+
+-- then it is further from 0 than the greatest number
+out-beyond : (s : Bool) (W : ℕ) (x y : ℤ) → InRange s W x → InRange s W y → (InRange s W (x *ℤ y) → ⊥) → hi s W <ℤ pos (unsigned_abs (x *ℤ y))
+out-beyond false W x y f g n =
+    let k = natural-mul x y f.low g.low in far (x *ℤ y) k n
+  where
+    far : (z : ℤ) → pos 0 ≤ℤ z → (InRange false W z → ⊥) → hi false W <ℤ pos (unsigned_abs z)
+    far (negsuc a) k n = absurd (omega (arith, ints))
+    far (pos a) k n = ⊎_elim
+        (λ i. absurd (n i))
+        (⊎_elim (λ b. absurd (omega (arith, ints))) (λ a. a))
+        (three_ways false W (pos a))
+out-beyond true W x y f g n = far (x *ℤ y) n
+  where
+    far : (z : ℤ) → (InRange true W z → ⊥) → hi true W <ℤ pos (unsigned_abs z)
+    far (pos a) n = ⊎_elim
+        (λ i. absurd (n i))
+        (⊎_elim (λ b. absurd (omega (arith, ints))) (λ a. a))
+        (three_ways true W (pos a))
+    far (negsuc a) n = ⊎_elim
+        (λ i. absurd (n i))
+        (⊎_elim (λ b. let p = pow_pos (W - 1) in omega (arith, ints)) (λ c. let p = pow_pos (W - 1) in absurd (omega (arith, ints))))
+        (three_ways true W (negsuc a))
+
+-- and so is the whole power
+grown : (h a b : ℤ) (n : ℕ) → h ≡ pos n → h <ℤ pos (unsigned_abs a) → 0 < unsigned_abs b → h <ℤ pos (unsigned_abs (a *ℤ b))
+grown h a b n e f g = let k = size_grows a b g in omega (arith, ints)
+
+pub product-beyond : {x p b : ℤ} {e left count : ℕ} (s : Bool) (W : ℕ) → Squaring x e p b left count → InRange s W p → InRange s W b
+    → (InRange s W (p *ℤ b) → ⊥) → hi s W <ℤ pos (unsigned_abs (power x e))
+product-beyond {x} {p} {b} {e} {left} {count} s W t f g n =
+    let far = out-beyond s W p b f g n in
+    let m = hi-natural s W in
+    let base = right_nonzero p b (positive-of (p *ℤ b) m.0 (subst (λ (z : ℤ). z <ℤ pos (unsigned_abs (p *ℤ b))) m.1 far)) in
+    let some = t.some in
+    let is : p *ℤ b *ℤ power b (left - 1) ≡ power x e =
+    mul_assoc_z p b (power b (left - 1)) ∙ ap (λ (z : ℤ). p *ℤ z) (sym (power-suc b (left - 1)))
+    ∙ ap (λ (n : ℕ). p *ℤ power b n) (let m : suc (left - 1) ≡ left = omega arith in m) ∙ sym t.whole in
+    subst (λ (z : ℤ). hi s W <ℤ pos (unsigned_abs z)) is
+    (grown (hi s W) (p *ℤ b) (power b (left - 1)) m.0 m.1 far (power-positive b (left - 1) base))
+
+pub square-beyond : {x p b : ℤ} {e left count : ℕ} (s : Bool) (W : ℕ) → Squaring x e p b left count → 1 < left → InRange s W b
+    → (InRange s W (b *ℤ b) → ⊥) → hi s W <ℤ pos (unsigned_abs (power x e))
+square-beyond {x} {p} {b} {e} {left} {count} s W t two g n =
+    let far = out-beyond s W b b g g n in
+    let m = hi-natural s W in
+    let base = left_nonzero b b (positive-of (b *ℤ b) m.0 (subst (λ (z : ℤ). z <ℤ pos (unsigned_abs (b *ℤ b))) m.1 far)) in
+    let is : b *ℤ b *ℤ power b (left - 2) *ℤ p ≡ power x e =
+    mul_comm_z (b *ℤ b *ℤ power b (left - 2)) p
+    ∙ ap (λ (z : ℤ). p *ℤ z) (mul_assoc_z b b (power b (left - 2)) ∙ ap (λ (z : ℤ). b *ℤ z) (sym (power-suc b (left - 2))) ∙ sym (power-suc b (suc (left - 2))))
+    ∙ ap (λ (n : ℕ). p *ℤ power b n) (let m : suc (suc (left - 2)) ≡ left = omega arith in m) ∙ sym t.whole in
+    subst (λ (z : ℤ). hi s W <ℤ pos (unsigned_abs z)) is
+    (grown (hi s W) (b *ℤ b *ℤ power b (left - 2)) p m.0 m.1
+    (grown (hi s W) (b *ℤ b) (power b (left - 2)) m.0 m.1 far (power-positive b (left - 2) base))
+    (t.nonzero base))
+
+-- the last product, where the storage has it
+pub last-product : {T : Type 0} (number : T → ℤ) {x p b : ℤ} {e left count : ℕ} (s : Bool) (W : ℕ) (r : Option T) → Squaring x e p b left count
+    → InRange s W p → InRange s W b → p *ℤ b ≡ power x e → ExactOrNone number s W (p *ℤ b) r
+    → MatchOption r (hi s W <ℤ pos (unsigned_abs (power x e))) (λ y. number y ≡ power x e)
+last-product number s W None t f g is h = product-beyond s W t f g h
+last-product number s W (Some y) t f g is h = h.1 ∙ is
+
+-- ---- the end of the range
+
+pub nearest-end : (s : Bool) (B : ℕ) (x z : ℤ) (b : Bool) → 1 ≤ B → (InRange s B x → ⊥) → b ≡ int_lt x (pos 0) → z ≡ range_end s B b → z ≡ clamp s B x
+nearest-end s B x z b h n e w =
+    let k = zero-in_range s B h in let l = k.low in
+    w ∙ clamp-out s B x b h n (λ t. grind (arith, ints)) (λ t. let m : pos 0 ≤ℤ x = grind (arith, ints) in omega (arith, ints))
+
+hi-wider : (s : Bool) (A B : ℕ) → A ≤ B → hi s A ≤ℤ hi s B
+hi-wider false A B h = let p = pow_le A B h in omega (arith, ints)
+hi-wider true A B h = let p = pow_le (A - 1) (B - 1) (omega arith) in omega (arith, ints)
+
+pub far-end : (s : Bool) (A B : ℕ) (x z : ℤ) (b : Bool) → 1 ≤ A → A ≤ B → hi s B <ℤ pos (unsigned_abs x) → b ≡ int_lt x (pos 0)
+    → z ≡ range_end s A b → z ≡ clamp s A x
+far-end s A B x z b h l f e w =
+    let m = hi-wider s A B l in
+    ⊎_elim
+    (λ i. w ∙ least s x b i (omega (arith, ints)) e)
+    (λ o. ⊎_elim (λ c. nearest-end s A x z b h (λ (i : InRange s A x). let k = i.low in absurd (omega (arith, ints))) e w)
+    (λ c. nearest-end s A x z b h (λ (i : InRange s A x). let k = i.high in absurd (omega (arith, ints))) e w) o)
+    (three_ways s A x)
+  where
+    least : (s : Bool) (x : ℤ) (b : Bool) → InRange s A x → hi s A <ℤ pos (unsigned_abs x) → b ≡ int_lt x (pos 0) → range_end s A b ≡ clamp s A x
+    least s (pos n) b i f e = let k = i.high in absurd (omega (arith, ints))
+    least false (negsuc n) b i f e = let k = i.low in absurd (omega (arith, ints))
+    least true (negsuc n) b i f e =
+        let p = pow_pos (A - 1) in let k = i.low in
+        let t : true ≡ b = sym e in
+        subst (λ (v : Bool). range_end true A v ≡ clamp true A (negsuc n)) t
+        (clamp-in_range true A (negsuc n) (lo true A) i (let q : lo true A ≡ negsuc n = omega (arith, ints) in q))
+
+pub ruleset one_laws = (wrap-one)
+
+pub ruleset ends = (nearest-end, clamp-in_range)

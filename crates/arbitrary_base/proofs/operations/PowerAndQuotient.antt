@@ -1,0 +1,43 @@
+-- The laws of powers and quotients at small exponents and equal numbers, and of what is extended to 128 bits.
+use Rattle.std.specs.Prelude.{◌≡◌, ◌≢◌, ℕ, ℤ, Bool, zero, suc, pos, negsuc, ◌+◌, ◌≤◌, ◌*ℤ◌, int_div}
+use Rattle.std.proofs.Common.{refl, ap, sym, ◌∙◌, arith}
+use Rattle.std.proofs.Math.Nat.{div_self}
+use Rattle.std.proofs.lemmas.Int.{ints}
+use Rattle.arbitrary_base.specs.Range.{InRange}
+use Rattle.arbitrary_base.specs.Residue.{residue, wrap}
+use Rattle.arbitrary_base.specs.Power.{power}
+use Rattle.arbitrary_base.proofs.modular.Congruence.{Congruent-narrower}
+use Rattle.arbitrary_base.proofs.modular.Residue.{residue-congruent, wrap-of_in_range, wrap-same}
+
+pub power-none : (x : ℤ) → power x 0 ≡ pos 1
+unfolding power
+power-none x = refl
+
+pub power-one : (x : ℤ) → power x 1 ≡ x
+unfolding power
+power-one x = omega (arith, ints)
+
+pub power-twice : (x : ℤ) → power x 2 ≡ x *ℤ x
+unfolding power
+power-twice x = ap (λ (z : ℤ). x *ℤ z) (power-one x)
+
+pub power-of_one : (n : ℕ) → power (pos 1) n ≡ pos 1
+unfolding power
+power-of_one zero = refl
+power-of_one (suc n) = let e = power-of_one n in omega (arith, ints)
+
+pub power-of_zero : (n : ℕ) → 1 ≤ n → power (pos 0) n ≡ pos 0
+unfolding power
+power-of_zero zero h = absurd (omega arith)
+power-of_zero (suc n) h = omega (arith, ints)
+
+pub quotient-self : (x : ℤ) → x ≢ pos 0 → int_div x x ≡ pos 1
+quotient-self (pos zero) h = absurd (h refl)
+quotient-self (pos (suc n)) h = ap pos (div_self (omega arith))
+quotient-self (negsuc n) h = ap pos (div_self (omega arith))
+
+-- the number of 128 bits that a number is extended to, cut again
+pub to_u128_bits-back : (s : Bool) (B : ℕ) (x : ℤ) → 1 ≤ B → B ≤ 128 → InRange s B x → wrap s B (pos (residue 128 x)) ≡ x
+to_u128_bits-back s B x h g f =
+    wrap-same s B (pos (residue 128 x)) x h (Congruent-narrower B 128 (pos (residue 128 x)) x g (residue-congruent 128 x))
+    ∙ wrap-of_in_range s B x h f

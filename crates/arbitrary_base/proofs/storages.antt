@@ -1,0 +1,10 @@
+-- What the primitives and their arithmetic tell of the exact result.
+pub mod Primitive
+pub mod CheckedSum
+pub mod Clamp
+pub mod SpareBit
+pub mod SixteenBits
+pub mod RaisedNumber
+pub mod PrimitiveOperators
+pub mod PrimitiveBits
+pub mod RangeEnds

@@ -1,0 +1,119 @@
+-- Numbers moved up to the storage's end, from B bits to W: multiples of 2 ^ (W - B).
+use Rattle.std.specs.Prelude.{◌≡◌, ◌↔◌, ℕ, ℤ, Bool, true, false, not, pos, neg_ℤ, ◌+ℤ◌, ◌-ℤ◌, ◌*ℤ◌, ◌≤ℤ◌, ◌<ℤ◌, ◌*◌, ◌-◌, ◌^◌, ◌≤◌, IsTrue, unsigned_abs}
+use Rattle.std.specs.Int.{int_shr}
+use Rattle.std.proofs.Common.{arith, refl, ap, sym, subst, ◌∙◌}
+use Rattle.std.proofs.lemmas.Int.{ints, by_lt_z}
+use Rattle.std.proofs.lemmas.Nat.{pow_pos}
+use Rattle.arbitrary_base.specs.Range.{lo, hi, InRange}
+use Rattle.arbitrary_base.specs.Residue.{Congruent, residue, wrap}
+use Rattle.arbitrary_base.specs.BitList.{bits, val, fill, shl, shr}
+use Rattle.arbitrary_base.proofs.integers.Ring.{add-mul_z, sub-mul_z, neg-mul_z, mul_assoc_z, pos-unsigned_abs}
+use Rattle.arbitrary_base.proofs.modular.Congruence.{pow_split, Congruent-mul_left}
+use Rattle.arbitrary_base.proofs.modular.Residue.{wrap-unique, wrap-same, wrap-in_range, wrap-congruent, wrap-of_in_range, residue-congruent}
+use Rattle.arbitrary_base.proofs.bit_lists.SignBit.{val-shl, val-shr}
+use Rattle.arbitrary_base.proofs.operations.ShiftAsProduct.{int_shr-low, int_shr-high}
+
+-- a multiple of the greater number is greater
+times-le : (x y : ℤ) (n : ℕ) → x ≤ℤ y → (x *ℤ pos n) ≤ℤ (y *ℤ pos n)
+times-le x y n h =
+    let d = unsigned_abs (y -ℤ x) in
+    let is : pos d ≡ y -ℤ x = pos-unsigned_abs (y -ℤ x) (omega (arith, ints)) in
+    let f : x +ℤ pos d ≡ y = omega (arith, ints) in
+    let g : y *ℤ pos n ≡ x *ℤ pos n +ℤ pos (d * n) = subst (λ (z : ℤ). z *ℤ pos n ≡ x *ℤ pos n +ℤ pos (d * n)) f (add-mul_z x (pos d) (pos n)) in
+    omega (arith, ints)
+
+-- by n at least
+times-lt : (x y : ℤ) (n : ℕ) → x <ℤ y → (x *ℤ pos n +ℤ pos n) ≤ℤ (y *ℤ pos n)
+times-lt x y n h =
+    let g : (x +ℤ pos 1) *ℤ pos n ≡ x *ℤ pos n +ℤ pos (1 * n) = add-mul_z x (pos 1) (pos n) in
+    let l = times-le (x +ℤ pos 1) y n (omega (arith, ints)) in
+    omega (arith, ints)
+
+-- the ends move up with the numbers
+lo-raised : (s : Bool) (B W : ℕ) → 1 ≤ B → B ≤ W → lo s W ≡ lo s B *ℤ pos (2 ^ (W - B))
+lo-raised false B W h g = omega (arith, ints)
+lo-raised true B W h g =
+    let k : (W - 1) - (B - 1) ≡ W - B = omega arith in
+    let p : 2 ^ (W - 1) ≡ 2 ^ (W - B) * 2 ^ (B - 1) = subst (λ (n : ℕ). 2 ^ (W - 1) ≡ 2 ^ n * 2 ^ (B - 1)) k (pow_split (B - 1) (W - 1) (omega arith)) in
+    let e : neg_ℤ (pos (2 ^ (B - 1))) *ℤ pos (2 ^ (W - B)) ≡ neg_ℤ (pos (2 ^ (B - 1) * 2 ^ (W - B))) = neg-mul_z (pos (2 ^ (B - 1))) (pos (2 ^ (W - B))) in
+    omega (arith, ints)
+
+hi-raised : (s : Bool) (B W : ℕ) → 1 ≤ B → B ≤ W → hi s W +ℤ pos 1 ≡ (hi s B +ℤ pos 1) *ℤ pos (2 ^ (W - B))
+hi-raised false B W h g =
+    let p = pow_split B W g in
+    let e : (hi false B +ℤ pos 1) ≡ pos (2 ^ B) = omega (arith, ints) in
+    rw e (omega (arith, ints))
+hi-raised true B W h g =
+    let k : (W - 1) - (B - 1) ≡ W - B = omega arith in
+    let p : 2 ^ (W - 1) ≡ 2 ^ (W - B) * 2 ^ (B - 1) = subst (λ (n : ℕ). 2 ^ (W - 1) ≡ 2 ^ n * 2 ^ (B - 1)) k (pow_split (B - 1) (W - 1) (omega arith)) in
+    let e : (hi true B +ℤ pos 1) ≡ pos (2 ^ (B - 1)) = omega (arith, ints) in
+    rw e (omega (arith, ints))
+
+-- in range at the storage exactly where the number is in range at B bits
+pub raised-InRange : (s : Bool) (B W : ℕ) (x : ℤ) → 1 ≤ B → B ≤ W → InRange s W (x *ℤ pos (2 ^ (W - B))) ↔ InRange s B x
+raised-InRange s B W x h g =
+    let l = lo-raised s B W h g in
+    let u = hi-raised s B W h g in
+    let p = pow_pos (W - B) in (
+      (λ i. let a = i.low in let b = i.high in record {
+        low = by_lt_z x (lo s B) (λ c. let t = times-lt x (lo s B) (2 ^ (W - B)) c in absurd (omega (arith, ints))) (λ c. c);
+        high = by_lt_z (hi s B) x (λ c. let t = times-le (hi s B +ℤ pos 1) x (2 ^ (W - B)) (omega (arith, ints)) in absurd (omega (arith, ints))) (λ c. c);
+      }),
+      (λ i. let a = times-le (lo s B) x (2 ^ (W - B)) i.low in let k = i.high in
+          let b = times-lt x (hi s B +ℤ pos 1) (2 ^ (W - B)) (omega (arith, ints)) in
+          record { low = omega (arith, ints); high = omega (arith, ints) }),
+    )
+
+-- and the truncation of it is moved up likewise
+pub wrap-raised : (s : Bool) (B W : ℕ) (x : ℤ) → 1 ≤ B → B ≤ W → wrap s W (x *ℤ pos (2 ^ (W - B))) ≡ wrap s B x *ℤ pos (2 ^ (W - B))
+wrap-raised s B W x h g =
+    wrap-unique s W (x *ℤ pos (2 ^ (W - B))) (wrap s B x *ℤ pos (2 ^ (W - B))) (omega arith)
+    ((raised-InRange s B W (wrap s B x) h g).1 (wrap-in_range s B x h))
+    (moved (wrap s B x) (wrap-congruent s B x))
+  where
+    moved : (w : ℤ) → Congruent B w x → Congruent W (w *ℤ pos (2 ^ (W - B))) (x *ℤ pos (2 ^ (W - B)))
+    moved w c = record {
+      times = c.times;
+      apart =
+          let m = pos (2 ^ (W - B)) in
+          let p : 2 ^ B * 2 ^ (W - B) ≡ 2 ^ W = let q = pow_split B W g in omega arith in
+          sym (sub-mul_z w x m) ∙ ap (λ (z : ℤ). z *ℤ m) c.apart ∙ mul_assoc_z c.times (pos (2 ^ B)) m
+          ∙ ap (λ (n : ℕ). c.times *ℤ pos n) p;
+    }
+
+-- a shift down undoes it
+pub int_shr-raised : (k : ℕ) (x : ℤ) → int_shr (x *ℤ pos (2 ^ k)) k ≡ x
+int_shr-raised k x =
+    let z = int_shr (x *ℤ pos (2 ^ k)) k in
+    let p = pow_pos k in
+    let l = int_shr-low k (x *ℤ pos (2 ^ k)) in
+    let u = int_shr-high k (x *ℤ pos (2 ^ k)) in
+    by_lt_z z x
+    (λ a. let t = times-lt z x (2 ^ k) a in absurd (omega (arith, ints)))
+    (λ a. by_lt_z x z (λ b. let t = times-lt x z (2 ^ k) b in absurd (omega (arith, ints))) (λ b. omega (arith, ints)))
+
+-- the storage's shifts; v is its width as the code reads it
+pub raise-value : (s : Bool) (B W v : ℕ) (x z : ℤ) → 1 ≤ B → B ≤ W → InRange s B x → v ≡ W → z ≡ val s (shl (bits W x) (v - B)) → z ≡ x *ℤ pos (2 ^ (W - B))
+raise-value s B W v x z h g i q e =
+    e ∙ ap (λ (n : ℕ). val s (shl (bits W x) (n - B))) q ∙ val-shl s W (W - B) (residue W x) x (omega arith) (omega arith) refl
+    ∙ wrap-same s W (pos (residue W x * 2 ^ (W - B))) (x *ℤ pos (2 ^ (W - B))) (omega arith) (Congruent-mul_left W (pos (residue W x)) x (pos (2 ^ (W - B))) (residue-congruent W x))
+    ∙ wrap-of_in_range s W (x *ℤ pos (2 ^ (W - B))) (omega arith) ((raised-InRange s B W x h g).1 i)
+
+pub lower-value : (s : Bool) (B W v : ℕ) (x z : ℤ) → 1 ≤ B → B ≤ W → InRange s W x → v ≡ W → z ≡ val s (shr (bits W x) (v - B) (fill s (bits W x))) → z ≡ int_shr x (W - B)
+lower-value s B W v x z h g i q e = e ∙ ap (λ (n : ℕ). val s (shr (bits W x) (n - B) (fill s (bits W x)))) q ∙ val-shr s W (W - B) x (omega arith) (omega arith) i
+
+-- the truncation of the multiple of e in the storage, moved down
+pub lowered : (s : Bool) (B W : ℕ) (e m w z : ℤ) → 1 ≤ B → B ≤ W → m ≡ e *ℤ pos (2 ^ (W - B)) → w ≡ wrap s W m → z ≡ int_shr w (W - B) → z ≡ wrap s B e
+lowered s B W e m w z h g p q r =
+    r ∙ ap (λ (v : ℤ). int_shr v (W - B)) (q ∙ ap (wrap s W) p ∙ wrap-raised s B W e h g) ∙ int_shr-raised (W - B) (wrap s B e)
+
+-- the flag, by a test of the multiple; n and a are the storage's width and the multiple as the code reads them
+pub raised-overflow : (s : Bool) (B W n : ℕ) (e m a : ℤ) (b : Bool) → 1 ≤ B → B ≤ W → m ≡ e *ℤ pos (2 ^ (W - B)) → n ≡ W → a ≡ m → (IsTrue b ↔ InRange s n a)
+    → IsTrue (not b) ↔ ¬ (InRange s B e)
+raised-overflow s B W n e m a true h g p u v q = ((λ t. cc), (λ o. absurd (o ((raised-InRange s B W e h g).0 (subst (λ (z : ℤ). InRange s W z) (v ∙ p) (subst (λ (k : ℕ). InRange s k a) u (q.0 refl)))))))
+raised-overflow s B W n e m a false h g p u v q =
+    ((λ t i. let y : IsTrue false = q.1 (subst (λ (k : ℕ). InRange s k a) (sym u) (subst (λ (z : ℤ). InRange s W z) (sym (v ∙ p)) ((raised-InRange s B W e h g).1 i))) in cc), (λ t. refl))
+
+-- the sum of two multiples is that of the sum
+pub raised-sum : (k : ℕ) (x y a b m : ℤ) → a ≡ x *ℤ pos (2 ^ k) → b ≡ y *ℤ pos (2 ^ k) → m ≡ a +ℤ b → m ≡ (x +ℤ y) *ℤ pos (2 ^ k)
+raised-sum k x y a b m p q r = let e = add-mul_z x y (pos (2 ^ k)) in omega (arith, ints)

@@ -1,0 +1,73 @@
+-- Numbers of at most 16 bits, stored in 64.
+use Rattle.std.specs.Prelude.{◌≡◌, ◌↔◌, ℕ, ℤ, Bool, true, false, ◌&&◌, pos, negsuc, ◌+ℤ◌, ◌*ℤ◌, ◌<ℤ◌, ◌-◌, ◌≤◌, int_lt, int_le, IsTrue, unsigned_abs, FitsSigned}
+use Rattle.std.specs.Int.{w64}
+use Rattle.std.proofs.Common.{arith, sym, subst, ◌∙◌, lit≤}
+use Rattle.std.proofs.lemmas.Int.{ints, fits_signed_mul}
+use Rattle.arbitrary_base.specs.Range.{lo, hi, InRange}
+use Rattle.arbitrary_base.specs.Residue.{wrap}
+use Rattle.arbitrary_base.specs.Saturation.{clamp}
+use Rattle.arbitrary_base.proofs.modular.Congruence.{pow_le}
+use Rattle.arbitrary_base.proofs.modular.Residue.{wrap-of_in_range}
+use Rattle.arbitrary_base.proofs.modular.Truncation.{InRange-wider}
+use Rattle.arbitrary_base.proofs.storages.Primitive.{signed-fits}
+use Rattle.arbitrary_base.proofs.storages.Clamp.{clamp-in_range, clamp-below, clamp-above}
+
+-- 64 bits have each number of either sign
+InRange-64 : (s : Bool) (W : ℕ) (x : ℤ) → 1 ≤ W → W ≤ 16 → InRange s W x → InRange true 64 x
+InRange-64 false W x h g i =
+    let a = pow_le W 16 g in let l = i.low in let u = i.high in
+    record { low = omega (arith, ints); high = omega (arith, ints) }
+InRange-64 true W x h g i = InRange-wider true W 64 x h (omega arith) i
+
+pub small-number : (s : Bool) (W : ℕ) (x z : ℤ) → 1 ≤ W → W ≤ 16 → InRange s W x → z ≡ wrap true 64 x → z ≡ x
+small-number s W x z h g i e = e ∙ wrap-of_in_range true 64 x (lit≤ tt) (InRange-64 s W x h g i)
+
+-- and each product
+small-size : (s : Bool) (W : ℕ) (x : ℤ) → 1 ≤ W → W ≤ 16 → InRange s W x → unsigned_abs x ≤ 65536
+small-size false W (pos n) h g i = let a = pow_le W 16 g in let u = i.high in omega (arith, ints)
+small-size false W (negsuc n) h g i = let l = i.low in absurd (omega (arith, ints))
+small-size true W (pos n) h g i = let a = pow_le (W - 1) 16 (omega arith) in let u = i.high in omega (arith, ints)
+small-size true W (negsuc n) h g i = let a = pow_le (W - 1) 16 (omega arith) in let l = i.low in omega (arith, ints)
+
+pub small-product : (s : Bool) (W : ℕ) (x y a b : ℤ) → 1 ≤ W → W ≤ 16 → InRange s W x → InRange s W y → a ≡ x → b ≡ y → FitsSigned w64 (a *ℤ b)
+small-product s W x y a b h g i j e f =
+    subst (λ (v : ℤ). FitsSigned w64 v) (sym (λ k. e k *ℤ f k))
+    (fits_signed_mul w64 x y 65536 65536 (small-size s W x h g i) (small-size s W y h g j) (lit≤ tt))
+
+pub ruleset products = (small-product)
+
+-- and each sum
+InRange-17 : (s : Bool) (W : ℕ) (x : ℤ) → 1 ≤ W → W ≤ 16 → InRange s W x → InRange true 17 x
+InRange-17 false W x h g i =
+    let a = pow_le W 16 g in let l = i.low in let u = i.high in
+    record { low = omega (arith, ints); high = omega (arith, ints) }
+InRange-17 true W x h g i = InRange-wider true W 17 x h (omega arith) i
+
+pub small-sum : (s : Bool) (W : ℕ) (x y a b : ℤ) → 1 ≤ W → W ≤ 16 → InRange s W x → InRange s W y → a ≡ x → b ≡ y → FitsSigned w64 (a +ℤ b)
+small-sum s W x y a b h g i j e f =
+    let m = InRange-17 s W x h g i in let n = InRange-17 s W y h g j in
+    let p = m.low in let q = m.high in let r = n.low in let t = n.high in
+    signed-fits w64 (a +ℤ b) (record { low = omega (arith, ints); high = omega (arith, ints) })
+
+-- in range, by both ends
+pub within_test : (s : Bool) (B : ℕ) (x l h : ℤ) → l ≡ lo s B → h ≡ hi s B → IsTrue (int_le l x && int_le x h) ↔ InRange s B x
+within_test s B x l h e f =
+    ((λ t. record { low = grind (arith, ints); high = grind (arith, ints) }), (λ i. let a = i.low in let b = i.high in grind (arith, ints)))
+
+pub ruleset tests = (within_test)
+
+-- clamped, by the tests that the code makes
+pub end-low : (s : Bool) (B : ℕ) (x l : ℤ) → l ≡ lo s B → x <ℤ l → l ≡ clamp s B x
+end-low s B x l e f = e ∙ sym (clamp-below s B x (omega (arith, ints)))
+
+-- the code reads the numbers x, l and h as a, b and c
+pub end-high : (s : Bool) (B : ℕ) (x l h a b c : ℤ) → 1 ≤ B → a ≡ x → b ≡ l → c ≡ h → l ≡ lo s B → h ≡ hi s B → int_lt a b ≡ false → int_lt c a ≡ true → c ≡ clamp s B x
+end-high s B x l h a b c one k m n e f p q = n ∙ f ∙ sym (clamp-above s B x one (let t : int_lt h x ≡ true = rw (← k, ← n) q in grind (arith, ints)))
+
+pub between-ends : (s : Bool) (B : ℕ) (x l h a b c : ℤ) → a ≡ x → b ≡ l → c ≡ h → l ≡ lo s B → h ≡ hi s B → int_lt a b ≡ false → int_lt c a ≡ false → a ≡ clamp s B x
+between-ends s B x l h a b c k m n e f p q =
+    let t : int_lt x l ≡ false = rw (← k, ← m) p in
+    let u : int_lt h x ≡ false = rw (← k, ← n) q in
+    clamp-in_range s B x a (record { low = grind (arith, ints); high = grind (arith, ints) }) k
+
+pub ruleset clamps = (end-low)

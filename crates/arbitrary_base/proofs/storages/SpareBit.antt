@@ -1,0 +1,86 @@
+-- What the number that the storage keeps of a sum, a difference or a product tells of the exact one.
+use Rattle.std.specs.Prelude.{◌≡◌, ◌↔◌, ℕ, suc, ℤ, Bool, true, false, not, ◌||◌, pos, ◌+ℤ◌, ◌-ℤ◌, ◌≤ℤ◌, ◌*◌, ◌^◌, ◌≤◌, ◌<◌, IsTrue}
+use Rattle.std.specs.Ordering.{int_eq}
+use Rattle.std.proofs.Common.{arith, refl, ap, sym, subst, ◌∙◌, ⊎_elim}
+use Rattle.std.proofs.lemmas.Int.{ints}
+use Rattle.std.proofs.lemmas.Nat.{pow_pos}
+use Rattle.arbitrary_base.specs.Range.{lo, hi, InRange}
+use Rattle.arbitrary_base.specs.Residue.{wrap}
+use Rattle.arbitrary_base.proofs.modular.Congruence.{pow_le, span}
+use Rattle.arbitrary_base.proofs.modular.Residue.{wrap-of_in_range}
+use Rattle.arbitrary_base.proofs.modular.Truncation.{InRange-wider}
+use Rattle.arbitrary_base.proofs.storages.CheckedSum.{range_test, three_ways, wrap-above, wrap-below, wrap-wrap, zero-in_range}
+
+-- the stored number w is in range only where the exact one e is, and there it is e
+abbrev pub Tells : Bool → ℕ → ℤ → ℤ → Type 0
+Tells s B e w = (InRange s B w → InRange s B e × (w ≡ e)) × (InRange s B e → w ≡ e)
+
+twice : (B W : ℕ) → 1 ≤ B → B < W → 2 * 2 ^ B ≤ 2 ^ W
+twice B W h g = let p = pow_le (suc B) W (omega arith) in omega arith
+
+-- a number at most 2 ^ B out of range
+spare-tells : (s : Bool) (B W : ℕ) (e w : ℤ) → 1 ≤ B → B < W → (lo s B -ℤ pos (2 ^ B)) ≤ℤ e → e ≤ℤ (hi s B +ℤ pos (2 ^ B)) → w ≡ wrap s W e → Tells s B e w
+spare-tells s B W e w h g l m n =
+    let t = twice B W h g in
+    let a = span s B h in
+    let p = pow_pos B in
+    let z = (InRange-wider s B W (lo s B) h (omega arith) (record { low = omega (arith, ints); high = omega (arith, ints) })).low in
+    let y = (InRange-wider s B W (hi s B) h (omega arith) (record { low = omega (arith, ints); high = omega (arith, ints) })).high in
+    ⊎_elim
+    (λ i. let k : w ≡ e = n ∙ wrap-of_in_range s W e (omega arith) i in ((λ j. (subst (λ (v : ℤ). InRange s B v) k j, k)), (λ j. k)))
+    (⊎_elim
+    (λ b. let k : w ≡ e +ℤ pos (2 ^ W) = n ∙ wrap-below s W e (omega arith) b (omega (arith, ints)) in
+    ((λ j. let u = j.high in absurd (omega (arith, ints))), (λ j. let u = j.low in absurd (omega (arith, ints)))))
+    (λ b. let k : w ≡ e -ℤ pos (2 ^ W) = n ∙ wrap-above s W e (omega arith) b (omega (arith, ints)) in
+    ((λ j. let u = j.low in absurd (omega (arith, ints))), (λ j. let u = j.high in absurd (omega (arith, ints))))))
+    (three_ways s W e)
+
+pub add-tells : (s : Bool) (B W : ℕ) (x y w : ℤ) → 1 ≤ B → B < W → InRange s B x → InRange s B y → w ≡ wrap s W (x +ℤ y) → Tells s B (x +ℤ y) w
+add-tells s B W x y w h g i j n =
+    let a = span s B h in let z = zero-in_range s B h in let p = z.low in let q = z.high in
+    let b = i.low in let c = i.high in let d = j.low in let f = j.high in
+    spare-tells s B W (x +ℤ y) w h g (omega (arith, ints)) (omega (arith, ints)) n
+
+pub sub-tells : (s : Bool) (B W : ℕ) (x y w : ℤ) → 1 ≤ B → B < W → InRange s B x → InRange s B y → w ≡ wrap s W (x -ℤ y) → Tells s B (x -ℤ y) w
+sub-tells s B W x y w h g i j n =
+    let a = span s B h in let z = zero-in_range s B h in let p = z.low in let q = z.high in
+    let b = i.low in let c = i.high in let d = j.low in let f = j.high in
+    spare-tells s B W (x -ℤ y) w h g (omega (arith, ints)) (omega (arith, ints)) n
+
+-- where the test b finds the stored number out of range, the exact one is
+pub none-told : (s : Bool) (B : ℕ) (e w : ℤ) (b : Bool) → Tells s B e w → (IsTrue b ↔ InRange s B w) → b ≡ false → InRange s B e → ⊥
+none-told s B e w b t d f i = let u : IsTrue b = d.1 (subst (λ (v : ℤ). InRange s B v) (sym (t.1 i)) i) in cc
+
+-- where narrowing changes the stored number, the exact one is out of range
+pub overflow-told : (s : Bool) (B : ℕ) (e w n : ℤ) (b : Bool) → 1 ≤ B → Tells s B e w → n ≡ wrap s B w → b ≡ int_eq n w → IsTrue (not b) ↔ ¬ (InRange s B e)
+overflow-told s B e w n true h t m p = ((λ u. cc), (λ u. absurd (u (t.0 ((range_test s B w n true h m p).0 refl)).0)))
+overflow-told s B e w n false h t m p =
+    ((λ u i. none-told s B e w false t (range_test s B w n false h m p) refl i), (λ u. refl))
+
+-- the truncation of the stored number is the truncation of the exact one
+pub wrap-stays : (s : Bool) (B W : ℕ) (e w n : ℤ) → 1 ≤ B → B ≤ W → n ≡ wrap s B w → w ≡ wrap s W e → n ≡ wrap s B e
+wrap-stays s B W e w n h g p q = p ∙ ap (wrap s B) q ∙ wrap-wrap s B W e h g
+
+-- a product is out of range where the storage says so, and where what it keeps is
+pub mul-overflow_told : (s : Bool) (B W : ℕ) (e w : ℤ) (o b : Bool) → 1 ≤ B → B ≤ W → w ≡ wrap s W e → (IsTrue o ↔ ¬ (InRange s W e)) → (IsTrue b ↔ InRange s B w)
+    → IsTrue (o || not b) ↔ ¬ (InRange s B e)
+mul-overflow_told s B W e w true b h g m p q = ((λ t i. p.0 refl (InRange-wider s B W e h g i)), (λ t. refl))
+mul-overflow_told s B W e w false true h g m p q =
+    ((λ t. cc), (λ n. p.1 (λ i. n (subst (λ (v : ℤ). InRange s B v) (m ∙ wrap-of_in_range s W e (omega arith) i) (q.0 refl)))))
+mul-overflow_told s B W e w false false h g m p q =
+    ((λ t i. let u : IsTrue false = q.1 (subst (λ (v : ℤ). InRange s B v) (sym (m ∙ wrap-of_in_range s W e (omega arith) (InRange-wider s B W e h g i))) i) in cc), (λ t. refl))
+
+-- the checked result, by the flag of an overflow
+pub flag-exact : (s : Bool) (B : ℕ) (e z : ℤ) (b : Bool) → 1 ≤ B → z ≡ wrap s B e → (IsTrue b ↔ ¬ (InRange s B e)) → b ≡ false → InRange s B e × (z ≡ e)
+flag-exact s B e z b h m f n =
+    let i : InRange s B e = ⊎_elim (λ j. j)
+    (⊎_elim (λ u. let t : IsTrue b = f.1 (λ j. let l = j.low in omega (arith, ints)) in cc) (λ u. let t : IsTrue b = f.1 (λ j. let l = j.high in omega (arith, ints)) in cc))
+    (three_ways s B e) in
+    (i, m ∙ wrap-of_in_range s B e h i)
+
+pub flag-none : (s : Bool) (B : ℕ) (e : ℤ) (b : Bool) → (IsTrue b ↔ ¬ (InRange s B e)) → b ≡ true → InRange s B e → ⊥
+flag-none s B e b f n i = f.0 (subst (λ (c : Bool). IsTrue c) (sym n) refl) i
+
+-- a product that the storage has, and that is in range there
+pub mul-stays : (s : Bool) (B W : ℕ) (e w : ℤ) (o : Bool) → 1 ≤ B → B ≤ W → w ≡ wrap s W e → (IsTrue o ↔ ¬ (InRange s W e)) → o ≡ false → InRange s B w → InRange s B e × (w ≡ e)
+mul-stays s B W e w o h g m p n i = let k = (flag-exact s W e w o (omega arith) m p n).1 in (subst (λ (v : ℤ). InRange s B v) k i, k)

@@ -1,0 +1,144 @@
+//! Truncation: a storage's number at fewer bits, and a pattern at 128.
+
+ghost use Rattle.std.specs.Prelude.{◌≡◌, ◌≤◌, ◌<◌, ◌+◌, ◌%◌, ◌^◌, ◌-ℤ◌, ◌↔◌, pos, neg_ℤ, IsTrue};
+ghost use Rattle.std.specs.Ordering.{int_cmp, int_eq};
+ghost use Rattle.arbitrary_base.specs.Range.{lo, InRange};
+ghost use Rattle.arbitrary_base.specs.Residue.{Congruent, residue, wrap};
+
+use crate::storage::Storage;
+use std::cmp::Ordering;
+
+/// The pattern whose low `bits` bits are one, and whose others are zero.
+#[tactic(auto, using(crate::proofs::modular::Truncation::low_mask_laws))]
+pub fn low_mask(bits: usize) -> u128
+    requires { bits ≤ 128 }
+    ensures value { result + 1 ≡ 2 ^ bits }
+    ensures number { pos result ≡ pos (2 ^ bits) -ℤ pos 1 }
+{
+    if bits == 128 {
+        u128::MAX
+    } else {
+        (1 << bits) - 1
+    }
+}
+
+/// The low `bits` bits of a pattern.
+pub fn masked(pattern: u128, bits: usize) -> u128
+    requires { bits ≤ 128 }
+    ensures { result ≡ pattern % 2 ^ bits }
+{
+    if bits == 128 {
+        pattern
+    } else {
+        pattern % (1 << bits)
+    }
+}
+
+/// How far the range of a type reaches below 0.
+pub(crate) fn reach_below_zero(signed: bool, bits: usize) -> u128
+    requires width { 1 ≤ bits }
+    requires storage { bits ≤ 128 }
+    ensures { pos result ≡ neg_ℤ (lo signed bits) }
+{
+    if signed { 1 << (bits - 1) } else { 0 }
+}
+
+/// The 128 bits of the number of a type of `bits` bits that is congruent to the pattern:
+/// zero extension, and sign extension where the type has a sign.
+// Shifting the range up to start at 0 makes the truncation exact for both signs, with no branch.
+pub fn extend(signed: bool, pattern: u128, bits: usize) -> u128
+    requires width { 1 ≤ bits }
+    requires storage { bits ≤ 128 }
+    ensures { Congruent 128 (pos result) (wrap signed bits (pos pattern)) }
+{
+    let offset = reach_below_zero(signed, bits);
+    masked(pattern.wrapping_add(offset), bits).wrapping_sub(offset)
+}
+
+/// The number, truncated to the type of `bits` bits.
+pub fn truncated<T: Storage>(x: T, bits: usize) -> T
+    requires width { 1 ≤ bits }
+    requires storage { bits ≤ T.WIDTH }
+    ensures value { T.number result ≡ wrap T.SIGNED bits (T.number x) }
+    ensures range { InRange T.SIGNED bits (T.number result) }
+{
+    T::from_storage_bits(extend(T::SIGNED, x.storage_bits(), bits))
+}
+
+/// The residue of the number modulo `2 ^ bits`.
+#[tactic(auto, using(crate::proofs::modular::Truncation::low_laws))]
+pub fn low_bits<T: Storage>(x: T, bits: usize) -> u128
+    requires width { 1 ≤ bits }
+    requires storage { bits ≤ T.WIDTH }
+    ensures value { result ≡ residue bits (T.number x) }
+    ensures fits { result < 2 ^ bits }
+{
+    masked(x.storage_bits(), bits)
+}
+
+/// `low_bits` of a number in range. Where the type has no sign this is the number, and nothing is masked.
+pub fn low_bits_in_range<T: Storage>(x: T, bits: usize) -> u128
+    requires width { 1 ≤ bits }
+    requires storage { bits ≤ T.WIDTH }
+    requires x_in { InRange T.SIGNED bits (T.number x) }
+    ensures value { result ≡ residue bits (T.number x) }
+    ensures fits { result < 2 ^ bits }
+{
+    if T::SIGNED {
+        low_bits(x, bits)
+    } else {
+        x.storage_bits()
+    }
+}
+
+/// The pattern, truncated to the type of `bits` bits.
+pub fn from_low_bits<T: Storage>(pattern: u128, bits: usize) -> T
+    requires width { 1 ≤ bits }
+    requires storage { bits ≤ T.WIDTH }
+    ensures value { T.number result ≡ wrap T.SIGNED bits (pos pattern) }
+    ensures range { InRange T.SIGNED bits (T.number result) }
+{
+    T::from_storage_bits(extend(T::SIGNED, pattern, bits))
+}
+
+/// The residue of the number modulo `2 ^ 128`: its pattern, extended to 128 bits.
+pub fn to_u128_bits<T: Storage>(x: T) -> u128
+    ensures { result ≡ residue 128 (T.number x) }
+{
+    extend(T::SIGNED, x.storage_bits(), T::WIDTH)
+}
+
+/// The number of one storage, truncated to the type of `bits` bits over another.
+#[tactic(auto, using(crate::proofs::modular::Truncation::conversions))]
+pub fn cast<S: Storage, T: Storage>(x: S, bits: usize) -> T
+    requires width { 1 ≤ bits }
+    requires storage { bits ≤ T.WIDTH }
+    ensures value { T.number result ≡ wrap T.SIGNED bits (S.number x) }
+    ensures range { InRange T.SIGNED bits (T.number result) }
+{
+    from_low_bits(to_u128_bits(x), bits)
+}
+
+/// Whether the two numbers are equal.
+pub fn equal<T: Storage>(x: &T, y: &T) -> bool
+    ensures { result ≡ int_eq (T.number x.now) (T.number y.now) }
+{
+    x == y
+}
+
+/// How the two numbers are ordered.
+pub fn compare<T: Storage>(x: &T, y: &T) -> Ordering
+    ensures { result ≡ int_cmp (T.number x.now) (T.number y.now) }
+{
+    x.cmp(y)
+}
+
+/// Whether the type of `bits` bits has the number.
+#[tactic(auto, using(crate::proofs::storages::CheckedSum::range_tests))]
+pub fn is_in_range<T: Storage>(x: T, bits: usize) -> bool
+    requires width { 1 ≤ bits }
+    requires storage { bits ≤ T.WIDTH }
+    ensures { IsTrue result ↔ InRange T.SIGNED bits (T.number x) }
+{
+    equal(&truncated(x, bits), &x)
+}

@@ -1,0 +1,44 @@
+//! The bits of the values of `UInt` and `Int`, on which the calls on bits work.
+
+ghost use Rattle.std.specs.Prelude.{◌≡◌, ◌≤◌, ◌<◌, ◌^◌};
+ghost use Rattle.arbitrary_base.specs.Range.{InRange};
+ghost use Rattle.arbitrary_base.specs.Residue.{residue};
+
+use arbitrary_base::storage::{
+    BuiltinInteger, SignedOf, SignedStorage, UnsignedOf, UnsignedStorage,
+};
+use arbitrary_base::truncation::low_bits_in_range;
+use arbitrary_core::signed::Int;
+use arbitrary_core::unsigned::UInt;
+use arbitrary_traits::integer::Integer;
+
+/// An integer whose bits are at hand.
+pub trait LowBits: Integer {
+    /// The `BITS` bits of the number: its residue modulo `2 ^ BITS`.
+    fn low_bits(self) -> u128
+        ensures value { result ≡ residue Self.BITS (Self.number self) }
+        ensures fits { result < 2 ^ Self.BITS }
+        ensures range { InRange Self.IS_SIGNED Self.BITS (Self.number self) }
+        ensures width { Self.valid }
+        ensures some { 1 ≤ Self.BITS }
+        ensures high { Self.BITS ≤ 128 };
+}
+
+impl<T: BuiltinInteger + UnsignedStorage, const BITS: usize> LowBits for UInt<T, BITS>
+where
+    T::Signed: BuiltinInteger + SignedOf<T>,
+    <T::Signed as BuiltinInteger>::Unsigned: UnsignedOf<T::Signed>,
+{
+    fn low_bits(self) -> u128 {
+        low_bits_in_range(UInt::<T, BITS>::value(self), BITS)
+    }
+}
+
+impl<T: BuiltinInteger + SignedStorage, const BITS: usize> LowBits for Int<T, BITS>
+where
+    T::Unsigned: UnsignedOf<T>,
+{
+    fn low_bits(self) -> u128 {
+        low_bits_in_range(self.to_bits(), BITS)
+    }
+}

@@ -1,0 +1,180 @@
+//! The calls on integers of fixed width.
+
+use crate::rounds::{Call, Nothing, Operands, repeat};
+use arbitrary_calls::extraction::Extraction;
+use arbitrary_calls::fixed_width::FixedWidth;
+use arbitrary_core::aliases::signed::{i7, i14};
+use arbitrary_core::aliases::unsigned::{u7, u14};
+
+struct WrappingSum;
+
+impl<V: FixedWidth> Call<V> for WrappingSum {
+    fn result(x: V, y: V, _amount: u32) -> V {
+        x.wrapping_add(y)
+    }
+}
+
+struct CheckedSum;
+
+impl<V: FixedWidth> Call<V> for CheckedSum {
+    fn result(x: V, y: V, _amount: u32) -> V {
+        x.checked_add(y).unwrap_or(y)
+    }
+}
+
+struct SaturatingSum;
+
+impl<V: FixedWidth> Call<V> for SaturatingSum {
+    fn result(x: V, y: V, _amount: u32) -> V {
+        x.saturating_add(y)
+    }
+}
+
+struct OverflowingSum;
+
+impl<V: FixedWidth> Call<V> for OverflowingSum {
+    fn result(x: V, y: V, _amount: u32) -> V {
+        let (sum, overflow) = x.overflowing_add(y);
+        if overflow { y } else { sum }
+    }
+}
+
+struct WrappingProduct;
+
+impl<V: FixedWidth> Call<V> for WrappingProduct {
+    fn result(x: V, y: V, _amount: u32) -> V {
+        x.wrapping_mul(y)
+    }
+}
+
+struct CheckedProduct;
+
+impl<V: FixedWidth> Call<V> for CheckedProduct {
+    fn result(x: V, y: V, _amount: u32) -> V {
+        x.checked_mul(y).unwrap_or(y)
+    }
+}
+
+struct SaturatingProduct;
+
+impl<V: FixedWidth> Call<V> for SaturatingProduct {
+    fn result(x: V, y: V, _amount: u32) -> V {
+        x.saturating_mul(y)
+    }
+}
+
+struct OverflowingProduct;
+
+impl<V: FixedWidth> Call<V> for OverflowingProduct {
+    fn result(x: V, y: V, _amount: u32) -> V {
+        let (product, overflow) = x.overflowing_mul(y);
+        if overflow { y } else { product }
+    }
+}
+
+struct SaturatingPower;
+
+impl<V: FixedWidth> Call<V> for SaturatingPower {
+    fn result(_x: V, y: V, amount: u32) -> V {
+        y.saturating_pow(amount)
+    }
+}
+
+struct Shifted;
+
+impl<V: FixedWidth> Call<V> for Shifted {
+    fn result(_x: V, y: V, amount: u32) -> V {
+        y.wrapping_shl(amount)
+    }
+}
+
+struct Rotated;
+
+impl<V: FixedWidth> Call<V> for Rotated {
+    fn result(_x: V, y: V, amount: u32) -> V {
+        y.rotate_left(amount)
+    }
+}
+
+struct Reversed;
+
+impl<V: FixedWidth> Call<V> for Reversed {
+    fn result(_x: V, y: V, _amount: u32) -> V {
+        y.reverse_bits()
+    }
+}
+
+struct OnesCounted;
+
+impl<V: FixedWidth> Call<V> for OnesCounted {
+    fn result(x: V, y: V, _amount: u32) -> V {
+        if y.count_ones() < 4 { x } else { y }
+    }
+}
+
+struct Extracted;
+
+impl Call<u7> for Extracted {
+    fn result(_x: u7, y: u7, amount: u32) -> u7 {
+        u7::extract_u32(amount, (y.value() % 16) as usize)
+    }
+}
+
+impl Call<i7> for Extracted {
+    fn result(_x: i7, y: i7, amount: u32) -> i7 {
+        i7::extract_u32(amount, (y.to_bits() % 16) as usize)
+    }
+}
+
+impl Call<u14> for Extracted {
+    fn result(_x: u14, y: u14, amount: u32) -> u14 {
+        u14::extract_u32(amount, (y.value() % 16) as usize)
+    }
+}
+
+impl Call<i14> for Extracted {
+    fn result(_x: i14, y: i14, amount: u32) -> i14 {
+        i14::extract_u32(amount, (y.to_bits() % 16) as usize)
+    }
+}
+
+/// The last results of the call of that name, and `None` where there is no such call.
+pub fn results<V: FixedWidth>(call: &str, operands: &Operands<V>, rounds: u32) -> Option<[V; 16]> {
+    match call {
+        "nothing" => Some(repeat::<V, Nothing>(operands, rounds)),
+        "wrapping_add" => Some(repeat::<V, WrappingSum>(operands, rounds)),
+        "checked_add" => Some(repeat::<V, CheckedSum>(operands, rounds)),
+        "saturating_add" => Some(repeat::<V, SaturatingSum>(operands, rounds)),
+        "overflowing_add" => Some(repeat::<V, OverflowingSum>(operands, rounds)),
+        "wrapping_mul" => Some(repeat::<V, WrappingProduct>(operands, rounds)),
+        "checked_mul" => Some(repeat::<V, CheckedProduct>(operands, rounds)),
+        "saturating_mul" => Some(repeat::<V, SaturatingProduct>(operands, rounds)),
+        "overflowing_mul" => Some(repeat::<V, OverflowingProduct>(operands, rounds)),
+        "saturating_pow" => Some(repeat::<V, SaturatingPower>(operands, rounds)),
+        "wrapping_shl" => Some(repeat::<V, Shifted>(operands, rounds)),
+        "rotate_left" => Some(repeat::<V, Rotated>(operands, rounds)),
+        "reverse_bits" => Some(repeat::<V, Reversed>(operands, rounds)),
+        "count_ones" => Some(repeat::<V, OnesCounted>(operands, rounds)),
+        _ => None,
+    }
+}
+
+/// The last results of `u7::extract_u32`.
+pub fn extracts_u7(operands: &Operands<u7>, rounds: u32) -> [u7; 16] {
+    repeat::<u7, Extracted>(operands, rounds)
+}
+
+/// The last results of `i7::extract_u32`.
+pub fn extracts_i7(operands: &Operands<i7>, rounds: u32) -> [i7; 16] {
+    repeat::<i7, Extracted>(operands, rounds)
+}
+
+/// The last results of `u14::extract_u32`.
+pub fn extracts_u14(operands: &Operands<u14>, rounds: u32) -> [u14; 16] {
+    repeat::<u14, Extracted>(operands, rounds)
+}
+
+/// The last results of `i14::extract_u32`.
+pub fn extracts_i14(operands: &Operands<i14>, rounds: u32) -> [i14; 16] {
+    repeat::<i14, Extracted>(operands, rounds)
+}

@@ -1,0 +1,5 @@
+pub mod Streams
+pub mod WholeOutputs
+pub mod Joined
+pub mod Decimals
+pub mod Unique

@@ -1,0 +1,7 @@
+use Rattle.std.proofs.Common.{ap, length, arith}
+use Rattle.bitrun_text.proofs.Forms.{length-word_lines}
+use Rattle.bitrun_service.proofs.output.output.Goals as goal
+
+pub output_with-requires : goal.output_with-requires
+output_with-requires g c =
+    omega (arith, length-word_lines c.args.input.now, ap length c.in-Some.ensures, ap length c.in-Some-kind_named.ensures.later, ap length c.if-not-next_line.ensures, c.requires)

@@ -1,0 +1,42 @@
+//! The bytes in, and the output out.
+
+ghost use Rattle.arbitrary_int.specs.Watching.{inner_of, has_failed};
+ghost use Rattle.bitrun_service.specs.Serving.{Serves};
+
+use crate::output::output;
+use crate::stream::{read_all, write_all};
+use arbitrary_int::Watched;
+use bitrun_text::fault::Fault;
+use std::alloc::{Allocator, Global};
+use std::io::{Read, Write};
+
+/// Reads all of the input, and writes the output to it.
+///
+/// The input is read whole, by at most 65,537 calls of `read`, and the output is made whole before
+/// its first byte is written. No call of the reader or the writer is tried again. What is said of
+/// the input holds of a reader that tells its bytes, and gives an empty read only at its end.
+pub fn serve<R: Read, W: Write>(
+    alloc: Global,
+    reader: &mut Watched<R>,
+    writer: &mut Watched<W>,
+) -> Result<(), Fault>
+    ensures { Serves (R.remaining (inner_of reader.old)) (R.remaining (inner_of reader.new)) (has_failed reader.new)
+        (W.contents (inner_of writer.old)) (W.contents (inner_of writer.new)) (has_failed writer.new) result }
+{
+    serve_in(&alloc, reader, writer)
+}
+
+/// `serve`, with memory from any allocator.
+#[tactic(auto, using(crate::proofs::WholeOutputs::output_is_fine))]
+pub fn serve_in<A: Allocator, R: Read, W: Write>(
+    alloc: &A,
+    reader: &mut Watched<R>,
+    writer: &mut Watched<W>,
+) -> Result<(), Fault>
+    ensures { Serves (R.remaining (inner_of reader.old)) (R.remaining (inner_of reader.new)) (has_failed reader.new)
+        (W.contents (inner_of writer.old)) (W.contents (inner_of writer.new)) (has_failed writer.new) result }
+{
+    let input = read_all(alloc, reader)?;
+    let text = output(alloc, input.as_slice())?;
+    write_all(writer, text.as_slice())
+}

@@ -1,0 +1,62 @@
+//! The whole input in, and the whole output out.
+
+ghost use Rattle.std.specs.Prelude.{◌≡◌, ◌≤◌, vec_len, IfOk, IfErr, OnOk, OnErr, IfSome, IsTrue};
+ghost use Rattle.std.specs.Io.KnownBytes.{Appends, IsAtEnd};
+ghost use Rattle.arbitrary_int.specs.Watching.{inner_of, has_failed};
+ghost use Rattle.arbitrary_int.specs.Stream.{AppendsBeginning};
+ghost use Rattle.bitrun_service.specs.Stream.{ReadFault};
+
+use arbitrary_int::Watched;
+use bitrun_text::fault::Fault;
+use std::alloc::Allocator;
+use std::io::{Read, Write};
+
+/// The most bytes of an input.
+const LONGEST_INPUT: usize = 65_536;
+
+/// All that the reader holds, by at most 65,537 calls of its `read`. No call is made after a failed
+/// one, or once the input is known to be too long.
+pub fn read_all<'a, A: Allocator, R: Read>(
+    alloc: &'a A,
+    reader: &mut Watched<R>,
+) -> Result<Vec<u8, &'a A>, Fault>
+    ensures all { IfOk result (λ input. IfSome (R.remaining (inner_of reader.old)) (λ held. input.items ≡ held)) }
+    ensures nothing_left { OnOk result (IsAtEnd (R.remaining (inner_of reader.new))) }
+    ensures short { IfOk result (λ input. vec_len input ≤ 65536) }
+    ensures fault { IfErr result (ReadFault (R.remaining (inner_of reader.old)) (has_failed reader.new)) }
+{
+    let mut input = Vec::new(alloc);
+    let mut chunk = [0u8; 8192];
+    for _ in 0..LONGEST_INPUT + 1 {
+        let Ok(count) = reader.read(&mut chunk) else {
+            return Err(Fault::Read);
+        };
+        if count == 0 {
+            return Ok(input);
+        }
+        if count > LONGEST_INPUT - input.len() {
+            return Err(Fault::TooLong);
+        }
+        input.extend_from_slice(&chunk[..count])?;
+    }
+    unreachable!()
+}
+
+/// Writes all of the bytes, in as many calls as the writer needs. No call is made after a failed
+/// one.
+pub fn write_all<W: Write>(writer: &mut Watched<W>, bytes: &[u8]) -> Result<(), Fault>
+    ensures all { OnOk result (Appends (W.contents (inner_of writer.old)) (W.contents (inner_of writer.new)) bytes.now) }
+    ensures begun { OnErr result (AppendsBeginning (W.contents (inner_of writer.old)) (W.contents (inner_of writer.new)) bytes.now) }
+    ensures failed { OnErr result (IsTrue (has_failed writer.new)) }
+    ensures only { IfErr result (λ fault. fault ≡ Fault.Write) }
+{
+    let mut at = 0;
+    while at < bytes.len() {
+        match writer.write(&bytes[at..]) {
+            Ok(0) => return Err(Fault::Write),
+            Ok(count) => at += count,
+            Err(_) => return Err(Fault::Write),
+        }
+    }
+    Ok(())
+}

@@ -1,0 +1,183 @@
+-- A line that is written in the fast form names the step that was read from it.
+--
+-- A word is taken off a text in two cases: the name that the text begins with (`name_left`), and a space with a number after it
+-- (`number_left`). Each tells the rest of a text by what remains after the word. So `one_named`, `two_named` and `by_named` take
+-- the words of a line one by one, in the order in which `step_named` asks for them, and end where no word is left.
+--
+-- That a digit is a whole word is known from the text after it alone, which begins with a space or an LF (`Ends`).
+use Rattle.std.proofs.Common.{◌≡◌, ℕ, zero, suc, one-add, ◌+◌, ◌^◌, ◌<◌, ◌≤◌, true, false, List, [], ◌∷◌, ◌++◌, length, take, drop, get_or, Some, refl, sym, ap, ◌∙◌, inl, inr, arith}
+use Rattle.std.specs.Int.{w32, from_be_bytes, to_be_bytes}
+use Rattle.std.specs.List.{position_or_len, before_first}
+use Rattle.std.specs.Char.{is_ascii_digit}
+use Rattle.std.proofs.Math.Seq.{take-append_seam, drop-append_seam}
+use Rattle.std.proofs.lemmas.Nat.{be_bytes_4}
+use Rattle.std.proofs.lemmas.List.{take-append-drop}
+use Rattle.std.proofs.lemmas.Bool.{cases_Bool, cases_lt}
+use Rattle.std.proofs.lemmas.Bool.Decides.{nat_tests}
+use Rattle.arbitrary_int.specs.declared.steps.Step.TheVariants as steps
+use Rattle.arbitrary_int.specs.declared.steps.TwoOp.{TwoOp}
+use Rattle.arbitrary_int.specs.declared.steps.OneOp.{OneOp}
+use Rattle.arbitrary_int.specs.declared.steps.ByOp.{ByOp}
+use Rattle.bitrun_text.specs.Text.{ends_word, words_of, Left, left_of}
+use Rattle.bitrun_text.specs.Numeral.{first_number}
+use Rattle.bitrun_text.specs.Operation.{operation_named, step_named}
+use Rattle.bitrun_text.specs.declared.operation.Operation.{Operation}
+use Rattle.bitrun_text.specs.declared.operation.Operation.TheVariants as operations
+use Rattle.bitrun_text.specs.Fast.{is_whole, IsName, BeginsWithName, BeginsWithNumber, NamesStep}
+use Rattle.std.specs.Str.Parse.{digits_value}
+use Rattle.bitrun_text.proofs.Digits.{digit_is, no_digits, is_number}
+use Rattle.bitrun_text.proofs.Families.{no_letter}
+use Rattle.bitrun_text.proofs.Lines.{left-blank, left-word}
+use Rattle.bitrun_text.proofs.Operands.{take-take}
+use Rattle.bitrun_text.proofs.StepWords.{one_taken, two_taken, by_taken}
+
+-- ---- the name
+
+first_four : (text : List ℕ) → 4 ≤ length text → take 4 text ≡ get_or text 0 0 ∷ get_or text 1 0 ∷ get_or text 2 0 ∷ get_or text 3 0 ∷ []
+first_four [] h = absurd (omega arith)
+first_four (a ∷ []) h = absurd (omega arith)
+first_four (a ∷ b ∷ []) h = absurd (omega arith)
+first_four (a ∷ b ∷ c ∷ []) h = absurd (omega arith)
+first_four (a ∷ b ∷ c ∷ d ∷ rest) h = refl
+
+four_below : (a b c d : ℕ) → a < 256 → b < 256 → c < 256 → d < 256 → (i : ℕ) → get_or (a ∷ b ∷ c ∷ d ∷ []) i 0 < 256
+four_below a b c d p q r s zero = p
+four_below a b c d p q r s (suc zero) = q
+four_below a b c d p q r s (suc (suc zero)) = r
+four_below a b c d p q r s (suc (suc (suc zero))) = s
+four_below a b c d p q r s (suc (suc (suc (suc i)))) = omega arith
+
+pub begins_with_name : (text : List ℕ) (word size : ℕ) (operation : Operation) → 4 ≤ length text → ((i : ℕ) → get_or text i 0 < 256)
+    → word ≡ from_be_bytes w32 (get_or text 0 0 ∷ get_or text 1 0 ∷ get_or text 2 0 ∷ get_or text 3 0 ∷ [])
+    → IsName (take size (to_be_bytes w32 word)) operation → size ≤ 4 → BeginsWithName text operation (drop size text)
+begins_with_name text word size operation long bytes is names short =
+    let four = get_or text 0 0 ∷ get_or text 1 0 ∷ get_or text 2 0 ∷ get_or text 3 0 ∷ [] in
+    let same : to_be_bytes w32 word ≡ take 4 text = be_bytes_4 four word refl (four_below _ _ _ _ (bytes 0) (bytes 1) (bytes 2) (bytes 3)) is ∙ sym (first_four text long) in
+    let name : take size (to_be_bytes w32 word) ≡ take size text = ap (take size) same ∙ take-take size 4 text short in
+    record {
+      name = take size (to_be_bytes w32 word);
+      split = sym (take-append-drop size text) ∙ ap (λ (l : List ℕ). l ++ drop size text) (sym name);
+      is_name = names;
+    }
+
+-- ---- words
+
+-- the text goes on with something that ends a word
+abbrev pub Ends : List ℕ → Type 0
+Ends text = position_or_len ends_word text ≡ 0
+
+word_size : (name rest : List ℕ) → is_whole name ≡ true → Ends rest → position_or_len ends_word (name ++ rest) ≡ length name
+word_size [] rest whole ends = ends
+word_size (byte ∷ bytes) rest whole ends =
+    elim (cases_Bool (ends_word byte)) [
+      | inl end ↦ absurd (let h = rw end at whole in cc)
+      | inr solid ↦ (let h : is_whole bytes ≡ true = rw solid at whole in rw (solid, one-add) (ap suc (word_size bytes rest h ends)))
+    ]
+
+-- the rest of a text that begins with a whole word
+word_left : (name rest : List ℕ) → is_whole name ≡ true → 0 < length name → Ends rest
+    → left_of (name ++ rest) ≡ record { words = name ∷ (left_of rest).words; later = (left_of rest).later }
+word_left name rest whole some ends =
+    let size = word_size name rest whole ends in
+    let word : before_first ends_word (name ++ rest) ≡ name = rw size (take-append_seam name rest) in
+    let follows : drop (position_or_len ends_word (name ++ rest)) (name ++ rest) ≡ rest = rw size (drop-append_seam name rest) in
+    left-word (name ++ rest) (omega (arith, some, ap length word)) ∙ rw (word, follows) refl
+
+pub name_left : (text rest : List ℕ) (operation : Operation) (begins : BeginsWithName text operation rest) → Ends rest
+    → left_of text ≡ record { words = begins.name ∷ (left_of rest).words; later = (left_of rest).later }
+name_left text rest operation begins ends =
+    let some : 0 < length begins.name = named_some begins.name operation begins.is_name.names in
+    ap left_of begins.split ∙ word_left begins.name rest begins.is_name.whole some ends
+  where
+    named_some : (name : List ℕ) (operation : Operation) → operation_named name ≡ Some operation → 0 < length name
+    named_some [] operation e = absurd (let none = no_letter in cc (none, e))
+    named_some (x ∷ xs) operation e = omega arith
+
+-- the rest of a text that begins with a space and a number
+pub number_left : (limit : ℕ) (text : List ℕ) (n : ℕ) (rest : List ℕ) → BeginsWithNumber limit text n rest
+    → (first_number limit (left_of text).words ≡ Some (n, (left_of rest).words)) × ((left_of text).later ≡ (left_of rest).later)
+number_left limit text n rest begins =
+    let more = begins.more in
+    let word = before_first ends_word more in
+    elim (cases_lt 0 (length word)) [
+      | inl some ↦
+          let taken = ap left_of begins.space ∙ left-blank 32 more refl ∙ left-word more some in
+          let after : drop (position_or_len ends_word more) more ≡ rest = sym begins.left in
+          (rw (taken, begins.value, after) refl, rw (taken, after) refl)
+      | inr empty ↦ absurd (let none = no_digits limit word (omega (arith, empty)) in cc (none, begins.value))
+    ]
+
+pub space_ends : (text more : List ℕ) → text ≡ 32 ∷ more → Ends text
+space_ends text more e = rw e refl
+
+pub digit_begins : (limit : ℕ) (text : List ℕ) (n : ℕ) (rest : List ℕ) → text ≡ 32 ∷ (48 + n) ∷ rest → n < 10 → n < limit → Ends rest
+    → BeginsWithNumber limit text n rest
+digit_begins limit text n rest e digit below ends =
+    let solid : ends_word (48 + n) ≡ false = grind (arith, nat_tests) in
+    let is_digit : is_ascii_digit (48 + n) ≡ true = grind (arith, nat_tests) in
+    let whole : is_whole ((48 + n) ∷ []) ≡ true = rw solid refl in
+    let size = word_size ((48 + n) ∷ []) rest whole ends in
+    let value : digits_value 10 ((48 + n) ∷ []) ≡ n = omega (arith, digit_is (48 + n) is_digit) in
+    record {
+      more = (48 + n) ∷ rest;
+      space = e;
+      value = rw size (is_number limit ((48 + n) ∷ []) (omega arith) (rw is_digit refl) (omega (arith, value, below)) ∙ ap Some value);
+      left = rw size refl;
+    }
+
+pub line_end : (text more : List ℕ) → text ≡ 10 ∷ more → Ends text × ((left_of text).words ≡ [])
+unfolding left_of words_of
+line_end text more e = (rw e refl, rw e refl)
+
+-- ---- the step
+
+-- after the name two digits stand, and then what ends a word
+module _ (count : ℕ) (text after next third : List ℕ) (to src : ℕ)
+    (to_is : after ≡ 32 ∷ (48 + to) ∷ next) (to_digit : to < 10) (to_within : to < count)
+    (src_is : next ≡ 32 ∷ (48 + src) ∷ third) (src_digit : src < 10) (src_within : src < count) (ends : Ends third) where
+  after_ends : Ends after
+  after_ends = space_ends after ((48 + to) ∷ next) to_is
+
+  to_left : (first_number count (left_of after).words ≡ Some (to, (left_of next).words)) × ((left_of after).later ≡ (left_of next).later)
+  to_left = number_left count after to next (digit_begins count after to next to_is to_digit to_within (space_ends next ((48 + src) ∷ third) src_is))
+
+  src_left : (first_number count (left_of next).words ≡ Some (src, (left_of third).words)) × ((left_of next).later ≡ (left_of third).later)
+  src_left = number_left count next src third (digit_begins count next src third src_is src_digit src_within ends)
+
+  later_left : (operation : Operation) → BeginsWithName text operation after → (left_of third).later ≡ (left_of text).later
+  later_left operation begins = sym (ap (λ (l : Left). l.later) (name_left text after operation begins after_ends) ∙ to_left.1 ∙ src_left.1)
+
+  pub one_named : (op : OneOp) (more : List ℕ) → BeginsWithName text (operations.One op) after → third ≡ 10 ∷ more → NamesStep count text (steps.One op to src) third
+  unfolding step_named
+  one_named op more begins lf =
+      let words = (line_end third more lf).1 in
+      record {
+        names = rw (ap (λ (l : Left). l.words) (name_left text after (operations.One op) begins after_ends), begins.is_name.names, one_taken count op (left_of after).words, to_left.0, src_left.0, words) refl;
+        at_end = words;
+        later = later_left (operations.One op) begins;
+      }
+
+  module _ (last more : List ℕ) (lf : last ≡ 10 ∷ more) where
+    pub two_named : (op : TwoOp) (right : ℕ) → BeginsWithName text (operations.Two op) after → third ≡ 32 ∷ (48 + right) ∷ last → right < 10 → right < count
+        → NamesStep count text (steps.Two op to src right) last
+    unfolding step_named
+    two_named op right begins right_is digit within =
+        let words = (line_end last more lf).1 in
+        let taken = number_left count third right last (digit_begins count third right last right_is digit within (line_end last more lf).0) in
+        record {
+          names = rw (ap (λ (l : Left). l.words) (name_left text after (operations.Two op) begins after_ends), begins.is_name.names, two_taken count op (left_of after).words, to_left.0, src_left.0, taken.0, words) refl;
+          at_end = words;
+          later = sym taken.1 ∙ later_left (operations.Two op) begins;
+        }
+
+    pub by_named : (op : ByOp) (amount : ℕ) → BeginsWithName text (operations.By op) after → BeginsWithNumber (2 ^ 32) third amount last
+        → NamesStep count text (steps.By op to src amount) last
+    unfolding step_named
+    by_named op amount begins number =
+        let words = (line_end last more lf).1 in
+        let taken = number_left (2 ^ 32) third amount last number in
+        record {
+          names = rw (ap (λ (l : Left). l.words) (name_left text after (operations.By op) begins after_ends), begins.is_name.names, by_taken count op (left_of after).words, to_left.0, src_left.0, taken.0, words) refl;
+          at_end = words;
+          later = sym taken.1 ∙ later_left (operations.By op) begins;
+        }

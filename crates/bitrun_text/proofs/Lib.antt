@@ -1,0 +1,11 @@
+pub mod Lines
+pub mod Digits
+pub mod Values
+pub mod StepLines
+pub mod Forms
+pub mod Operands
+pub mod StepWords
+pub mod Families
+pub mod FastLines
+pub mod LongNumbers
+pub mod Names

@@ -1,0 +1,12 @@
+use Rattle.std.proofs.Common.{◌-◌, ◌<◌, length}
+use Rattle.bitrun_text.specs.Numeral.{Reads}
+use Rattle.bitrun_text.proofs.fast.last_amount.Given as goal
+
+abbrev pub invariant-loop-at : goal.invariant-loop-at
+invariant-loop-at l = record {
+  reads : Reads l.text l.at l.number;
+  below : l.number < 4294967296;
+}
+
+abbrev pub decreases-loop-at : goal.decreases-loop-at
+decreases-loop-at l = length l.text - l.at

@@ -1,0 +1,15 @@
+use Rattle.std.proofs.Common.{sym, ap, ◌∙◌, rules, to_z-of_z}
+use Rattle.std.specs.Int.{w128}
+use Rattle.arbitrary_int.specs.Exact.{number_of_type}
+use Rattle.bitrun_text.proofs.Values.{value-far, value-near}
+use Rattle.bitrun_text.proofs.numeral.value_named.Goals as goal
+
+pub returns-in_err-integer : goal.returns-in_err-integer
+returns-in_err-integer g c =
+    let some = (g.met.R.Integer.width_law c.requires.width).0 in
+    rw c.from_residual.ensures (sym (value-far g.R.Integer.IS_SIGNED g.R.Integer.BITS some c.requires.narrow c.args.word.now c.in_err-integer.ensures))
+
+pub returns : goal.returns
+returns g c =
+    c.value_of.ensures ∙ ap (number_of_type g.R.Integer.IS_SIGNED g.R.Integer.BITS) (to_z-of_z {w = w128} {z = c.in_ok-integer.field-0} (search rules))
+    ∙ sym (value-near g.R.Integer.IS_SIGNED g.R.Integer.BITS c.args.word.now c.in_ok-integer.field-0 c.in_ok-integer.ensures)

@@ -1,0 +1,91 @@
+-- Which inputs are of the form, and which line of another is the first that isn't.
+use Rattle.std.specs.Prelude.{◌≡◌, ℕ, zero, suc, ◌+◌, ◌<◌, ◌⊎◌, Bool, List, [], ◌∷◌, length, filter, Some, IsSome, IfSome, ℤ, slice_get}
+use Rattle.std.specs.List.{AllZip, AllByRecursion}
+use Rattle.arbitrary_int.specs.declared.steps.Step.{Step}
+use Rattle.bitrun_text.specs.Text.{has_items, word_lines}
+use Rattle.bitrun_text.specs.Numeral.{value_named}
+use Rattle.bitrun_text.specs.Kind.{sign_of, width_of, kind_named}
+use Rattle.bitrun_text.specs.Operation.{step_named}
+use Rattle.bitrun_text.specs.declared.fault.Fault.{Fault}
+use Rattle.bitrun_text.specs.declared.fault.Fault.TheVariants as faults
+use Rattle.bitrun_text.specs.declared.kind.Kind.{Kind}
+
+-- the lines are one that names the type, one whose words are numerals of the registers, each in range, and one
+-- for each step, where lines without words are left out
+pub record Form (input : List ℕ) (kind : Kind) (registers : List ℤ) (steps : List Step) : Type 0 where
+  pub first : List (List ℕ)
+  pub second : List (List ℕ)
+  pub later : List (List (List ℕ))
+  pub lines : word_lines input ≡ first ∷ second ∷ later
+  pub names_kind : kind_named first ≡ Some kind
+  pub holds_registers : AllZip (λ word x. value_named (sign_of kind) (width_of kind) word ≡ Some x) second registers
+  pub names_steps : AllZip (λ words step. step_named (length registers) words ≡ Some step) (filter has_items later) steps
+
+-- the second line
+abbrev pub HasRegistersForm : Bool → ℕ → List (List ℕ) → Type 0
+HasRegistersForm s B words = AllByRecursion (λ word. IsSome (value_named s B word)) words
+
+-- a line after the second
+abbrev pub HasStepForm : ℕ → List (List ℕ) → Type 0
+HasStepForm count [] = Unit {0}
+HasStepForm count (word ∷ words) = IsSome (step_named count (word ∷ words))
+
+-- the line with i lines before it is there where it must be, and has its form; the words of the second line count the
+-- registers, whatever they are
+abbrev pub HasForm : List (List (List ℕ)) → ℕ → Type 0
+HasForm [] i = ⊥
+HasForm (first ∷ lines) zero = IsSome (kind_named first)
+HasForm (first ∷ []) (suc i) = ⊥
+HasForm (first ∷ second ∷ later) (suc zero) = (kind : Kind) × (kind_named first ≡ Some kind) × HasRegistersForm (sign_of kind) (width_of kind) second
+HasForm (first ∷ second ∷ later) (suc (suc i)) = IfSome (slice_get later i) (HasStepForm (length second))
+
+-- the least line, counted from 1, that is missing or hasn't its form
+pub record BadLine (input : List ℕ) (line : ℕ) : Type 0 where
+  pub before : ℕ
+  pub place : line ≡ suc before
+  pub bad : HasForm (word_lines input) before → ⊥
+  pub least : (i : ℕ) → i < before → HasForm (word_lines input) i
+
+pub record HasNoBadLine (input : List ℕ) : Type 0 where
+  pub none : (line : ℕ) → BadLine input line → ⊥
+
+-- ---- what the parts of the reader say
+
+-- the word is a numeral of x, and a type of the sign s and the width B has x
+abbrev pub IsValue : Bool → ℕ → List ℕ → ℤ → Type 0
+IsValue s B word x = value_named s B word ≡ Some x
+
+-- the words name the step, on so many registers
+abbrev pub IsStep : ℕ → List (List ℕ) → Step → Type 0
+IsStep count words step = step_named count words ≡ Some step
+
+-- the first item without P has i items before it
+abbrev pub FirstBad : {X : Type 0} → (X → Type 0) → List X → ℕ → Type 0
+FirstBad P [] i = ⊥
+FirstBad P (x ∷ xs) zero = P x → ⊥
+FirstBad P (x ∷ xs) (suc i) = P x × FirstBad P xs i
+
+-- what the lines after the second may give in place of steps
+abbrev pub StepsFault : ℕ → List (List (List ℕ)) → Fault → Type 0
+StepsFault count later (faults.Line k) = (i : ℕ) × (k ≡ i + 3) × FirstBad (HasStepForm count) later i
+StepsFault count later faults.Memory = Unit {0}
+StepsFault count later faults.TooLong = ⊥
+StepsFault count later faults.Read = ⊥
+StepsFault count later faults.Write = ⊥
+
+-- what the lines from the second on may give: the second is bad, or it isn't and a later one is
+abbrev pub LinesFault : Bool → ℕ → List (List ℕ) → List (List (List ℕ)) → Fault → Type 0
+LinesFault s B second later (faults.Line k) = ((k ≡ 2) × (HasRegistersForm s B second → ⊥))
+    ⊎ (HasRegistersForm s B second × StepsFault (length second) later (faults.Line k))
+LinesFault s B second later faults.Memory = Unit {0}
+LinesFault s B second later faults.TooLong = ⊥
+LinesFault s B second later faults.Read = ⊥
+LinesFault s B second later faults.Write = ⊥
+
+-- what an input may give in place of a program
+abbrev pub FormFault : List ℕ → Fault → Type 0
+FormFault input (faults.Line k) = BadLine input k
+FormFault input faults.Memory = Unit {0}
+FormFault input faults.TooLong = ⊥
+FormFault input faults.Read = ⊥
+FormFault input faults.Write = ⊥

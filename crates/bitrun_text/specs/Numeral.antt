@@ -1,0 +1,42 @@
+-- The numbers that words write.
+use Rattle.std.specs.Prelude.{◌≡◌, ℕ, ◌≤◌, ◌<◌, ◌^◌, ◌&&◌, List, [], ◌∷◌, length, take, get_or, Bool, true, Option, Some, None, option_map, option_and_then, ℤ, pos, neg_ℤ, unsigned_abs, ◌==◌, nat_lt, if◌then◌else◌, ⊤}
+use Rattle.std.specs.Char.{is_ascii_digit}
+use Rattle.std.specs.Str.{all_ascii_digits}
+use Rattle.std.specs.Str.Parse.{digits_value}
+use Rattle.arbitrary_int.specs.Exact.{number_of_type}
+use Rattle.bitrun_text.specs.Text.{has_items}
+
+-- what one or more decimal digits write
+unfoldable pub number_in : List ℕ → Option ℕ
+number_in word = if has_items word && all_ascii_digits word then Some (digits_value 10 word) else None
+
+-- what one or more decimal digits write, where a minus sign may stand before them
+unfoldable pub integer_in : List ℕ → Option ℤ
+integer_in [] = None
+integer_in (byte ∷ bytes) = if byte == 45 then option_map (λ n. neg_ℤ (pos n)) (number_in bytes) else option_map pos (number_in (byte ∷ bytes))
+
+-- the number, if it is below the limit
+unfoldable pub number_below : ℕ → List ℕ → Option ℕ
+number_below limit word = option_and_then (λ n. if nat_lt n limit then Some n else None) (number_in word)
+
+-- the number that a word is a numeral of, if the type has it
+unfoldable pub value_named : Bool → ℕ → List ℕ → Option ℤ
+value_named s B word = option_and_then (number_of_type s B) (integer_in word)
+
+-- ---- what the parts of the reader say
+
+-- the number that the first of the words writes, if it is below the limit, and the words after it
+abbrev pub first_number : ℕ → List (List ℕ) → Option (ℕ × List (List ℕ))
+first_number limit [] = None
+first_number limit (word ∷ words) = option_map (λ n. (n, words)) (number_below limit word)
+
+-- more than a type of 120 bits has
+abbrev pub IsFar : Option ℤ → Type 0
+IsFar None = ⊤
+IsFar (Some x) = 2 ^ 120 ≤ unsigned_abs x
+
+-- so many digits stand at the beginning, and write the number
+pub record Reads (text : List ℕ) (at number : ℕ) : Type 0 where
+  pub digits : (k : ℕ) → k < at → is_ascii_digit (get_or text k 0) ≡ true
+  pub value : number ≡ digits_value 10 (take at text)
+  pub within : at ≤ length text

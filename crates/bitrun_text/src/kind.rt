@@ -1,0 +1,104 @@
+//! The types of the registers, and the first line.
+
+ghost use Rattle.std.specs.Prelude.{◌≡◌};
+ghost use Rattle.bitrun_text.specs.Text.{Left};
+ghost use Rattle.bitrun_text.specs.Kind.{type_named, pair_named, kind_named};
+
+use crate::text::Cursor;
+
+/// The type of the registers.
+#[derive(Clone, Copy, Debug, PartialEq, Eq)]
+pub enum RegisterType {
+    U1,
+    I1,
+    U7,
+    I7,
+    U14,
+    I14,
+    U120,
+    I120,
+}
+
+/// A wide type, and a narrow one after it.
+#[derive(Clone, Copy, Debug, PartialEq, Eq)]
+pub enum WidePair {
+    U14U7,
+    U14I7,
+    I14U7,
+    I120U14,
+}
+
+/// What is run.
+#[derive(Clone, Copy, Debug, PartialEq, Eq)]
+pub enum Kind {
+    Run(RegisterType),
+    Wide(WidePair),
+}
+
+/// What the words of the first line name.
+#[tactic(auto, unfolding(crate::specs::Kind::kind_named))]
+pub fn kind_named(line: &mut Cursor) -> Option<Kind>
+    ensures kind { result ≡ kind_named line.old.words }
+    ensures later { line.new.later ≡ line.old.later }
+{
+    let first = line.next_word()?;
+    let name = line.next_word()?;
+    let Some(narrow) = line.next_word() else {
+        return if first == b"run".as_slice() {
+            type_named(name).map(Kind::Run)
+        } else {
+            None
+        };
+    };
+    if line.next_word().is_some() {
+        return None;
+    }
+    if first == b"wide".as_slice() {
+        pair_named(name, narrow).map(Kind::Wide)
+    } else {
+        None
+    }
+}
+
+/// The pair that two words name.
+#[tactic(auto, unfolding(crate::specs::Kind::pair_named))]
+fn pair_named(wide: &[u8], narrow: &[u8]) -> Option<WidePair>
+    ensures { result ≡ pair_named wide.now narrow.now }
+{
+    if wide == b"u14".as_slice() && narrow == b"u7".as_slice() {
+        Some(WidePair::U14U7)
+    } else if wide == b"u14".as_slice() && narrow == b"i7".as_slice() {
+        Some(WidePair::U14I7)
+    } else if wide == b"i14".as_slice() && narrow == b"u7".as_slice() {
+        Some(WidePair::I14U7)
+    } else if wide == b"i120".as_slice() && narrow == b"u14".as_slice() {
+        Some(WidePair::I120U14)
+    } else {
+        None
+    }
+}
+
+#[tactic(auto, unfolding(crate::specs::Kind::type_named))]
+fn type_named(word: &[u8]) -> Option<RegisterType>
+    ensures { result ≡ type_named word.now }
+{
+    if word == b"u1".as_slice() {
+        Some(RegisterType::U1)
+    } else if word == b"i1".as_slice() {
+        Some(RegisterType::I1)
+    } else if word == b"u7".as_slice() {
+        Some(RegisterType::U7)
+    } else if word == b"i7".as_slice() {
+        Some(RegisterType::I7)
+    } else if word == b"u14".as_slice() {
+        Some(RegisterType::U14)
+    } else if word == b"i14".as_slice() {
+        Some(RegisterType::I14)
+    } else if word == b"u120".as_slice() {
+        Some(RegisterType::U120)
+    } else if word == b"i120".as_slice() {
+        Some(RegisterType::I120)
+    } else {
+        None
+    }
+}

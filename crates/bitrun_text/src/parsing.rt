@@ -1,0 +1,92 @@
+//! The registers and the steps from their lines.
+
+ghost use Rattle.std.specs.Prelude.{◌≡◌, ◌≤◌, length, map, filter, IfOk, IfErr, MatchOption};
+ghost use Rattle.std.specs.List.{AllZip};
+ghost use Rattle.arbitrary_int.specs.Run.{WellFormed};
+ghost use Rattle.bitrun_text.specs.Text.{Left, has_items};
+ghost use Rattle.bitrun_text.specs.Form.{IsValue, IsStep, HasRegistersForm, StepsFault};
+
+use crate::fast::fast_step;
+use crate::fast_value::fast_value;
+use crate::fault::Fault;
+use crate::numeral::value_named;
+use crate::operation::step_named;
+use crate::text::Cursor;
+use arbitrary_int::Step;
+use arbitrary_int::traits::FixedWidth;
+use std::alloc::{AllocError, Allocator};
+
+/// The registers that the words of a line are numerals of, or nothing where one isn't a numeral in
+/// range.
+pub fn registers<'a, R: FixedWidth, A: Allocator>(
+    alloc: &'a A,
+    line: &mut Cursor,
+) -> Result<Option<Vec<R, &'a A>>, AllocError>
+    requires width { R.valid }
+    requires narrow { R.BITS ≤ 120 }
+    ensures values { IfOk result (λ found. MatchOption found
+        (HasRegistersForm R.IS_SIGNED R.BITS line.old.words → ⊥)
+        (λ registers. AllZip (IsValue R.IS_SIGNED R.BITS) line.old.words (map R.number registers.items))) }
+    ensures later { line.new.later ≡ line.old.later }
+{
+    let mut registers = Vec::new(alloc);
+    loop {
+        let value = match fast_value(line.text()) {
+            Some((value, rest)) => {
+                line.go_to(rest);
+                value
+            }
+            None => {
+                let Some(word) = line.next_word() else {
+                    return Ok(Some(registers));
+                };
+                let Some(value) = value_named(word) else {
+                    return Ok(None);
+                };
+                value
+            }
+        };
+        registers.push(value)?;
+    }
+}
+
+/// The steps on so many registers that the later lines name.
+pub fn steps<'a, A: Allocator>(
+    alloc: &'a A,
+    count: usize,
+    lines: &mut Cursor,
+) -> Result<Vec<Step, &'a A>, Fault>
+    requires { length lines.old.later ≤ 65536 }
+    ensures found { IfOk result (λ steps. AllZip (IsStep count) (filter has_items lines.old.later) steps.items) }
+    ensures within { IfOk result (λ steps. WellFormed steps.items count) }
+    ensures fault { IfErr result (StepsFault count lines.old.later) }
+{
+    // A cursor of its own, so that the place need not be stored in memory.
+    let mut line = lines.copy();
+    // A line of a step has 11 bytes or so: room for most of them, and not too much for other lines.
+    let mut steps = Vec::with_capacity(alloc, line.text().len() / 16)?;
+    let mut number = 2;
+    while line.next_line() {
+        number += 1;
+        if line.is_at_lf() {
+            continue;
+        }
+        let step = match fast_step(line.text(), count) {
+            Some((step, rest)) => {
+                line.go_to(rest);
+                step
+            }
+            None => {
+                let Some(word) = line.next_word() else {
+                    continue;
+                };
+                let Some(step) = step_named(word, &mut line, count) else {
+                    return Err(Fault::Line(number));
+                };
+                step
+            }
+        };
+        steps.push(step)?;
+    }
+    Ok(steps)
+}

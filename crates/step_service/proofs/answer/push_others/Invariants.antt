@@ -1,7 +1,0 @@
-use Rattle.std.proofs.Common.{◌≡◌, ◌++◌, map, take}
-use Rattle.std.specs.List.{flat_map}
-use Rattle.step_service.specs.Answer.{after_space}
-use Rattle.step_service.proofs.answer.push_others.Given as goal
-
-abbrev pub invariant-loop-register : goal.invariant-loop-register
-invariant-loop-register g l = l.text.items ≡ l.fn.text.items ++ flat_map after_space (map g.R.Integer.number (take l.register-index l.others))

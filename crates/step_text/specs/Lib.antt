@@ -1,8 +1,0 @@
-pub mod Fault
-pub mod Text
-pub mod Numeral
-pub mod Kind
-pub mod Operation
-pub mod Form
-pub mod Usual
-pub mod UsualValue

@@ -1,0 +1,57 @@
+//! More code that is generic, in the type or in its storage.
+
+ghost use Rattle.std.specs.Prelude.{◌≡◌, ◌↔◌, ◌+ℤ◌, ◌≤ℤ◌, ◌<ℤ◌, pos, IsTrue};
+ghost use Rattle.arbitrary_int.specs.Range.{InRange, hi};
+ghost use Rattle.arbitrary_int.specs.Residue.{Congruent};
+
+use arbitrary_int::prelude::*;
+
+pub fn added_or_greatest<V: FixedWidth + ValidWidth>(a: V, b: V) -> V
+    ensures fits { InRange V.IS_SIGNED V.BITS (V.number a +ℤ V.number b) → V.number result ≡ V.number a +ℤ V.number b }
+    ensures ends { hi V.IS_SIGNED V.BITS <ℤ (V.number a +ℤ V.number b) → V.number result ≡ hi V.IS_SIGNED V.BITS }
+{
+    match a.checked_add(b) {
+        Some(sum) => sum,
+        None => V::max_value(),
+    }
+}
+
+pub fn in_order<V: Integer>(a: V, b: V) -> (V, V)
+    ensures { V.number result.0 ≤ℤ V.number result.1 }
+{
+    if a < b { (a, b) } else { (b, a) }
+}
+
+pub fn is_zero<T: BuiltinInteger + UnsignedStorage, const BITS: usize>(x: UInt<T, BITS>) -> bool
+where
+    T::Signed: BuiltinInteger + SignedOf<T>,
+    <T::Signed as BuiltinInteger>::Unsigned: UnsignedOf<T::Signed>,
+    ensures { IsTrue result ↔ (x ≡ pos 0) }
+{
+    x == UInt::<T, BITS>::zero()
+}
+
+pub fn one_of_two<V: FixedWidth>(a: V, b: V) -> V
+    ensures left { V.number a <ℤ V.number b → V.number result ≡ V.number b }
+{
+    a.max(b)
+}
+
+pub fn primitive_sum(a: u16, b: i8) -> i32
+    ensures { result ≡ pos a +ℤ b }
+{
+    a.as_i32() + b.as_i32()
+}
+
+pub fn primitive_narrowed(a: i64) -> u8
+    ensures { Congruent 8 (pos result) a }
+{
+    a.as_u8()
+}
+
+pub fn step_down<V: FixedWidth>(x: V, step: V) -> V
+    requires { pos 0 ≤ℤ V.number step }
+    ensures { V.number result ≤ℤ V.number x }
+{
+    x.saturating_sub(step)
+}

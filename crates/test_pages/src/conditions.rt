@@ -1,0 +1,90 @@
+//! The conditions of calls, and how a caller meets them.
+
+ghost use Rattle.std.specs.Prelude.{◌≡◌, ◌+ℤ◌, ◌≤ℤ◌, ◌<ℤ◌, ◌%◌, pos, int_div};
+
+use arbitrary_int::prelude::*;
+
+/// The low half of a byte.
+pub fn low_half(byte: u8) -> u4
+    ensures { result ≡ pos (byte % 16) }
+{
+    u4::new(byte & 15)
+}
+
+/// The level that a byte says, if 4 bits have it.
+pub fn level(byte: u8) -> Option<u4> {
+    if byte < 16 { Some(u4::new(byte)) } else { None }
+}
+
+/// The level that a byte says, or why there is none.
+pub fn read_level(byte: u8) -> Result<u4, TryNewError> {
+    u4::try_new(byte)
+}
+
+/// The sum of two samples that are known to be small.
+pub fn sum(a: u12, b: u12) -> u12
+    requires { (a +ℤ b) <ℤ pos 4096 }
+    ensures { result ≡ a +ℤ b }
+{
+    a + b
+}
+
+/// The next count, which stays at the greatest.
+pub fn next(count: u12) -> u12 {
+    if count < u12::max_value() {
+        count + u12::new(1)
+    } else {
+        count
+    }
+}
+
+/// The sum of two samples, in a type that has every such sum.
+pub fn wide_sum(a: u12, b: u12) -> u13
+    ensures { result ≡ a +ℤ b }
+{
+    u13::from_(a) + u13::from_(b)
+}
+
+/// The magnitude of a sample.
+pub fn magnitude(sample: i12) -> i13 {
+    let wide = i13::from_(sample);
+    if sample.is_negative() { -wide } else { wide }
+}
+
+/// The entry of a table that has one for each place.
+pub fn entry(table: &[u8; 16], place: u4) -> u8 {
+    table[usize::from(place.value())]
+}
+
+/// The entry of a shorter table, if it has one there.
+pub fn entry_of_ten(table: &[u8; 10], place: u4) -> Option<u8> {
+    table.get(usize::from(place.value())).copied()
+}
+
+/// The mean, and `None` of nothing.
+pub fn mean(total: u12, count: u12) -> Option<u12> {
+    total.checked_div(count)
+}
+
+/// The mean of a signed total.
+pub fn signed_mean(total: i12, count: i12) -> Option<i12> {
+    if count > i12::new(0) {
+        Some(total / count)
+    } else {
+        None
+    }
+}
+
+/// The number moved up, and 0 where no bit is left.
+pub fn moved(number: u12, places: u8) -> u12 {
+    if places < 12 {
+        number << places
+    } else {
+        u12::new(0)
+    }
+}
+
+/// A nibble of a word.
+pub fn nibble(word: u32, index: u3) -> u4 {
+    u4::extract_u32(word, usize::from(index.value()) * 4)
+}

@@ -1,0 +1,25 @@
+//! Test vectors: each result was computed apart from the library.
+#![tactic(auto)]
+
+#[cfg(test)]
+mod arithmetic;
+#[cfg(test)]
+mod bits;
+#[cfg(test)]
+mod ends;
+#[cfg(test)]
+mod first_version;
+#[cfg(test)]
+mod powers;
+#[cfg(test)]
+mod primitives;
+#[cfg(test)]
+mod ranges;
+#[cfg(test)]
+mod same;
+#[cfg(test)]
+mod signs;
+#[cfg(test)]
+mod steps;
+#[cfg(test)]
+mod widths;

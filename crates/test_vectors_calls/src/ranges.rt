@@ -1,0 +1,108 @@
+//! Sums and products, steps and ranges.
+
+use crate::same::same;
+use arbitrary_int::prelude::*;
+use arbitrary_int::{range_inclusive, try_product, try_sum};
+use std::iter::repeat_n;
+
+#[test]
+fn sums_stop_at_the_first_overflow(rt: HostRuntime) {
+    let held = [i7::new(1), i7::new(-2), i7::new(3), i7::new(-4)];
+    same(&rt, try_sum(held.iter().copied()), Some(i7::new(-2)));
+    let left = [i7::new(63), i7::new(1), i7::new(-1)];
+    same(&rt, try_sum(left.iter().copied()), None);
+    let bits = [Int::<i8, 1>::new(-1), Int::<i8, 1>::new(-1)];
+    same(&rt, try_sum(bits.iter().copied()), None);
+}
+
+#[test]
+fn sums_at_the_ends(rt: HostRuntime) {
+    same(&rt, try_sum(repeat_n(u7::new(1), 127)), Some(u7::new(127)));
+    same(&rt, try_sum(repeat_n(u7::new(1), 128)), None);
+    same(&rt, try_sum(repeat_n(i7::new(1), 63)), Some(i7::new(63)));
+    same(&rt, try_sum(repeat_n(i7::new(-1), 64)), Some(i7::new(-64)));
+    same(&rt, try_sum(repeat_n(i7::new(1), 64)), None);
+    same(&rt, try_sum(repeat_n(i7::new(-1), 65)), None);
+}
+
+#[test]
+fn products_stop_at_the_first_overflow(rt: HostRuntime) {
+    let unsigned = [u7::new(4), u7::new(4), u7::new(3), u7::new(2)];
+    same(
+        &rt,
+        try_product(unsigned.iter().copied()),
+        Some(u7::new(96)),
+    );
+    same(&rt, try_product(repeat_n(u7::new(2), 8)), None);
+    let signed = [i7::new(4), i7::new(4), i7::new(3)];
+    same(&rt, try_product(signed.iter().copied()), Some(i7::new(48)));
+    same(
+        &rt,
+        try_product(repeat_n(i7::new(-2), 3)),
+        Some(i7::new(-8)),
+    );
+    same(&rt, try_product(repeat_n(i7::new(2), 6)), None);
+    same(&rt, try_product(repeat_n(i7::new(-2), 6)), None);
+    let none: [Int<i8, 1>; 0] = [];
+    same(&rt, try_product(none.iter().copied()), None);
+}
+
+#[test]
+fn a_range_gives_each_value_once(rt: HostRuntime) {
+    let mut range = range_inclusive(u7::new(1), u7::new(3));
+    same(&rt, range.next(), Some(u7::new(1)));
+    same(&rt, range.next_back(), Some(u7::new(3)));
+    same(&rt, range.next(), Some(u7::new(2)));
+    same(&rt, range.next(), None);
+    same(&rt, range.next_back(), None);
+}
+
+#[test]
+fn a_range_over_all_values_ends(rt: HostRuntime) {
+    let mut up = range_inclusive(i1::new(-1), i1::new(0));
+    same(&rt, up.next(), Some(i1::new(-1)));
+    same(&rt, up.next(), Some(i1::new(0)));
+    same(&rt, up.next(), None);
+    let mut down = range_inclusive(i1::new(-1), i1::new(0));
+    same(&rt, down.next_back(), Some(i1::new(0)));
+    same(&rt, down.next_back(), Some(i1::new(-1)));
+    same(&rt, down.next_back(), None);
+    same(&rt, range_inclusive(i1::new(0), i1::new(-1)).next(), None);
+    let mut last = None;
+    for value in range_inclusive(u7::min_value(), u7::max_value()) {
+        last = Some(value);
+    }
+    same(&rt, last, Some(u7::new(127)));
+}
+
+#[test]
+fn steps_up_and_down(rt: HostRuntime) {
+    same(
+        &rt,
+        u120::steps_between(&u120::min_value(), &u120::max_value()),
+        (usize::MAX, None),
+    );
+    same(
+        &rt,
+        i7::steps_between(&i7::new(-64), &i7::new(63)),
+        (127, Some(127)),
+    );
+    same(&rt, i7::steps_between(&i7::new(1), &i7::new(0)), (0, None));
+    same(
+        &rt,
+        UInt::<u64, 64>::steps_between(&UInt::<u64, 64>::new(0), &UInt::<u64, 64>::new(u64::MAX)),
+        (usize::MAX, Some(usize::MAX)),
+    );
+    same(
+        &rt,
+        i7::forward_checked(i7::min_value(), 127),
+        Some(i7::new(63)),
+    );
+    same(&rt, i7::forward_checked(i7::min_value(), 128), None);
+    same(
+        &rt,
+        i7::backward_checked(i7::max_value(), 127),
+        Some(i7::new(-64)),
+    );
+    same(&rt, i7::backward_checked(i7::max_value(), 128), None);
+}
