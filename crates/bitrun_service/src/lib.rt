@@ -9,5 +9,7 @@
 mod decimal;
 pub mod laws;
 mod output;
+mod printing;
+mod running;
 pub mod serving;
 mod stream;

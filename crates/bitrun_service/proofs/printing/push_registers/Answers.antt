@@ -2,7 +2,7 @@ use Rattle.std.proofs.Common.{sym, ap, ◌∙◌, ◌++◌, map, append_assoc}
 use Rattle.std.specs.List.{join_with_byte}
 use Rattle.std.specs.Fmt.{signed_decimal}
 use Rattle.bitrun_service.proofs.Joined.{join-cons}
-use Rattle.bitrun_service.proofs.output.push_registers.Goals as goal
+use Rattle.bitrun_service.proofs.printing.push_registers.Goals as goal
 
 pub returns-in_ok-push_others-in-Some : goal.returns-in_ok-push_others-in-Some
 returns-in_ok-push_others-in-Some g c =

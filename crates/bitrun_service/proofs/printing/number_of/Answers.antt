@@ -1,7 +1,7 @@
 use Rattle.std.proofs.Common.{◌≡◌, ◌∙◌, rules, to_z, of_z, to_z-of_z}
 use Rattle.std.specs.Int.{w128}
 use Rattle.bitrun_text.proofs.Values.{from_pattern}
-use Rattle.bitrun_service.proofs.output.number_of.Goals as goal
+use Rattle.bitrun_service.proofs.printing.number_of.Goals as goal
 
 pub returns-clause-number : goal.returns-clause-number
 returns-clause-number g c =
