@@ -46,3 +46,9 @@ pub fn power_of_zero() -> bool
 {
     u24::zero().saturating_pow(3) == u24::zero()
 }
+
+pub fn clamped_sums_associate(x: u24, y: u24, z: u24) -> bool
+    ensures { IsTrue result }
+{
+    x.saturating_add(y).saturating_add(z) == x.saturating_add(y.saturating_add(z))
+}

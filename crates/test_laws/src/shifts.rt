@@ -35,6 +35,12 @@ pub fn shr_shl_is_mask(x: u12) -> bool
     x.wrapping_shr(2).wrapping_shl(2) == (x & u12::max_value().wrapping_shl(2))
 }
 
+pub fn shl_shr_is_mask(x: u12) -> bool
+    ensures { IsTrue result }
+{
+    x.wrapping_shl(2).wrapping_shr(2) == (x & u12::max_value().wrapping_shr(2))
+}
+
 pub fn shl_add(x: u12, y: u12) -> bool
     ensures { IsTrue result }
 {
