@@ -4,6 +4,10 @@
 pub use crate::borsh::BorshDeserialize;
 pub use crate::borsh::BorshSerialize;
 pub use crate::byte_orders::ByteOrders;
+pub use crate::former_names::FormerNames;
+pub use crate::former_names::PatternOf;
+pub use crate::former_names::SignedMate;
+pub use crate::former_names::UnsignedMate;
 pub use crate::ranges::range_inclusive;
 pub use crate::stepping::Stepping;
 pub use crate::totals::try_product;
