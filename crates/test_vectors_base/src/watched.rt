@@ -48,10 +48,10 @@ impl Write for Counting {
 }
 
 /// One that has not been called yet, and treats all calls alike.
-fn watched(result: Result<usize, ErrorKind>) -> Watched<Counting> {
+fn watched(outcome: Result<usize, ErrorKind>) -> Watched<Counting> {
     Watched::new(Counting {
-        first: result,
-        later: result,
+        first: outcome,
+        later: outcome,
         calls: 0,
     })
 }
