@@ -218,6 +218,8 @@ pub trait FixedWidth: Integer + LowBits {
         ensures exact { InRange Self.IS_SIGNED Self.BITS (int_div (Self.number self) (Self.number rhs)) → Self.number result ≡ int_div (Self.number self) (Self.number rhs) }
         ensures above { hi Self.IS_SIGNED Self.BITS <ℤ (int_div (Self.number self) (Self.number rhs)) → Self.number result ≡ hi Self.IS_SIGNED Self.BITS }
         ensures below { (int_div (Self.number self) (Self.number rhs)) <ℤ lo Self.IS_SIGNED Self.BITS → Self.number result ≡ lo Self.IS_SIGNED Self.BITS }
+        ensures range { InRange Self.IS_SIGNED Self.BITS (Self.number self) }
+        ensures bounded { InRange Self.IS_SIGNED Self.BITS (Self.number result) }
     {
         Self::from_storage(saturating::div(self.to_storage(), rhs.to_storage(), Self::BITS))
     }
@@ -255,6 +257,8 @@ pub trait FixedWidth: Integer + LowBits {
         ensures exact { InRange Self.IS_SIGNED Self.BITS (power (Self.number self) exp) → Self.number result ≡ power (Self.number self) exp }
         ensures above { hi Self.IS_SIGNED Self.BITS <ℤ (power (Self.number self) exp) → Self.number result ≡ hi Self.IS_SIGNED Self.BITS }
         ensures below { (power (Self.number self) exp) <ℤ lo Self.IS_SIGNED Self.BITS → Self.number result ≡ lo Self.IS_SIGNED Self.BITS }
+        ensures range { InRange Self.IS_SIGNED Self.BITS (Self.number self) }
+        ensures bounded { InRange Self.IS_SIGNED Self.BITS (Self.number result) }
     {
         Self::from_storage(power::saturating_pow(self.to_storage(), exp, Self::BITS))
     }
@@ -269,6 +273,8 @@ pub trait FixedWidth: Integer + LowBits {
         ensures exact { InRange Self.IS_SIGNED Self.BITS (power (Self.number self) exp) → Self.number result.0 ≡ power (Self.number self) exp }
         ensures above { hi Self.IS_SIGNED Self.BITS <ℤ (power (Self.number self) exp) → Self.number result.0 ≡ hi Self.IS_SIGNED Self.BITS }
         ensures below { (power (Self.number self) exp) <ℤ lo Self.IS_SIGNED Self.BITS → Self.number result.0 ≡ lo Self.IS_SIGNED Self.BITS }
+        ensures range { InRange Self.IS_SIGNED Self.BITS (Self.number self) }
+        ensures bounded { InRange Self.IS_SIGNED Self.BITS (Self.number result.0) }
     {
         let (power, count) = power::saturating_pow_counted(self.to_storage(), exp, Self::BITS);
         (Self::from_storage(power), count)

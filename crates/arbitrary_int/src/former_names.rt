@@ -5,14 +5,13 @@ ghost use Rattle.arbitrary_base.specs.Range.{InRange};
 ghost use Rattle.arbitrary_base.specs.Residue.{residue, wrap};
 
 pub use arbitrary_base::storage::UnsignedOf as PatternOf;
-use arbitrary_calls::fixed_width::FixedWidth;
 pub use arbitrary_traits::counterparts::{
     SignedCounterpart as SignedMate, UnsignedCounterpart as UnsignedMate,
 };
 use arbitrary_traits::integer::Integer;
 
 /// Calls by their former names.
-pub trait FormerNames: FixedWidth {
+pub trait FormerNames: Integer {
     /// The number's 128 bits: `to_u128_bits`.
     final fn extended(self) -> u128
         ensures value { result ≡ residue 128 (Self.number self) }
@@ -31,4 +30,4 @@ pub trait FormerNames: FixedWidth {
     }
 }
 
-impl<T: FixedWidth> FormerNames for T {}
+impl<T: Integer> FormerNames for T {}

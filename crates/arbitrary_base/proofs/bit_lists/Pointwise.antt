@@ -103,7 +103,7 @@ not-reverse (a ∷ l) =
 
 -- ---- one operation
 
-cons : {a b : Bool} {l m : List Bool} → a ≡ b → l ≡ m → a ∷ l ≡ b ∷ m
+pub cons : {a b : Bool} {l m : List Bool} → a ≡ b → l ≡ m → a ∷ l ≡ b ∷ m
 cons e f = ap₂ (λ (x : Bool) (y : List Bool). x ∷ y) e f
 
 pub and-comm : (l m : List Bool) → bits_and l m ≡ bits_and m l

@@ -5,13 +5,11 @@ use Rattle.std.proofs.Common.{refl, sym, ap, ap₂, ◌∙◌, arith}
 use Rattle.arbitrary_base.specs.Range.{InRange}
 use Rattle.arbitrary_base.specs.BitList.{bits, bits_and, bits_or, bits_xor, bits_not}
 use Rattle.arbitrary_base.specs.Operation.{bitwise_and, bitwise_not, bitwise_or, bitwise_xor}
+use Rattle.arbitrary_base.proofs.bit_lists.Pointwise.{cons}
 use Rattle.arbitrary_base.proofs.bit_lists.UnsignedNumber.{same_length}
 use Rattle.arbitrary_base.proofs.operations.Definition.{and-is, or-is, xor-is, bits-and, bits-not, bits-or, bits-xor, by-bits, of-bits}
 
 -- ---- of lists, item by item
-
-cons : {a b : Bool} {l m : List Bool} → a ≡ b → l ≡ m → a ∷ l ≡ b ∷ m
-cons e f = ap₂ (λ (x : Bool) (y : List Bool). x ∷ y) e f
 
 or-parts : (l m : List Bool) → length l ≡ length m → bits_or (bits_and l m) (bits_and l (bits_not m)) ≡ l
 or-parts [] m e = refl

@@ -11,7 +11,7 @@ use Rattle.arbitrary_base.specs.Operation.{bitwise_not}
 use Rattle.arbitrary_base.proofs.bit_lists.StdBitwise.{not-signed, not-unsigned}
 use Rattle.arbitrary_base.proofs.modular.Congruence.{pow_half, pow_le}
 use Rattle.arbitrary_base.proofs.operations.ZeroRunBounds.{leading-found, leading-high, leading-low, leading-negative, leading-none, popcount-some, trailing-found}
-use Rattle.arbitrary_base.proofs.operations.PopulationAndRuns.{front-of_minus_one, front_zeros-of_not, popcount-of_highest, popcount-of_minus_one, popcount-of_not, popcount-of_zero, tail-of_minus_one, tail_zeros-of_not}
+use Rattle.arbitrary_base.proofs.operations.PopulationAndRuns.{front-of_minus_one, front_zeros-of_not, no_ones-of_zero, popcount-of_highest, popcount-of_minus_one, popcount-of_not, tail-of_minus_one, tail_zeros-of_not}
 use Rattle.arbitrary_base.proofs.operations.Definition.{not-in_range, not-is}
 
 -- ---- the complement
@@ -153,13 +153,10 @@ trailing_ones-minus_one B x e = ap (λ (z : ℤ). front true (bits B z)) e ∙ f
 pub popcount-minus_one : (B : ℕ) (x : ℤ) → x ≡ neg_ℤ (pos 1) → popcount (bits B x) ≡ B
 popcount-minus_one B x e = ap (λ (z : ℤ). popcount (bits B z)) e ∙ popcount-of_minus_one B
 
-pub popcount-zero : (B : ℕ) (x : ℤ) → x ≡ pos 0 → popcount (bits B x) ≡ 0
-popcount-zero B x e = ap (λ (z : ℤ). popcount (bits B z)) e ∙ popcount-of_zero B
-
 -- what the calls on counts ensure beside the value
 pub ruleset ones_ends = (popcount-of_highest, popcount-minus_one, zeros-some)
 
-pub ruleset zeros_ends = (popcount-zero, popcount-some, popcount-of_highest, popcount-minus_one, zeros-some)
+pub ruleset zeros_ends = (no_ones-of_zero, popcount-some, popcount-of_highest, popcount-minus_one, zeros-some)
 
 pub ruleset trailing_ends = (trailing_ones-found, trailing_ones-even, trailing_ones-odd)
 
