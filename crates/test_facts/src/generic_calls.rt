@@ -1,6 +1,6 @@
 //! More code that is generic, in the type or in its storage.
 
-ghost use Rattle.std.specs.Prelude.{◌≡◌, ◌↔◌, ◌+ℤ◌, ◌≤ℤ◌, ◌<ℤ◌, pos, IsTrue};
+ghost use Rattle.std.specs.Prelude.{◌≡◌, ◌≢◌, ◌↔◌, ◌+ℤ◌, ◌≤ℤ◌, ◌<ℤ◌, pos, IsTrue};
 ghost use Rattle.arbitrary_int.specs.Range.{InRange, hi};
 ghost use Rattle.arbitrary_int.specs.Residue.{Congruent};
 
@@ -54,4 +54,17 @@ pub fn step_down<V: FixedWidth>(x: V, step: V) -> V
     ensures { V.number result ≤ℤ V.number x }
 {
     x.saturating_sub(step)
+}
+
+pub fn power_in_range<V: FixedWidth>(x: V) -> V
+    ensures { InRange V.IS_SIGNED V.BITS (V.number result) }
+{
+    x.saturating_pow(3)
+}
+
+pub fn quotient_in_range<V: FixedWidth>(x: V, y: V) -> V
+    requires { V.number y ≢ pos 0 }
+    ensures { InRange V.IS_SIGNED V.BITS (V.number result) }
+{
+    x.saturating_div(y)
 }

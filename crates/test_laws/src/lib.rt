@@ -7,6 +7,7 @@ pub mod complements;
 pub mod counts;
 pub mod distribution;
 pub mod exact;
+pub mod former_names;
 pub mod masks;
 pub mod mixed;
 pub mod products;
