@@ -1,5 +1,5 @@
 -- The operations on the numbers of a type, each as one word. The type is its sign s and its width B in bits.
-use Rattle.std.specs.Prelude.{ℕ, ℤ, Bool, reverse, ◌+ℤ◌, ◌-ℤ◌, ◌*ℤ◌}
+use Rattle.std.specs.Prelude.{◌≡◌, ℕ, ℤ, Bool, reverse, ◌+ℤ◌, ◌-ℤ◌, ◌*ℤ◌}
 use Rattle.arbitrary_base.specs.Residue.{wrap}
 use Rattle.arbitrary_base.specs.BitList.{bits, val, bits_and, bits_or, bits_xor, bits_not, shl, shr, fill, rotl, rotr}
 
@@ -45,3 +45,18 @@ rotated_right s B x k = val s (rotr (bits B x) k)
 
 unfoldable pub reversed : Bool → ℕ → ℤ → ℤ
 reversed s B x = val s (reverse (bits B x))
+
+-- ---- how two operations go together
+
+abbrev pub Commutes : (ℤ → ℤ → ℤ) → Type 0
+Commutes f = (x y : ℤ) → f x y ≡ f y x
+
+abbrev pub Associates : (ℤ → ℤ → ℤ) → Type 0
+Associates f = (x y z : ℤ) → f (f x y) z ≡ f x (f y z)
+
+abbrev pub DistributesOver : (ℤ → ℤ → ℤ) → (ℤ → ℤ → ℤ) → Type 0
+DistributesOver g f = (x y z : ℤ) → f x (g y z) ≡ g (f x y) (f x z)
+
+-- De Morgan's law: h makes g of f
+abbrev pub Dualizes : (ℤ → ℤ) → (ℤ → ℤ → ℤ) → (ℤ → ℤ → ℤ) → Type 0
+Dualizes h f g = (x y : ℤ) → h (f x y) ≡ g (h x) (h y)

@@ -6,8 +6,8 @@ ghost use Rattle.arbitrary_base.specs.Residue.{Congruent, wrap};
 ghost use Rattle.arbitrary_base.specs.Saturation.{clamp};
 ghost use Rattle.arbitrary_base.specs.Exact.{ExactOrNone, QuotientOrNone};
 ghost use Rattle.arbitrary_base.specs.Power.{power, binary_digits};
-ghost use Rattle.arbitrary_base.specs.Operation.{reversed, rotated_left, rotated_right, shifted_left, shifted_right, wrapped_difference, wrapped_product, wrapped_sum};
-ghost use Rattle.arbitrary_base.specs.BitList.{bits, val, bits_and, bits_or, bits_xor, bits_not, fill, front, popcount, rotl, rotr, shl, shr, tail};
+ghost use Rattle.arbitrary_base.specs.Operation.{Associates, Commutes, DistributesOver, Dualizes, bitwise_and, bitwise_not, bitwise_or, bitwise_xor, reversed, rotated_left, rotated_right, shifted_left, shifted_right, wrapped_difference, wrapped_product, wrapped_sum};
+ghost use Rattle.arbitrary_base.specs.BitList.{bits, val, fill, front, popcount, rotl, rotr, shl, shr, tail};
 
 use crate::low_bits::LowBits;
 use arbitrary_base::storage::Storage;
@@ -46,16 +46,40 @@ pub trait FixedWidth: Integer + LowBits {
 
     // The bitwise operators, with no premise: each value of these types is in range.
     ghost and_law: { (a b r : Self) → Self.bitand_gives a b r
-        → Self.number r ≡ val Self.IS_SIGNED (bits_and (bits Self.BITS (Self.number a)) (bits Self.BITS (Self.number b))) };
+        → Self.number r ≡ bitwise_and Self.IS_SIGNED Self.BITS (Self.number a) (Self.number b) };
 
     ghost or_law: { (a b r : Self) → Self.bitor_gives a b r
-        → Self.number r ≡ val Self.IS_SIGNED (bits_or (bits Self.BITS (Self.number a)) (bits Self.BITS (Self.number b))) };
+        → Self.number r ≡ bitwise_or Self.IS_SIGNED Self.BITS (Self.number a) (Self.number b) };
 
     ghost xor_law: { (a b r : Self) → Self.bitxor_gives a b r
-        → Self.number r ≡ val Self.IS_SIGNED (bits_xor (bits Self.BITS (Self.number a)) (bits Self.BITS (Self.number b))) };
+        → Self.number r ≡ bitwise_xor Self.IS_SIGNED Self.BITS (Self.number a) (Self.number b) };
 
     ghost complement_law: { (a r : Self) → Self.not_gives a r
-        → Self.number r ≡ val Self.IS_SIGNED (bits_not (bits Self.BITS (Self.number a))) };
+        → Self.number r ≡ bitwise_not Self.IS_SIGNED Self.BITS (Self.number a) };
+
+    // For proofs in generic code: there the check takes the laws of the bound, or the set that a file names, never both. With a law that
+    // names a variable twice, or with two dozen, its search ends before a proof.
+    ghost and_commutes: { Commutes (bitwise_and Self.IS_SIGNED Self.BITS) };
+
+    ghost or_commutes: { Commutes (bitwise_or Self.IS_SIGNED Self.BITS) };
+
+    ghost xor_commutes: { Commutes (bitwise_xor Self.IS_SIGNED Self.BITS) };
+
+    ghost and_associates: { Associates (bitwise_and Self.IS_SIGNED Self.BITS) };
+
+    ghost or_associates: { Associates (bitwise_or Self.IS_SIGNED Self.BITS) };
+
+    ghost xor_associates: { Associates (bitwise_xor Self.IS_SIGNED Self.BITS) };
+
+    ghost and_distributes: { DistributesOver (bitwise_or Self.IS_SIGNED Self.BITS) (bitwise_and Self.IS_SIGNED Self.BITS) };
+
+    ghost or_distributes: { DistributesOver (bitwise_and Self.IS_SIGNED Self.BITS) (bitwise_or Self.IS_SIGNED Self.BITS) };
+
+    ghost not_of_and: { Dualizes (bitwise_not Self.IS_SIGNED Self.BITS) (bitwise_and Self.IS_SIGNED Self.BITS)
+        (bitwise_or Self.IS_SIGNED Self.BITS) };
+
+    ghost not_of_or: { Dualizes (bitwise_not Self.IS_SIGNED Self.BITS) (bitwise_or Self.IS_SIGNED Self.BITS)
+        (bitwise_and Self.IS_SIGNED Self.BITS) };
 
     /// The sum, wrapped.
     final fn wrapping_add(self, rhs: Self) -> Self
