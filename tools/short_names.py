@@ -2,9 +2,10 @@
 """short_names.py [--write]
 
 Tells whether the short names `u1` to `u127` and `i1` to `i127` each stand for the type over the smallest primitive
-that has room, and whether `arbitrary_int` gives all of them at its root and in its prelude; and whether each width from 1
-to 128 has its impl of `HasWidth`. With --write it writes the two files of names and the two of impls. 8, 16, 32 and
-64 bits have no short name: they are primitives already.
+that has room, and whether `arbitrary_int` gives all of them at its root and in its prelude; whether each width from 1 to 128
+has its impl of `HasWidth`; and whether `test_widths` asks for the ends of both types at each. With --write it writes the
+two files of names, the two of impls and the two of tests. 8, 16, 32 and 64 bits have no short name: they are primitives
+already.
 """
 import sys
 from pathlib import Path
@@ -54,11 +55,32 @@ def room(first, last):
     return '\n'.join(lines) + '\n'
 
 
+def ends(letter, name, module):
+    """The file of tests that has the ends of one type at each width, from their definitions."""
+    lines = [
+        f'//! The least and the greatest number of `{name}` at each width from 1 to 128, in the smallest storage.',
+        '',
+        f'use crate::ends::{{{", ".join(f"ends_{letter}{width}" for width in STORAGES)}}};',
+    ]
+    for first in range(1, 129, 8):
+        lines += ['', '#[test]', f'fn {module}_{first}_to_{first + 7}(rt: HostRuntime) {{']
+        for bits in range(first, first + 8):
+            least, greatest = (-2 ** (bits - 1), 2 ** (bits - 1) - 1) if letter == 'i' else (0, 2 ** bits - 1)
+            words = ['&rt', str(least), str(greatest)]
+            call = f'    ends_{letter}{storage(bits)}::<{bits}>('
+            one_line = ', '.join(words)
+            # as `rt fmt` breaks a call
+            lines += [f'{call}{one_line});'] if len(one_line) <= 60 else [call, *[f'        {word},' for word in words], '    );']
+        lines.append('}')
+    return '\n'.join(lines) + '\n'
+
+
 def main():
     wrong = []
     signs = [('u', 'UInt', 'unsigned'), ('i', 'Int', 'signed')]
     core = CRATES / 'arbitrary_core/src'
     texts = {core / f'aliases/{module}.rt': definitions(letter, name, module) for letter, name, module in signs}
+    texts |= {CRATES / f'test_widths/src/{module}.rt': ends(letter, name, module) for letter, name, module in signs}
     texts[core / 'widths/to_64.rt'] = room(1, 64)
     texts[core / 'widths/to_128.rt'] = room(65, 128)
     for file, text in texts.items():

@@ -12,7 +12,7 @@ use Rattle.arbitrary_base.proofs.modular.LowBitOperation.{low-sum, low-differenc
 use Rattle.arbitrary_int.proofs.RunLemmas.{RunOf-ok}
 use Rattle.arbitrary_int.specs.Step.{two_meaning, one_meaning, by_meaning, result_of, target_of, meaning, StepWithin}
 use Rattle.arbitrary_int.specs.Run.{later, RunOf, WellFormed}
-use Rattle.arbitrary_int.specs.Widths.{IsLowBitTwo, IsLowBitOne, IsLowBitBy, IsLowBit, OnlyLowBits}
+use Rattle.arbitrary_int.specs.Widths.{IsLowBit, OnlyLowBits}
 use Rattle.arbitrary_int.specs.declared.steps.TwoOp.{TwoOp}
 use Rattle.arbitrary_int.specs.declared.steps.TwoOp.TheVariants.{WrappingAdd, WrappingSub, WrappingMul, And, Or, Xor}
 use Rattle.arbitrary_int.specs.declared.steps.OneOp.{OneOp}
@@ -32,34 +32,34 @@ pub record LowResult (s : Bool) (A : ℕ) (wide narrow : Result ℤ Why) : Type 
   pub wide_is : wide ≡ Ok number
   pub narrow_is : narrow ≡ Ok (wrap s A number)
 
-low-two_meaning : (s t : Bool) (A B : ℕ) (op : TwoOp) (x y : ℤ) → 1 ≤ A → A ≤ B → IsLowBitTwo op
+low-two_meaning : (s t : Bool) (A B : ℕ) (op : TwoOp) (to left right : ℕ) (x y : ℤ) → 1 ≤ A → A ≤ B → IsLowBit A (Two op to left right)
     → LowResult s A (two_meaning t B op x y) (two_meaning s A op (wrap s A x) (wrap s A y))
-low-two_meaning s t A B WrappingAdd x y h g l = record { number = wrap t B (x +ℤ y); wide_is = refl; narrow_is = ap Ok (sym (low-sum s t A B x y h g)) }
-low-two_meaning s t A B WrappingSub x y h g l = record { number = wrap t B (x -ℤ y); wide_is = refl; narrow_is = ap Ok (sym (low-difference s t A B x y h g)) }
-low-two_meaning s t A B WrappingMul x y h g l = record { number = wrap t B (x *ℤ y); wide_is = refl; narrow_is = ap Ok (sym (low-product s t A B x y h g)) }
-low-two_meaning s t A B And x y h g l = record { number = val t (bits_and (bits B x) (bits B y)); wide_is = refl; narrow_is = ap Ok (sym (low-and s t A B x y h g)) }
-low-two_meaning s t A B Or x y h g l = record { number = val t (bits_or (bits B x) (bits B y)); wide_is = refl; narrow_is = ap Ok (sym (low-or s t A B x y h g)) }
-low-two_meaning s t A B Xor x y h g l = record { number = val t (bits_xor (bits B x) (bits B y)); wide_is = refl; narrow_is = ap Ok (sym (low-xor s t A B x y h g)) }
-low-two_meaning s t A B op x y h g l = absurd l
+low-two_meaning s t A B WrappingAdd to left right x y h g l = record { number = wrap t B (x +ℤ y); wide_is = refl; narrow_is = ap Ok (sym (low-sum s t A B x y h g)) }
+low-two_meaning s t A B WrappingSub to left right x y h g l = record { number = wrap t B (x -ℤ y); wide_is = refl; narrow_is = ap Ok (sym (low-difference s t A B x y h g)) }
+low-two_meaning s t A B WrappingMul to left right x y h g l = record { number = wrap t B (x *ℤ y); wide_is = refl; narrow_is = ap Ok (sym (low-product s t A B x y h g)) }
+low-two_meaning s t A B And to left right x y h g l = record { number = val t (bits_and (bits B x) (bits B y)); wide_is = refl; narrow_is = ap Ok (sym (low-and s t A B x y h g)) }
+low-two_meaning s t A B Or to left right x y h g l = record { number = val t (bits_or (bits B x) (bits B y)); wide_is = refl; narrow_is = ap Ok (sym (low-or s t A B x y h g)) }
+low-two_meaning s t A B Xor to left right x y h g l = record { number = val t (bits_xor (bits B x) (bits B y)); wide_is = refl; narrow_is = ap Ok (sym (low-xor s t A B x y h g)) }
+low-two_meaning s t A B op to left right x y h g l = absurd l
 
-low-one_meaning : (s t : Bool) (A B : ℕ) (op : OneOp) (x : ℤ) → 1 ≤ A → A ≤ B → IsLowBitOne op
+low-one_meaning : (s t : Bool) (A B : ℕ) (op : OneOp) (to src : ℕ) (x : ℤ) → 1 ≤ A → A ≤ B → IsLowBit A (One op to src)
     → LowResult s A (one_meaning t B op x) (one_meaning s A op (wrap s A x))
-low-one_meaning s t A B Not x h g l = record { number = val t (bits_not (bits B x)); wide_is = refl; narrow_is = ap Ok (sym (low-not s t A B x h g)) }
-low-one_meaning s t A B WrappingNeg x h g l = record {
+low-one_meaning s t A B Not to src x h g l = record { number = val t (bits_not (bits B x)); wide_is = refl; narrow_is = ap Ok (sym (low-not s t A B x h g)) }
+low-one_meaning s t A B WrappingNeg to src x h g l = record {
   number = wrap t B (pos 0 -ℤ x);
   wide_is = refl;
   narrow_is = ap Ok (sym (low-difference s t A B (pos 0) x h g ∙ ap (λ (z : ℤ). wrap s A (z -ℤ wrap s A x)) (wrap-zero s A h)));
 }
-low-one_meaning s t A B op x h g l = absurd l
+low-one_meaning s t A B op to src x h g l = absurd l
 
-low-by_meaning : (s t : Bool) (A B : ℕ) (op : ByOp) (x : ℤ) (amount : ℕ) → 1 ≤ A → A ≤ B → IsLowBitBy A op amount
+low-by_meaning : (s t : Bool) (A B : ℕ) (op : ByOp) (to src : ℕ) (x : ℤ) (amount : ℕ) → 1 ≤ A → A ≤ B → IsLowBit A (By op to src amount)
     → LowResult s A (by_meaning t B op x amount) (by_meaning s A op (wrap s A x) amount)
-low-by_meaning s t A B WrappingShl x k h g l = record {
+low-by_meaning s t A B WrappingShl to src x k h g l = record {
   number = val t (shl (bits B x) k);
   wide_is = let m : k < B = omega arith in let e : k % B ≡ k = mod-eq_of_lt m in rw e refl;
   narrow_is = let e : k % A ≡ k = mod-eq_of_lt l in rw e (ap Ok (sym (low-shl s t A B k x g l)));
 }
-low-by_meaning s t A B op x k h g l = absurd l
+low-by_meaning s t A B op to src x k h g l = absurd l
 
 -- a source, wrapped
 low-register : (s : Bool) (A : ℕ) (regs : List ℤ) (k : ℕ) → 1 ≤ A → get_or (map (wrap s A) regs) k (pos 0) ≡ wrap s A (get_or regs k (pos 0))
@@ -68,11 +68,11 @@ low-register s A regs k h = ap (get_or (map (wrap s A) regs) k) (sym (wrap-zero 
 low-result : (s t : Bool) (A B : ℕ) (step : Step) (regs : List ℤ) → 1 ≤ A → A ≤ B → IsLowBit A step
     → LowResult s A (result_of t B step regs) (result_of s A step (map (wrap s A) regs))
 low-result s t A B (Two op to left right) regs h g l =
-    rw (low-register s A regs left h, low-register s A regs right h) (low-two_meaning s t A B op (get_or regs left (pos 0)) (get_or regs right (pos 0)) h g l)
+    rw (low-register s A regs left h, low-register s A regs right h) (low-two_meaning s t A B op to left right (get_or regs left (pos 0)) (get_or regs right (pos 0)) h g l)
 low-result s t A B (One op to src) regs h g l =
-    rw (low-register s A regs src h) (low-one_meaning s t A B op (get_or regs src (pos 0)) h g l)
+    rw (low-register s A regs src h) (low-one_meaning s t A B op to src (get_or regs src (pos 0)) h g l)
 low-result s t A B (By op to src amount) regs h g l =
-    rw (low-register s A regs src h) (low-by_meaning s t A B op (get_or regs src (pos 0)) amount h g l)
+    rw (low-register s A regs src h) (low-by_meaning s t A B op to src (get_or regs src (pos 0)) amount h g l)
 
 -- the narrow run on the wrapped registers is the wide one, wrapped, and neither stops
 pub record LowRun (s : Bool) (A : ℕ) (wide narrow : List ℤ × Result ⊤ Stop) : Type 0 where

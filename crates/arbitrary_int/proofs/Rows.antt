@@ -2,11 +2,12 @@
 use Rattle.std.specs.Prelude.{◌≡◌, ℕ, zero, suc, ℤ, pos, negsuc, ◌+ℤ◌, ◌-ℤ◌, ◌≤ℤ◌, ◌<ℤ◌, ◌≤◌, Bool, true, false, List, [], ◌∷◌, ◌++◌}
 use Rattle.std.proofs.Common.{refl, ap, sym, subst, ◌∙◌, arith, lit≤}
 use Rattle.std.proofs.lemmas.Int.{ints}
+use Rattle.std.specs.Int.{int_gap}
 use Rattle.arbitrary_base.specs.Range.{InRange}
 use Rattle.arbitrary_base.specs.Residue.{Congruent, wrap}
 use Rattle.arbitrary_base.proofs.modular.Congruence.{Congruent-add, Congruent-sub, Congruent-refl, span, pow_le}
 use Rattle.arbitrary_base.proofs.modular.Residue.{wrap-congruent, wrap-same, wrap-of_in_range}
-use Rattle.arbitrary_int.specs.Row.{row, natural, numbers, left}
+use Rattle.arbitrary_int.specs.Row.{row, numbers, left}
 
 -- a wrapped sum or difference with the truncation of a number
 pub moved_up : (s : Bool) (B : ℕ) (x y m z : ℤ) → 1 ≤ B → InRange s B (x +ℤ y) → m ≡ wrap s B y → z ≡ wrap s B (x +ℤ m) → z ≡ x +ℤ y
@@ -41,38 +42,43 @@ row-last x (suc n) =
     let e : x +ℤ pos 1 +ℤ pos n ≡ x +ℤ pos (suc n) = omega (arith, ints) in
     ap (λ (ys : List ℤ). x ∷ ys) (row-last (x +ℤ pos 1) n ∙ ap (λ (w : ℤ). row (x +ℤ pos 1) n ++ w ∷ []) e)
 
-count-suc : (z : ℤ) → pos 0 ≤ℤ z → natural (z +ℤ pos 1) ≡ suc (natural z)
-count-suc (pos n) h = omega (arith, ints)
-count-suc (negsuc n) h = absurd (omega (arith, ints))
+gap-some : (a b : ℤ) → a ≤ℤ b → pos (int_gap a b) ≡ b -ℤ a
+gap-some (pos a) (pos b) h = omega (arith, ints)
+gap-some (pos a) (negsuc b) h = absurd (omega (arith, ints))
+gap-some (negsuc a) (pos b) h = omega (arith, ints)
+gap-some (negsuc a) (negsuc b) h = omega (arith, ints)
 
-count-none : (z : ℤ) → z ≤ℤ pos 0 → natural z ≡ 0
-count-none (pos n) h = omega (arith, ints)
-count-none (negsuc n) h = refl
+gap-none : (a b : ℤ) → b ≤ℤ a → int_gap a b ≡ 0
+gap-none (pos a) (pos b) h = omega (arith, ints)
+gap-none (pos a) (negsuc b) h = refl
+gap-none (negsuc a) (pos b) h = absurd (omega (arith, ints))
+gap-none (negsuc a) (negsuc b) h = omega (arith, ints)
 
 -- none where the first is greater
 pub numbers-none : (a b : ℤ) → b <ℤ a → numbers a b ≡ []
-numbers-none a b h = ap (row a) (count-none (b +ℤ pos 1 -ℤ a) (omega (arith, ints)))
+numbers-none a b h = ap (row a) (gap-none a (b +ℤ pos 1) (omega (arith, ints)))
 
-counted : (a b : ℤ) → a ≤ℤ b → natural (b +ℤ pos 1 -ℤ a) ≡ suc (natural (b -ℤ a))
-counted a b h = let e : b +ℤ pos 1 -ℤ a ≡ b -ℤ a +ℤ pos 1 = omega (arith, ints) in ap natural e ∙ count-suc (b -ℤ a) (omega (arith, ints))
+counted : (a b : ℤ) → a ≤ℤ b → int_gap a (b +ℤ pos 1) ≡ suc (int_gap a b)
+counted a b h =
+    let e = gap-some a b h in
+    let f = gap-some a (b +ℤ pos 1) (omega (arith, ints)) in
+    omega (arith, ints)
 
 -- the first, and those after it
 pub numbers-first : (a b c : ℤ) → a ≤ℤ b → c ≡ a +ℤ pos 1 → numbers a b ≡ a ∷ numbers c b
 numbers-first a b c h e =
-    let f : b -ℤ a ≡ b +ℤ pos 1 -ℤ c = omega (arith, ints) in
-    ap (row a) (counted a b h) ∙ (λ i. a ∷ row (sym e i) (natural (f i)))
-
-natural-pos : (z : ℤ) → pos 0 ≤ℤ z → pos (natural z) ≡ z
-natural-pos (pos n) h = refl
-natural-pos (negsuc n) h = absurd (omega (arith, ints))
+    let f = gap-some a b h in
+    let g = gap-some c (b +ℤ pos 1) (omega (arith, ints)) in
+    let k : int_gap a b ≡ int_gap c (b +ℤ pos 1) = omega (arith, ints) in
+    ap (row a) (counted a b h) ∙ (λ i. a ∷ row (sym e i) (k i))
 
 -- the last, and those before it
 pub numbers-last : (a b c : ℤ) → a ≤ℤ b → c ≡ b -ℤ pos 1 → numbers a b ≡ numbers a c ++ b ∷ []
 numbers-last a b c h e =
-    let f : b -ℤ a ≡ c +ℤ pos 1 -ℤ a = omega (arith, ints) in
-    let g = natural-pos (b -ℤ a) (omega (arith, ints)) in
-    let k : a +ℤ pos (natural (b -ℤ a)) ≡ b = omega (arith, ints) in
-    ap (row a) (counted a b h) ∙ row-last a (natural (b -ℤ a)) ∙ (λ i. row a (natural (f i)) ++ k i ∷ [])
+    let f : b ≡ c +ℤ pos 1 = omega (arith, ints) in
+    let g = gap-some a b h in
+    let k : a +ℤ pos (int_gap a b) ≡ b = omega (arith, ints) in
+    ap (row a) (counted a b h) ∙ row-last a (int_gap a b) ∙ (λ i. row a (int_gap a (f i)) ++ k i ∷ [])
 
 -- one number alone
 pub numbers-one : (a b : ℤ) → a ≡ b → numbers a b ≡ a ∷ []

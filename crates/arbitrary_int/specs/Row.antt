@@ -1,19 +1,15 @@
 -- Whole numbers in a row, and how far one is from another.
-use Rattle.std.specs.Prelude.{◌≡◌, ◌^◌, ℕ, zero, suc, ◌-◌, Bool, true, false, ℤ, pos, negsuc, ◌+ℤ◌, ◌-ℤ◌, List, [], ◌∷◌, Option, Some, None, if◌then◌else◌, nat_lt}
+use Rattle.std.specs.Prelude.{◌≡◌, ◌^◌, ℕ, zero, suc, ◌-◌, Bool, true, false, ℤ, pos, negsuc, ◌+ℤ◌, List, [], ◌∷◌, Option, Some, None, if◌then◌else◌, nat_lt}
+use Rattle.std.specs.Int.{int_gap}
 
 -- n numbers, from x on
 abbrev pub row : ℤ → ℕ → List ℤ
 row x zero = []
 row x (suc n) = x ∷ row (x +ℤ pos 1) n
 
--- 0 for a number below 0
-abbrev pub natural : ℤ → ℕ
-natural (pos n) = n
-natural (negsuc n) = 0
-
 -- the numbers from a to b, none where a is greater
 abbrev pub numbers : ℤ → ℤ → List ℤ
-numbers a b = row a (natural (b +ℤ pos 1 -ℤ a))
+numbers a b = row a (int_gap a (b +ℤ pos 1))
 
 -- those that a range from a to b still has to give: none once it is done
 abbrev pub left : Bool → ℤ → ℤ → List ℤ

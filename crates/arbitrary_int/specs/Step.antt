@@ -6,7 +6,8 @@ use Rattle.arbitrary_base.specs.Residue.{wrap}
 use Rattle.arbitrary_base.specs.Saturation.{clamp}
 use Rattle.arbitrary_base.specs.Exact.{number_of_type}
 use Rattle.arbitrary_base.specs.Power.{power}
-use Rattle.arbitrary_base.specs.BitList.{bits, val, bits_and, bits_or, bits_xor, bits_not, shl, shr, fill, rotl, rotr}
+use Rattle.arbitrary_base.specs.Operation.{shifted_right}
+use Rattle.arbitrary_base.specs.BitList.{bits, val, bits_and, bits_or, bits_xor, bits_not, shl, rotl, rotr}
 use Rattle.arbitrary_int.specs.declared.steps.TwoOp.{TwoOp}
 use Rattle.arbitrary_int.specs.declared.steps.TwoOp.TheVariants.{WrappingAdd, WrappingSub, WrappingMul, WrappingDiv, SaturatingAdd, SaturatingSub, SaturatingMul, SaturatingDiv, CheckedAdd, CheckedSub, CheckedMul, CheckedDiv, And, Or, Xor}
 use Rattle.arbitrary_int.specs.declared.steps.OneOp.{OneOp}
@@ -21,10 +22,6 @@ use Rattle.arbitrary_int.specs.declared.steps.Why.TheVariants.{Refused, ZeroDivi
 -- the result, unless the divisor is zero
 abbrev pub unless_zero : ℤ → Why → Result ℤ Why → Result ℤ Why
 unless_zero y why result = if int_eq y (pos 0) then Err why else result
-
--- the bits of x, shifted right with what the type brings in
-abbrev pub shifted_right : Bool → ℕ → ℤ → ℕ → ℤ
-shifted_right s B x k = val s (shr (bits B x) k (fill s (bits B x)))
 
 -- the result, where the amount is below the width
 abbrev pub if_below : ℕ → ℕ → ℤ → Result ℤ Why
