@@ -71,9 +71,11 @@ pub trait FixedWidth: Integer + LowBits {
 
     ghost xor_associates: { Associates (bitwise_xor Self.IS_SIGNED Self.BITS) };
 
-    ghost and_distributes: { DistributesOver (bitwise_or Self.IS_SIGNED Self.BITS) (bitwise_and Self.IS_SIGNED Self.BITS) };
+    ghost and_distributes: { DistributesOver (bitwise_or Self.IS_SIGNED Self.BITS)
+        (bitwise_and Self.IS_SIGNED Self.BITS) };
 
-    ghost or_distributes: { DistributesOver (bitwise_and Self.IS_SIGNED Self.BITS) (bitwise_or Self.IS_SIGNED Self.BITS) };
+    ghost or_distributes: { DistributesOver (bitwise_and Self.IS_SIGNED Self.BITS)
+        (bitwise_or Self.IS_SIGNED Self.BITS) };
 
     ghost not_of_and: { Dualizes (bitwise_not Self.IS_SIGNED Self.BITS) (bitwise_and Self.IS_SIGNED Self.BITS)
         (bitwise_or Self.IS_SIGNED Self.BITS) };
