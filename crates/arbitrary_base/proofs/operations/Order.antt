@@ -52,8 +52,8 @@ or-below_sum B x y h f g =
     let e = num-or_and (bits B x) (bits B y) (same_length B x y) in
     omega (arith, ints)
 
-pub difference-below_xor : (B : ℕ) (x y : ℤ) → 1 ≤ B → InRange false B x → InRange false B y → (x -ℤ y) ≤ℤ bitwise_xor false B x y
-difference-below_xor B x y h f g =
+pub difference-below_xor : (B : ℕ) (x y z : ℤ) → 1 ≤ B → InRange false B x → InRange false B y → z ≤ℤ (x -ℤ y) → z ≤ℤ bitwise_xor false B x y
+difference-below_xor B x y z h f g l =
     let a = plain B x f in
     let b = plain B y g in
     let c = plain B (bitwise_xor false B x y) (xor-in_range false B x y h) in
@@ -61,6 +61,15 @@ difference-below_xor B x y h f g =
     let e = num-xor_and (bits B x) (bits B y) (same_length B x y) in
     let i = num-or_and (bits B x) (bits B y) (same_length B x y) in
     let j = num-and_right (bits B x) (bits B y) in
+    omega (arith, ints)
+
+pub and-below_or : (B : ℕ) (x y : ℤ) → 1 ≤ B → bitwise_and false B x y ≤ℤ bitwise_or false B x y
+and-below_or B x y h =
+    let a = plain B (bitwise_and false B x y) (and-in_range false B x y h) in
+    let b = plain B (bitwise_or false B x y) (or-in_range false B x y h) in
+    let c = ap num (bits-and false B x y) in
+    let d = ap num (bits-or false B x y) in
+    let e = num-xor_and (bits B x) (bits B y) (same_length B x y) in
     omega (arith, ints)
 
 -- ---- where it has one: which results are below 0
@@ -83,9 +92,8 @@ or-negative B x y h f g =
     let e = sign-pointwise (λ a b. a || b) B x y _ refl h f g (or-in_range true B x y h) (bits-or true B x y) in
     (grind (arith, e), grind (arith, e))
 
--- where both are, or neither, it is not
 pub xor-negative : (B : ℕ) (x y : ℤ) → 1 ≤ B → InRange true B x → InRange true B y
-    → (pos 0 ≤ℤ bitwise_xor true B x y) ↔ ((x <ℤ pos 0) ↔ (y <ℤ pos 0))
+    → (bitwise_xor true B x y <ℤ pos 0) ↔ (((x <ℤ pos 0) × (pos 0 ≤ℤ y)) ⊎ ((pos 0 ≤ℤ x) × (y <ℤ pos 0)))
 xor-negative B x y h f g =
     let e = sign-pointwise (λ a b. not (beq a b)) B x y _ refl h f g (xor-in_range true B x y h) (bits-xor true B x y) in
     (grind (arith, e), grind (arith, e))
