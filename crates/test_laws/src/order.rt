@@ -68,5 +68,5 @@ pub fn sign_of_or(x: i48, y: i48) -> bool
 pub fn sign_of_xor(x: i48, y: i48) -> bool
     ensures { IsTrue result }
 {
-    (x ^ y).is_negative() == (x.is_negative() != y.is_negative())
+    x.is_negative() || y.is_negative() || !(x ^ y).is_negative()
 }

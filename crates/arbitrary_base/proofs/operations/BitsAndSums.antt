@@ -1,22 +1,20 @@
 -- The laws of bits beside sums, differences and order.
-use Rattle.std.specs.Prelude.{◌≡◌, ℕ, ℤ, Bool, true, false, not, ◌&&◌, ◌||◌, List, [], ◌∷◌, length, pos, ◌≤◌, ◌+◌, ◌*◌, ◌+ℤ◌, ◌-ℤ◌, ◌≤ℤ◌}
+use Rattle.std.specs.Prelude.{◌≡◌, ℕ, ℤ, Bool, true, false, not, ◌&&◌, ◌||◌, List, [], ◌∷◌, length, pos, ◌≤◌, ◌+◌, ◌≤ℤ◌}
 use Rattle.std.specs.Bool.{beq}
 use Rattle.std.proofs.Common.{refl, sym, ap, subst, ◌∙◌, arith}
 use Rattle.std.proofs.lemmas.Int.{ints}
 use Rattle.arbitrary_base.specs.Range.{InRange}
 use Rattle.arbitrary_base.specs.Residue.{Congruent}
-use Rattle.arbitrary_base.specs.BitList.{bits, num, val, bits_and, bits_not, bits_or, bits_xor}
+use Rattle.arbitrary_base.specs.BitList.{bits, num, bits_and, bits_not, bits_or, bits_xor}
 use Rattle.arbitrary_base.specs.Operation.{bitwise_and, bitwise_not, bitwise_or, bitwise_xor, shifted_left, wrapped_difference, wrapped_sum}
-use Rattle.arbitrary_base.proofs.modular.Congruence.{Congruent-refl, Congruent-sym, Congruent-trans}
+use Rattle.arbitrary_base.proofs.modular.Congruence.{Congruent-sym}
 use Rattle.arbitrary_base.proofs.modular.Residue.{residue-congruent, wrap-in_range}
-use Rattle.arbitrary_base.proofs.bit_lists.UnsignedNumber.{length-bits, same_length}
+use Rattle.arbitrary_base.proofs.bit_lists.UnsignedNumber.{same_length}
 use Rattle.arbitrary_base.proofs.bit_lists.TwosComplement.{num-bits_residue, val-num}
 use Rattle.arbitrary_base.proofs.bit_lists.StdBitwise.{num-and_right, num-plain}
-use Rattle.arbitrary_base.proofs.bit_lists.Pointwise.{pointwise}
-use Rattle.arbitrary_base.proofs.operations.Bitwise.{and-absorbs, bitwise_or-commutes, bitwise_or-zero, bitwise_and-commutes}
-use Rattle.arbitrary_base.proofs.operations.WrappedRing.{by-congruence, sum-congruent, sum-in_range, difference-congruent, difference-in_range, wrapped_product-commutes, wrapped_product-two, wrapped_sum-zero}
+use Rattle.arbitrary_base.proofs.operations.WrappedRing.{by-congruence, sum-congruent, sum-in_range, difference-congruent, difference-in_range, wrapped_product-two, wrapped_sum-zero}
 use Rattle.arbitrary_base.proofs.operations.Shift.{shifted_left-is_product}
-use Rattle.arbitrary_base.proofs.operations.Definition.{and-is, or-is, xor-is, not-is, bits-and, bits-not, bits-or, bits-xor, length-of_two}
+use Rattle.arbitrary_base.proofs.operations.Definition.{and-is, or-is, xor-is, bits-and, bits-not, bits-or, bits-xor, length-of_two}
 
 -- ---- the numbers of lists
 

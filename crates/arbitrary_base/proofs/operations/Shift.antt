@@ -1,5 +1,5 @@
 -- The laws of shifts on the numbers of a type.
-use Rattle.std.specs.Prelude.{◌≡◌, ℕ, ℤ, Bool, true, false, not, ◌&&◌, ◌||◌, List, [], ◌∷◌, ◌++◌, get_or, take, length, replicate, pos, negsuc, neg_ℤ, zero, suc, ◌≤◌, ◌<◌, ◌+◌, ◌-◌, ◌*◌, ◌/◌, ◌^◌, ◌+ℤ◌, ◌-ℤ◌, ◌*ℤ◌}
+use Rattle.std.specs.Prelude.{◌≡◌, ℕ, ℤ, Bool, true, false, not, ◌&&◌, ◌||◌, List, [], ◌∷◌, ◌++◌, get_or, take, length, replicate, pos, negsuc, neg_ℤ, zero, suc, ◌≤◌, ◌<◌, ◌+◌, ◌-◌, ◌*◌, ◌/◌, ◌^◌, ◌-ℤ◌, ◌*ℤ◌}
 use Rattle.std.specs.Bool.{beq}
 use Rattle.std.specs.Int.{int_shr}
 use Rattle.std.proofs.Common.{refl, sym, ap, ap₂, ◌∙◌, arith, pow-add}
@@ -7,9 +7,9 @@ use Rattle.std.proofs.Math.IntN.{*ℤ_comm}
 use Rattle.std.proofs.Math.Nat.{div-div-eq-div-mul, div-eq_of_lt-le, pow-le-pow_right, zero-div}
 use Rattle.std.proofs.lemmas.Int.{ints}
 use Rattle.std.proofs.lemmas.Nat.{pow_pos}
-use Rattle.std.proofs.lemmas.List.{drop-replicate, length-replicate, replicate-append-replicate, take-replicate}
+use Rattle.std.proofs.lemmas.List.{length-replicate, replicate-append-replicate, take-replicate}
 use Rattle.arbitrary_base.specs.Range.{InRange}
-use Rattle.arbitrary_base.specs.Residue.{Congruent, residue, wrap}
+use Rattle.arbitrary_base.specs.Residue.{Congruent, residue}
 use Rattle.arbitrary_base.specs.BitList.{bits, bits_and, bits_or, bits_xor, fill, shl, shr}
 use Rattle.arbitrary_base.specs.Operation.{bitwise_and, bitwise_or, bitwise_xor, bitwise_not, shifted_left, shifted_right, wrapped_sum, wrapped_difference, wrapped_product}
 use Rattle.arbitrary_base.proofs.integers.Ring.{sub-mul_z}
@@ -24,7 +24,7 @@ use Rattle.arbitrary_base.proofs.bit_lists.Rotation.{shl-none, shl-past, shl-shr
 use Rattle.arbitrary_base.proofs.operations.Definition.{and-is, or-is, xor-is, left-is, not-in_range, not-is, right-is, bits-and, bits-highest, bits-left, bits-minus_one, bits-not_zero, bits-or, bits-right, bits-xor, bits-zero, by-bits, of-bits, product-is, zero-is}
 use Rattle.arbitrary_base.proofs.operations.Bitwise.{alike}
 use Rattle.arbitrary_base.proofs.operations.ShiftAsProduct.{shl-stays}
-use Rattle.arbitrary_base.proofs.operations.WrappedRing.{by-congruence, product-congruent, product-in_range, products-of_differences, products-of_sums, wrapped_product-commutes}
+use Rattle.arbitrary_base.proofs.operations.WrappedRing.{by-congruence, product-congruent, product-in_range, products-of_differences, products-of_sums}
 
 pub shifted_left-none : (s : Bool) (B : ℕ) (x : ℤ) → 1 ≤ B → InRange s B x → shifted_left s B x 0 ≡ x
 shifted_left-none s B x h f = by-bits _ _ _ _ _ (left-is s B x 0) (of-bits s B x h f) (shl-none (bits B x))
