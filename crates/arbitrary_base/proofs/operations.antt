@@ -12,3 +12,6 @@ pub mod BitsAndSums
 pub mod Mask
 pub mod Complement
 pub mod PowerAndQuotient
+pub mod Carry
+pub mod Order
+pub mod Cancellation

@@ -1,49 +1,62 @@
 -- The laws of the operations, for callers, in sets by theme. Each set closes the goals of its theme, and a file names one:
 -- `#![tactic(auto, using(arbitrary_int::proofs::BitVector::bits))]`. All of them at once are too many for the search.
+use Rattle.std.proofs.lemmas.Bool.Decides.{Decides-int_eq}
 use Rattle.arbitrary_base.proofs.operations.Bitwise.{and-absorbs, and-distributes_or, and-distributes_xor, bitwise_and-associates, bitwise_and-commutes, bitwise_and-complement, bitwise_and-highest, bitwise_and-minus_one, bitwise_and-not_zero, bitwise_and-same, bitwise_and-zero, bitwise_not-twice, bitwise_not-zero, bitwise_not-zero_signed, bitwise_or-associates, bitwise_or-commutes, bitwise_or-complement, bitwise_or-highest, bitwise_or-minus_one, bitwise_or-not_zero, bitwise_or-same, bitwise_or-zero, bitwise_xor-associates, bitwise_xor-commutes, bitwise_xor-equal, bitwise_xor-highest, bitwise_xor-minus_one, bitwise_xor-not_zero, bitwise_xor-same, bitwise_xor-undoes, bitwise_xor-zero, not-and_parts, not-or_parts, not-xor_left, or-absorbs, or-distributes_and, xor-is_and}
 use Rattle.arbitrary_base.proofs.storages.Clamp.{clamp-fits}
-use Rattle.arbitrary_base.proofs.operations.Complement.{difference-of_or, negated-is_sum, not-is_difference, not-of_before, sum-of_parts, sum-with_not}
-use Rattle.arbitrary_base.proofs.operations.Mask.{and-or_of_not, and_not-is_xor, choice-is_xor, or-and_of_not, or-is_xor, or-of_parts, xor-is_or}
+use Rattle.arbitrary_base.proofs.operations.Complement.{difference-by_not, difference-of_nots, difference-of_or, negated-is_sum, negated-not, not-is_difference, not-is_negated, not-of_before, not-of_difference, not-of_sum, sum-by_not, sum-of_parts, sum-with_not}
+use Rattle.arbitrary_base.proofs.operations.Mask.{and-or_of_not, and_not-is_xor, choice-is_xor, majority-is_xor, or-and_of_not, or-is_xor, or-of_parts, xor-is_or}
 use Rattle.arbitrary_base.proofs.operations.PopulationAndRuns.{front-of_highest, front-of_not_zero, front-of_reversed, front-of_zero, front_ones-of_not, front_zeros-of_not, popcount-of_highest, popcount-of_left, popcount-of_minus_one, popcount-of_not, popcount-of_reversed, popcount-of_right, popcount-of_zero, tail-of_highest, tail-of_not_zero, tail-of_reversed, tail-of_zero, tail_ones-of_not, tail_zeros-of_not, no_ones-of_zero, zero-of_no_ones, popcount-of_and, popcount-of_and_or, popcount-of_or}
 use Rattle.arbitrary_base.proofs.operations.BitsAndSums.{difference-of_and, difference-of_or_and, or-above, sum-of_disjoint, sum-of_or_and, sum-of_xor_and, sum-twice}
-use Rattle.arbitrary_base.proofs.operations.WrappedRing.{difference-of_sum, difference-of_sum_left, difference-to_difference, difference-turned, difference-twice, negated-sum, negated-twice, product-of_difference, product-of_negated, product-of_sum, products-of_differences, products-of_sums, sum-of_difference, sum-to_difference, wrapped_difference-is_sum, wrapped_difference-self, wrapped_difference-zero, wrapped_product-associates, wrapped_product-commutes, wrapped_product-one, wrapped_product-two, wrapped_product-zero, wrapped_sum-associates, wrapped_sum-commutes, wrapped_sum-zero}
+use Rattle.arbitrary_base.proofs.operations.WrappedRing.{difference-of_difference_right, difference-of_squares, difference-of_sum, difference-of_sum_left, difference-of_sums, difference-to_difference, difference-turned, difference-twice, negated-sum, negated-twice, product-of_difference, product-of_negated, product-of_negated_both, product-of_sum, products-of_differences, products-of_sums, sum-of_difference, sum-of_difference_right, sum-to_difference, wrapped_difference-is_sum, wrapped_difference-self, wrapped_difference-zero, wrapped_product-associates, wrapped_product-commutes, wrapped_product-one, wrapped_product-two, wrapped_product-zero, wrapped_sum-associates, wrapped_sum-commutes, wrapped_sum-zero}
 use Rattle.arbitrary_base.proofs.operations.RotateAndReverse.{left-undoes_right, reversed-and, reversed-highest, reversed-minus_one, reversed-not, reversed-not_zero, reversed-or, reversed-rotated_left, reversed-rotated_right, reversed-shifted_left, reversed-shifted_right, reversed-twice, reversed-xor, reversed-zero, right-undoes_left, rotated_left-and, rotated_left-as_shifts, rotated_left-highest, rotated_left-minus_one, rotated_left-none, rotated_left-not, rotated_left-not_zero, rotated_left-or, rotated_left-round, rotated_left-twice, rotated_left-xor, rotated_left-zero, rotated_right-as_left, rotated_right-none}
+use Rattle.arbitrary_base.proofs.operations.Carry.{sum-with_carry, sum-less_xor, sum-less_or, sum-less_and, difference-of_parts, difference-with_borrow, difference-less_xor, or-is_sum, xor-is_sum, or-less_xor}
+use Rattle.arbitrary_base.proofs.operations.Order.{and-below_or, le-tested, lt-tested, ge-tested, gt-tested, xor-below_or, or-below_sum, difference-below_xor, shifted_right-keeps_order, and-negative, or-negative, xor-negative}
+use Rattle.arbitrary_base.proofs.operations.Cancellation.{differences-equal, differences_from-equal, left_rotations-equal, nots-equal, reversals-equal, right_rotations-equal, sums-equal, xors-equal}
 use Rattle.arbitrary_base.proofs.operations.PowerAndQuotient.{to_u128_bits-back, power-none, power-one, power-twice, quotient-self, power-of_one, power-of_zero}
 use Rattle.arbitrary_base.proofs.modular.Residue.{wrap-of_in_range}
-use Rattle.arbitrary_base.proofs.operations.Shift.{left_right-mask, left_right-mask_not, right_left-mask, right_left-mask_not, right_left-mask_signed, shifted_left-and, shifted_left-difference, shifted_left-none, shifted_left-or, shifted_left-past, shifted_left-sum, shifted_left-twice, shifted_left-xor, shifted_left-zero, shifted_right-and, shifted_right-none, shifted_right-or, shifted_right-twice, shifted_right-xor, shifted_right-zero}
+use Rattle.arbitrary_base.proofs.operations.Shift.{left_right-mask, left_right-mask_not, left_right-numeral, right_left-mask, right_left-mask_not, right_left-mask_signed, right_left-numeral, right_left-numeral_signed, shifted_left-and, shifted_left-difference, shifted_left-is_product, shifted_left-none, shifted_left-or, shifted_left-past, shifted_left-sum, shifted_left-twice, shifted_left-xor, shifted_left-zero, shifted_right-and, shifted_right-none, shifted_right-not, shifted_right-or, shifted_right-twice, shifted_right-xor, shifted_right-zero}
 
 -- one of `& | ^ !`, or several of the same
-pub ruleset bits = (bitwise_and-commutes, bitwise_and-associates, bitwise_and-same, bitwise_and-zero, bitwise_and-highest, bitwise_and-minus_one, bitwise_and-not_zero, bitwise_and-complement, bitwise_or-commutes, bitwise_or-associates, bitwise_or-same, bitwise_or-zero, bitwise_or-highest, bitwise_or-minus_one, bitwise_or-not_zero, bitwise_or-complement, bitwise_xor-commutes, bitwise_xor-associates, bitwise_xor-same, bitwise_xor-zero, bitwise_xor-highest, bitwise_xor-minus_one, bitwise_xor-not_zero, bitwise_xor-undoes, bitwise_xor-equal, bitwise_not-twice, bitwise_not-zero, bitwise_not-zero_signed)
+pub ruleset bits = (Decides-int_eq, bitwise_and-commutes, bitwise_and-associates, bitwise_and-same, bitwise_and-zero, bitwise_and-highest, bitwise_and-minus_one, bitwise_and-not_zero, bitwise_and-complement, bitwise_or-commutes, bitwise_or-associates, bitwise_or-same, bitwise_or-zero, bitwise_or-highest, bitwise_or-minus_one, bitwise_or-not_zero, bitwise_or-complement, bitwise_xor-commutes, bitwise_xor-associates, bitwise_xor-same, bitwise_xor-zero, bitwise_xor-highest, bitwise_xor-minus_one, bitwise_xor-not_zero, bitwise_xor-undoes, bitwise_xor-equal, bitwise_not-twice, bitwise_not-zero, bitwise_not-zero_signed)
 
 -- `& | ^ !` one over another
-pub ruleset distribution = (and-distributes_or, or-distributes_and, and-distributes_xor, and-absorbs, or-absorbs, not-and_parts, not-or_parts, not-xor_left, xor-is_and, bitwise_and-commutes, bitwise_or-commutes, bitwise_xor-commutes, bitwise_not-twice)
+pub ruleset distribution = (Decides-int_eq, and-distributes_or, or-distributes_and, and-distributes_xor, and-absorbs, or-absorbs, not-and_parts, not-or_parts, not-xor_left, xor-is_and, bitwise_and-commutes, bitwise_or-commutes, bitwise_xor-commutes, bitwise_not-twice)
 
 -- shifts
-pub ruleset shifts = (shifted_left-none, shifted_left-zero, shifted_left-twice, shifted_left-past, shifted_left-sum, shifted_left-difference, shifted_left-and, shifted_left-or, shifted_left-xor, sum-twice, shifted_right-none, shifted_right-zero, shifted_right-twice, shifted_right-and, shifted_right-or, shifted_right-xor, right_left-mask, right_left-mask_signed, right_left-mask_not, left_right-mask, left_right-mask_not, bitwise_not-zero, bitwise_not-zero_signed)
+pub ruleset shifts = (Decides-int_eq, shifted_left-none, shifted_left-zero, shifted_left-twice, shifted_left-past, shifted_left-sum, shifted_left-difference, shifted_left-and, shifted_left-or, shifted_left-xor, sum-twice, shifted_right-none, shifted_right-zero, shifted_right-twice, shifted_right-and, shifted_right-or, shifted_right-xor, right_left-mask, right_left-mask_signed, right_left-mask_not, left_right-mask, left_right-mask_not, bitwise_not-zero, bitwise_not-zero_signed, shifted_right-not, right_left-numeral, right_left-numeral_signed, left_right-numeral)
 
 -- rotations
-pub ruleset rotations = (rotated_left-none, rotated_left-twice, rotated_left-round, rotated_left-zero, rotated_left-highest, rotated_left-minus_one, rotated_left-not_zero, rotated_left-and, rotated_left-or, rotated_left-xor, rotated_left-not, rotated_right-none, rotated_right-as_left, right-undoes_left, left-undoes_right)
+pub ruleset rotations = (Decides-int_eq, rotated_left-none, rotated_left-twice, rotated_left-round, rotated_left-zero, rotated_left-highest, rotated_left-minus_one, rotated_left-not_zero, rotated_left-and, rotated_left-or, rotated_left-xor, rotated_left-not, rotated_right-none, rotated_right-as_left, right-undoes_left, left-undoes_right)
 
 -- the reversal, and a rotation as two shifts
-pub ruleset reversals = (reversed-zero, reversed-highest, reversed-minus_one, reversed-not_zero, reversed-and, reversed-or, reversed-xor, reversed-not, reversed-twice, reversed-rotated_left, reversed-rotated_right, reversed-shifted_left, reversed-shifted_right, rotated_left-as_shifts, bitwise_or-commutes)
+pub ruleset reversals = (Decides-int_eq, reversed-zero, reversed-highest, reversed-minus_one, reversed-not_zero, reversed-and, reversed-or, reversed-xor, reversed-not, reversed-twice, reversed-rotated_left, reversed-rotated_right, reversed-shifted_left, reversed-shifted_right, rotated_left-as_shifts, bitwise_or-commutes, rotated_right-as_left)
 
 -- counts of bits
-pub ruleset counts = (popcount-of_zero, popcount-of_highest, popcount-of_minus_one, popcount-of_not, popcount-of_reversed, popcount-of_left, popcount-of_right, zero-of_no_ones, no_ones-of_zero, front-of_zero, front-of_not_zero, front-of_highest, front_ones-of_not, front_zeros-of_not, tail-of_zero, tail-of_not_zero, tail-of_highest, tail_ones-of_not, tail_zeros-of_not, tail-of_reversed, front-of_reversed, bitwise_not-zero, bitwise_not-zero_signed, popcount-of_and, popcount-of_and_or, popcount-of_or)
+pub ruleset counts = (Decides-int_eq, popcount-of_zero, popcount-of_highest, popcount-of_minus_one, popcount-of_not, popcount-of_reversed, popcount-of_left, popcount-of_right, zero-of_no_ones, no_ones-of_zero, front-of_zero, front-of_not_zero, front-of_highest, front_ones-of_not, front_zeros-of_not, tail-of_zero, tail-of_not_zero, tail-of_highest, tail_ones-of_not, tail_zeros-of_not, tail-of_reversed, front-of_reversed, bitwise_not-zero, bitwise_not-zero_signed, popcount-of_and, popcount-of_and_or, popcount-of_or)
 
 -- sums and differences that wrap
-pub ruleset ring = (wrapped_sum-commutes, wrapped_sum-associates, wrapped_sum-zero, wrapped_difference-self, wrapped_difference-zero, wrapped_difference-is_sum, difference-of_sum, difference-of_sum_left, sum-of_difference, sum-to_difference, difference-to_difference, difference-twice, difference-turned, negated-twice, negated-sum)
+pub ruleset ring = (Decides-int_eq, wrapped_sum-commutes, wrapped_sum-associates, wrapped_sum-zero, wrapped_difference-self, wrapped_difference-zero, wrapped_difference-is_sum, difference-of_sum, difference-of_sum_left, sum-of_difference, sum-to_difference, difference-to_difference, difference-twice, difference-turned, negated-twice, negated-sum, sum-of_difference_right, difference-of_difference_right, difference-of_sums)
 
 -- products that wrap, also of sums and differences
-pub ruleset products = (wrapped_product-commutes, wrapped_product-associates, wrapped_product-zero, wrapped_product-one, wrapped_product-two, products-of_sums, products-of_differences, product-of_sum, product-of_difference, product-of_negated)
+pub ruleset products = (Decides-int_eq, wrapped_product-commutes, wrapped_product-associates, wrapped_product-zero, wrapped_product-one, wrapped_product-two, products-of_sums, products-of_differences, product-of_sum, product-of_difference, product-of_negated, product-of_negated_both, shifted_left-is_product, difference-of_squares)
 
 -- small powers, a number by itself, and a number that is extended and cut again
 pub ruleset exact = (power-none, power-one, power-twice, quotient-self, to_u128_bits-back, wrap-of_in_range, clamp-fits, power-of_one, power-of_zero)
 
--- bits beside sums, differences and the order
-pub ruleset mixed = (sum-of_or_and, sum-of_disjoint, sum-of_xor_and, difference-of_or_and, difference-of_and, sum-twice, or-above, bitwise_and-commutes, bitwise_or-commutes, wrapped_sum-commutes)
+-- bits beside sums and differences
+pub ruleset mixed = (Decides-int_eq, sum-of_or_and, sum-of_disjoint, sum-of_xor_and, difference-of_or_and, difference-of_and, sum-twice, bitwise_and-commutes, bitwise_or-commutes, wrapped_sum-commutes)
 
 -- a number taken apart and put together under a mask, and one operation told by others
-pub ruleset masks = (or-of_parts, sum-of_parts, choice-is_xor, and-or_of_not, or-and_of_not, xor-is_or, and_not-is_xor, or-is_xor, bitwise_and-commutes, bitwise_or-commutes, bitwise_xor-commutes)
+pub ruleset masks = (Decides-int_eq, or-of_parts, sum-of_parts, choice-is_xor, and-or_of_not, or-and_of_not, xor-is_or, and_not-is_xor, or-is_xor, bitwise_and-commutes, bitwise_or-commutes, bitwise_xor-commutes, majority-is_xor)
 
 -- the complement beside sums and differences
-pub ruleset complements = (not-is_difference, negated-is_sum, not-of_before, sum-with_not, difference-of_or, difference-of_and, wrapped_sum-commutes, bitwise_not-twice)
+pub ruleset complements = (Decides-int_eq, not-is_difference, negated-is_sum, not-of_before, sum-with_not, difference-of_or, difference-of_and, wrapped_sum-commutes, bitwise_not-twice, not-is_negated, negated-not, not-of_sum, not-of_difference, difference-of_nots, difference-by_not, sum-by_not, wrapped_difference-is_sum)
+
+-- carries and borrows: sums and differences told by the bits that two numbers share, and those that one of them has
+pub ruleset carries = (Decides-int_eq, sum-with_carry, sum-less_xor, sum-less_or, sum-less_and, difference-of_parts, difference-with_borrow, difference-less_xor, or-is_sum, xor-is_sum, or-less_xor, sum-twice, wrapped_product-two, wrapped_product-commutes, bitwise_and-commutes, bitwise_or-commutes, bitwise_xor-commutes, wrapped_sum-commutes)
+
+-- the order: what its tests tell, and bits, shifts and signs beside it
+pub ruleset order = (Decides-int_eq, le-tested, lt-tested, ge-tested, gt-tested, or-above, and-below_or, xor-below_or, or-below_sum, difference-below_xor, shifted_right-keeps_order, and-negative, or-negative, xor-negative, bitwise_and-commutes, bitwise_or-commutes, bitwise_xor-commutes)
+
+-- an operand that both sides of a test of equality have
+pub ruleset cancellations = (Decides-int_eq, sums-equal, differences-equal, differences_from-equal, xors-equal, nots-equal, reversals-equal, left_rotations-equal, right_rotations-equal, wrapped_sum-commutes, bitwise_xor-commutes)

@@ -70,3 +70,9 @@ pub fn xor_zero_is_equal(x: u12, y: u12) -> bool
 {
     ((x ^ y) == u12::zero()) == (x == y)
 }
+
+pub fn xor_zero_is_equal_signed(x: i12, y: i12) -> bool
+    ensures { IsTrue result }
+{
+    ((x ^ y) == i12::zero()) == (x == y)
+}

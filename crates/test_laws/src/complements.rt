@@ -40,3 +40,45 @@ pub fn or_less_left(x: u24, y: u24) -> bool
 {
     (x | y).wrapping_sub(x) == y & !x
 }
+
+pub fn not_of_sum(x: i12, y: i12) -> bool
+    ensures { IsTrue result }
+{
+    !(x.wrapping_add(y)) == (!x).wrapping_sub(y)
+}
+
+pub fn not_of_difference(x: u12, y: u12) -> bool
+    ensures { IsTrue result }
+{
+    !(x.wrapping_sub(y)) == (!x).wrapping_add(y)
+}
+
+pub fn negated_not(x: i12) -> bool
+    ensures { IsTrue result }
+{
+    i12::zero().wrapping_sub(!x) == x.wrapping_add(i12::new(1))
+}
+
+pub fn not_is_negated_successor(x: i48) -> bool
+    ensures { IsTrue result }
+{
+    !x == i48::zero().wrapping_sub(x.wrapping_add(i48::new(1)))
+}
+
+pub fn difference_by_not(x: u24, y: u24) -> bool
+    ensures { IsTrue result }
+{
+    x.wrapping_sub(y) == x.wrapping_add(!y).wrapping_add(u24::new(1))
+}
+
+pub fn sum_by_not(x: u24, y: u24) -> bool
+    ensures { IsTrue result }
+{
+    x.wrapping_add(y) == x.wrapping_sub(!y).wrapping_sub(u24::new(1))
+}
+
+pub fn difference_of_nots(x: i5, y: i5) -> bool
+    ensures { IsTrue result }
+{
+    (!x).wrapping_sub(!y) == y.wrapping_sub(x)
+}

@@ -1,8 +1,10 @@
-//! Laws that every library of bit vectors has, most at `u12`, some at `i12` and at other widths: each function tells whether the two sides are equal, and
+//! Laws that every library of bit vectors has, most at `u12` and `i12`, some at other widths: each function tells whether the two sides are equal, and
 //! ensures that they are. None has a proof of its own: each file or function names one set of laws.
 #![tactic(auto)]
 
 pub mod bits;
+pub mod cancellations;
+pub mod carries;
 pub mod complements;
 pub mod counts;
 pub mod distribution;
@@ -10,6 +12,7 @@ pub mod exact;
 pub mod former_names;
 pub mod masks;
 pub mod mixed;
+pub mod order;
 pub mod products;
 pub mod reversals;
 pub mod ring;

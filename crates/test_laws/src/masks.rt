@@ -58,3 +58,9 @@ pub fn or_as_xor(x: u24, y: u24) -> bool
 {
     (x | y) == ((x ^ y) ^ (x & y))
 }
+
+pub fn majority(x: u24, y: u24, z: u24) -> bool
+    ensures { IsTrue result }
+{
+    ((x & y) | (x & z) | (y & z)) == ((x & y) ^ (x & z) ^ (y & z))
+}

@@ -34,3 +34,31 @@ pub fn negated_on_the_left(x: u24, y: u24) -> bool
 {
     u24::zero().wrapping_sub(x).wrapping_mul(y) == u24::zero().wrapping_sub(x.wrapping_mul(y))
 }
+
+pub fn distributes_signed(x: i12, y: i12, z: i12) -> bool
+    ensures { IsTrue result }
+{
+    x.wrapping_mul(y.wrapping_add(z)) == x.wrapping_mul(y).wrapping_add(x.wrapping_mul(z))
+}
+
+pub fn both_negated(x: i12, y: i12) -> bool
+    ensures { IsTrue result }
+{
+    i12::zero()
+        .wrapping_sub(x)
+        .wrapping_mul(i12::zero().wrapping_sub(y))
+        == x.wrapping_mul(y)
+}
+
+pub fn shl_is_product(x: i12) -> bool
+    ensures { IsTrue result }
+{
+    x.wrapping_shl(2) == x.wrapping_mul(i12::new(4))
+}
+
+pub fn difference_of_squares(x: u12, y: u12) -> bool
+    ensures { IsTrue result }
+{
+    x.wrapping_add(y).wrapping_mul(x.wrapping_sub(y))
+        == x.wrapping_mul(x).wrapping_sub(y.wrapping_mul(y))
+}

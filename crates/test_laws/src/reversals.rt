@@ -46,3 +46,9 @@ pub fn rev_rotl(x: u12) -> bool
 {
     x.rotate_left(3).reverse_bits() == x.reverse_bits().rotate_right(3)
 }
+
+pub fn rotr_is_shifts(x: u12) -> bool
+    ensures { IsTrue result }
+{
+    x.rotate_right(3) == (x.wrapping_shr(3) | x.wrapping_shl(12 - 3))
+}

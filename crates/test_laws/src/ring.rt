@@ -28,3 +28,27 @@ pub fn sub_is_add_neg(x: u12, y: u12) -> bool
 {
     x.wrapping_sub(y) == x.wrapping_add(u12::zero().wrapping_sub(y))
 }
+
+pub fn sub_sub_self_signed(x: i12, y: i12) -> bool
+    ensures { IsTrue result }
+{
+    x.wrapping_sub(x.wrapping_sub(y)) == y
+}
+
+pub fn sum_of_difference(x: i12, y: i12, z: i12) -> bool
+    ensures { IsTrue result }
+{
+    x.wrapping_add(y.wrapping_sub(z)) == x.wrapping_add(y).wrapping_sub(z)
+}
+
+pub fn difference_of_difference(x: i24, y: i24, z: i24) -> bool
+    ensures { IsTrue result }
+{
+    x.wrapping_sub(y.wrapping_sub(z)) == x.wrapping_sub(y).wrapping_add(z)
+}
+
+pub fn difference_of_sums(x: u24, y: u24, z: u24) -> bool
+    ensures { IsTrue result }
+{
+    x.wrapping_add(z).wrapping_sub(y.wrapping_add(z)) == x.wrapping_sub(y)
+}

@@ -46,3 +46,33 @@ pub fn shl_add(x: u12, y: u12) -> bool
 {
     x.wrapping_add(y).wrapping_shl(2) == x.wrapping_shl(2).wrapping_add(y.wrapping_shl(2))
 }
+
+pub fn shr_shl_is_numeral(x: u12) -> bool
+    ensures { IsTrue result }
+{
+    x.wrapping_shr(2).wrapping_shl(2) == (x & u12::new(0xFFC))
+}
+
+pub fn shr_shl_is_numeral_signed(x: i12) -> bool
+    ensures { IsTrue result }
+{
+    x.wrapping_shr(2).wrapping_shl(2) == (x & i12::new(-4))
+}
+
+pub fn shl_shr_is_numeral(x: u24) -> bool
+    ensures { IsTrue result }
+{
+    x.wrapping_shl(4).wrapping_shr(4) == (x & u24::new(0xFFFFF))
+}
+
+pub fn shr_not(x: i12) -> bool
+    ensures { IsTrue result }
+{
+    (!x).wrapping_shr(2) == !x.wrapping_shr(2)
+}
+
+pub fn shr_xor_signed(x: i12, y: i12) -> bool
+    ensures { IsTrue result }
+{
+    ((x ^ y).wrapping_shr(2)) == (x.wrapping_shr(2) ^ y.wrapping_shr(2))
+}

@@ -1,6 +1,6 @@
 -- The last bit is the sign, and a right shift that copies it is a division that rounds down.
 use Rattle.std.proofs.Common.{◌≡◌, ℕ, zero, suc, ◌-◌, ◌*◌, ◌/◌, ◌%◌, ◌^◌, ◌<◌, ◌≤◌, Bool, true, false, not, List, length, get_or, ℤ, pos, negsuc, refl, sym, ap, ◌∙◌, subst, arith, lt_of_le_of_lt, to_z, of_z, to_z-of_z}
-use Rattle.std.specs.Prelude.{FitsSigned}
+use Rattle.std.specs.Prelude.{FitsSigned, int_lt}
 use Rattle.std.specs.Int.{Width, int_shl, int_shr}
 use Rattle.std.proofs.Math.Nat.{pow-suc}
 use Rattle.std.proofs.Math.Pow.{shr_le}
@@ -38,6 +38,19 @@ last-not : (l : List Bool) → 1 ≤ length l → last (bits_not l) ≡ not (las
 last-not l h =
     ap (λ (k : ℕ). get_or (bits_not l) (k - 1) false) (length-not l)
     ∙ get_or-map not l (length l - 1) false false (omega arith)
+
+-- the last bit tells whether a number with a sign is below 0
+pub fill-is_negative : (B : ℕ) (x : ℤ) → 1 ≤ B → InRange true B x → fill true (bits B x) ≡ int_lt x (pos 0)
+fill-is_negative B (pos n) h r =
+    let t = r.high in
+    let p = pow_pos (B - 1) in
+    let e : int_lt (pos n) (pos 0) ≡ false = grind (arith, ints) in
+    last-natural B n h (omega (arith, ints)) ∙ sym e
+fill-is_negative B (negsuc n) h r =
+    let t = r.low in
+    let p = pow_pos (B - 1) in
+    let small : n < 2 ^ (B - 1) = omega (arith, ints) in
+    rw (bits-negsuc B n, last-not (bits B (pos n)) (omega (arith, length-bits B (pos n))), last-natural B n h small) refl
 
 -- ---- to the right
 

@@ -49,7 +49,7 @@ num-and_left (true ∷ l) (true ∷ m) = omega (arith, num-and_left l m)
 num-and_left (true ∷ l) (false ∷ m) = omega (arith, num-and_left l m)
 num-and_left (false ∷ l) (b ∷ m) = omega (arith, num-and_left l m)
 
-num-and_right : (l m : List Bool) → num (bits_and l m) ≤ num m
+pub num-and_right : (l m : List Bool) → num (bits_and l m) ≤ num m
 num-and_right [] m = omega arith
 num-and_right (a ∷ l) [] = omega arith
 num-and_right (true ∷ l) (b ∷ m) = omega (arith, num-and_right l m)

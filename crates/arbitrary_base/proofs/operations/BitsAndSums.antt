@@ -1,22 +1,20 @@
 -- The laws of bits beside sums, differences and order.
-use Rattle.std.specs.Prelude.{◌≡◌, ℕ, ℤ, Bool, true, false, not, ◌&&◌, ◌||◌, List, [], ◌∷◌, length, pos, ◌≤◌, ◌+◌, ◌*◌, ◌+ℤ◌, ◌-ℤ◌, ◌≤ℤ◌}
+use Rattle.std.specs.Prelude.{◌≡◌, ℕ, ℤ, Bool, true, false, not, ◌&&◌, ◌||◌, List, [], ◌∷◌, length, pos, ◌≤◌, ◌+◌, ◌≤ℤ◌}
 use Rattle.std.specs.Bool.{beq}
 use Rattle.std.proofs.Common.{refl, sym, ap, subst, ◌∙◌, arith}
 use Rattle.std.proofs.lemmas.Int.{ints}
 use Rattle.arbitrary_base.specs.Range.{InRange}
 use Rattle.arbitrary_base.specs.Residue.{Congruent}
-use Rattle.arbitrary_base.specs.BitList.{bits, num, val, bits_and, bits_not, bits_or, bits_xor}
+use Rattle.arbitrary_base.specs.BitList.{bits, num, bits_and, bits_not, bits_or, bits_xor}
 use Rattle.arbitrary_base.specs.Operation.{bitwise_and, bitwise_not, bitwise_or, bitwise_xor, shifted_left, wrapped_difference, wrapped_sum}
-use Rattle.arbitrary_base.proofs.modular.Congruence.{Congruent-refl, Congruent-sym, Congruent-trans}
+use Rattle.arbitrary_base.proofs.modular.Congruence.{Congruent-sym}
 use Rattle.arbitrary_base.proofs.modular.Residue.{residue-congruent, wrap-in_range}
-use Rattle.arbitrary_base.proofs.bit_lists.UnsignedNumber.{length-bits, same_length}
+use Rattle.arbitrary_base.proofs.bit_lists.UnsignedNumber.{same_length}
 use Rattle.arbitrary_base.proofs.bit_lists.TwosComplement.{num-bits_residue, val-num}
-use Rattle.arbitrary_base.proofs.bit_lists.StdBitwise.{num-plain}
-use Rattle.arbitrary_base.proofs.bit_lists.Pointwise.{pointwise}
-use Rattle.arbitrary_base.proofs.operations.Bitwise.{and-absorbs, bitwise_or-commutes, bitwise_or-zero, bitwise_and-commutes}
-use Rattle.arbitrary_base.proofs.operations.WrappedRing.{by-congruence, sum-congruent, sum-in_range, difference-congruent, difference-in_range, wrapped_product-commutes, wrapped_product-two, wrapped_sum-zero}
+use Rattle.arbitrary_base.proofs.bit_lists.StdBitwise.{num-and_right, num-plain}
+use Rattle.arbitrary_base.proofs.operations.WrappedRing.{by-congruence, sum-congruent, sum-in_range, difference-congruent, difference-in_range, wrapped_product-two, wrapped_sum-zero}
 use Rattle.arbitrary_base.proofs.operations.Shift.{shifted_left-is_product}
-use Rattle.arbitrary_base.proofs.operations.Definition.{and-is, or-is, xor-is, not-is, bits-and, bits-not, bits-or, bits-xor, length-of_two}
+use Rattle.arbitrary_base.proofs.operations.Definition.{and-is, or-is, xor-is, bits-and, bits-not, bits-or, bits-xor, length-of_two}
 
 -- ---- the numbers of lists
 
@@ -29,7 +27,7 @@ num-or_and (true ∷ l) (false ∷ m) e = let h = num-or_and l m (omega arith) i
 num-or_and (false ∷ l) (true ∷ m) e = let h = num-or_and l m (omega arith) in omega arith
 num-or_and (false ∷ l) (false ∷ m) e = let h = num-or_and l m (omega arith) in omega arith
 
-num-xor_and : (l m : List Bool) → length l ≡ length m → num (bits_xor l m) + num (bits_and l m) ≡ num (bits_or l m)
+pub num-xor_and : (l m : List Bool) → length l ≡ length m → num (bits_xor l m) + num (bits_and l m) ≡ num (bits_or l m)
 num-xor_and [] [] e = refl
 num-xor_and [] (b ∷ m) e = absurd (omega arith)
 num-xor_and (a ∷ l) [] e = absurd (omega arith)
@@ -107,21 +105,14 @@ sum-twice s B x h = shifted_left-is_product s B x 1 h h ∙ wrapped_product-two 
 
 -- ---- order, where the type has no sign
 
-plain : (B : ℕ) (x : ℤ) → InRange false B x → x ≡ pos (num (bits B x))
+pub plain : (B : ℕ) (x : ℤ) → InRange false B x → x ≡ pos (num (bits B x))
 plain B x f =
     let z = f.low in
     let n = num-plain false B x f z in
     omega (arith, ints)
 
 num-or_left : (l m : List Bool) → length l ≡ length m → num l ≤ num (bits_or l m)
-num-or_left l m e = let a = num-xor_and l m e in let b = num-or_and l m e in let c = num-and_le l m in omega arith
-  where
-    num-and_le : (l m : List Bool) → num (bits_and l m) ≤ num m
-    num-and_le [] m = omega arith
-    num-and_le (a ∷ l) [] = omega arith
-    num-and_le (true ∷ l) (b ∷ m) = let h = num-and_le l m in omega arith
-    num-and_le (false ∷ l) (true ∷ m) = let h = num-and_le l m in omega arith
-    num-and_le (false ∷ l) (false ∷ m) = let h = num-and_le l m in omega arith
+num-or_left l m e = omega (arith, num-or_and l m e, num-and_right l m)
 
 pub or-above : (B : ℕ) (x y : ℤ) → 1 ≤ B → InRange false B x → x ≤ℤ bitwise_or false B x y
 or-above B x y h f =

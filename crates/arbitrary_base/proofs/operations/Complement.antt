@@ -44,6 +44,53 @@ sum-with_not s B x h =
     (sum-congruent s B _ _ _ _ (Congruent-refl B x) (not-congruent s B x x (Congruent-refl B x)))
     (not-congruent s B (pos 0) (pos 0) (Congruent-refl B (pos 0))) (omega (arith, ints))
 
+pub not-is_negated : (s : Bool) (B : ℕ) (x : ℤ) → 1 ≤ B → bitwise_not s B x ≡ wrapped_difference s B (pos 0) (wrapped_sum s B x (pos 1))
+not-is_negated s B x h =
+    by-congruence s B _ _ _ _ h (not-in_range s B x h) (difference-in_range s B _ _ h) (not-congruent s B x x (Congruent-refl B x))
+    (difference-congruent s B _ _ _ _ (Congruent-refl B (pos 0)) (sum-congruent s B _ _ _ _ (Congruent-refl B x) (Congruent-refl B (pos 1))))
+    (omega (arith, ints))
+
+pub negated-not : (s : Bool) (B : ℕ) (x : ℤ) → 1 ≤ B → wrapped_difference s B (pos 0) (bitwise_not s B x) ≡ wrapped_sum s B x (pos 1)
+negated-not s B x h =
+    by-congruence s B _ _ _ _ h (difference-in_range s B _ _ h) (sum-in_range s B _ _ h)
+    (difference-congruent s B _ _ _ _ (Congruent-refl B (pos 0)) (not-congruent s B x x (Congruent-refl B x)))
+    (sum-congruent s B _ _ _ _ (Congruent-refl B x) (Congruent-refl B (pos 1))) (omega (arith, ints))
+
+-- ---- of two numbers
+
+pub not-of_sum : (s : Bool) (B : ℕ) (x y : ℤ) → 1 ≤ B → bitwise_not s B (wrapped_sum s B x y) ≡ wrapped_difference s B (bitwise_not s B x) y
+not-of_sum s B x y h =
+    by-congruence s B _ _ _ _ h (not-in_range s B _ h) (difference-in_range s B _ _ h)
+    (not-congruent s B _ _ (sum-congruent s B _ _ _ _ (Congruent-refl B x) (Congruent-refl B y)))
+    (difference-congruent s B _ _ _ _ (not-congruent s B x x (Congruent-refl B x)) (Congruent-refl B y)) (omega (arith, ints))
+
+pub not-of_difference : (s : Bool) (B : ℕ) (x y : ℤ) → 1 ≤ B → bitwise_not s B (wrapped_difference s B x y) ≡ wrapped_sum s B (bitwise_not s B x) y
+not-of_difference s B x y h =
+    by-congruence s B _ _ _ _ h (not-in_range s B _ h) (sum-in_range s B _ _ h)
+    (not-congruent s B _ _ (difference-congruent s B _ _ _ _ (Congruent-refl B x) (Congruent-refl B y)))
+    (sum-congruent s B _ _ _ _ (not-congruent s B x x (Congruent-refl B x)) (Congruent-refl B y)) (omega (arith, ints))
+
+pub difference-of_nots : (s : Bool) (B : ℕ) (x y : ℤ) → 1 ≤ B → wrapped_difference s B (bitwise_not s B x) (bitwise_not s B y) ≡ wrapped_difference s B y x
+difference-of_nots s B x y h =
+    by-congruence s B _ _ _ _ h (difference-in_range s B _ _ h) (difference-in_range s B _ _ h)
+    (difference-congruent s B _ _ _ _ (not-congruent s B x x (Congruent-refl B x)) (not-congruent s B y y (Congruent-refl B y)))
+    (difference-congruent s B _ _ _ _ (Congruent-refl B y) (Congruent-refl B x)) (omega (arith, ints))
+
+pub difference-by_not : (s : Bool) (B : ℕ) (x y : ℤ) → 1 ≤ B → wrapped_difference s B x y ≡ wrapped_sum s B (wrapped_sum s B x (bitwise_not s B y)) (pos 1)
+difference-by_not s B x y h =
+    by-congruence s B _ _ _ _ h (difference-in_range s B _ _ h) (sum-in_range s B _ _ h)
+    (difference-congruent s B _ _ _ _ (Congruent-refl B x) (Congruent-refl B y))
+    (sum-congruent s B _ _ _ _ (sum-congruent s B _ _ _ _ (Congruent-refl B x) (not-congruent s B y y (Congruent-refl B y))) (Congruent-refl B (pos 1)))
+    (omega (arith, ints))
+
+pub sum-by_not : (s : Bool) (B : ℕ) (x y : ℤ) → 1 ≤ B
+    → wrapped_sum s B x y ≡ wrapped_difference s B (wrapped_difference s B x (bitwise_not s B y)) (pos 1)
+sum-by_not s B x y h =
+    by-congruence s B _ _ _ _ h (sum-in_range s B _ _ h) (difference-in_range s B _ _ h)
+    (sum-congruent s B _ _ _ _ (Congruent-refl B x) (Congruent-refl B y))
+    (difference-congruent s B _ _ _ _ (difference-congruent s B _ _ _ _ (Congruent-refl B x) (not-congruent s B y y (Congruent-refl B y))) (Congruent-refl B (pos 1)))
+    (omega (arith, ints))
+
 -- ---- parts under a mask
 
 pub sum-of_parts : (s : Bool) (B : ℕ) (x y : ℤ) → 1 ≤ B → InRange s B x → wrapped_sum s B (bitwise_and s B x y) (bitwise_and s B x (bitwise_not s B y)) ≡ x

@@ -70,6 +70,17 @@ choice (a ∷ l) (b ∷ m) (c ∷ n) = cons (item a b c) (choice l m n)
     item : (a b c : Bool) → ((a && c) || (b && not c)) ≡ not (beq b (not (beq a b) && c))
     item a b c = grind arith
 
+majority : (l m n : List Bool) → bits_or (bits_or (bits_and l m) (bits_and l n)) (bits_and m n) ≡ bits_xor (bits_xor (bits_and l m) (bits_and l n)) (bits_and m n)
+majority [] [] n = refl
+majority [] (b ∷ m) [] = refl
+majority [] (b ∷ m) (c ∷ n) = refl
+majority (a ∷ l) [] n = refl
+majority (a ∷ l) (b ∷ m) [] = refl
+majority (a ∷ l) (b ∷ m) (c ∷ n) = cons (item a b c) (majority l m n)
+  where
+    item : (a b c : Bool) → (((a && b) || (a && c)) || (b && c)) ≡ not (beq (not (beq (a && b) (a && c))) (b && c))
+    item a b c = grind arith
+
 -- ---- of numbers
 
 pub or-of_parts : (s : Bool) (B : ℕ) (x y : ℤ) → 1 ≤ B → InRange s B x → bitwise_or s B (bitwise_and s B x y) (bitwise_and s B x (bitwise_not s B y)) ≡ x
@@ -113,3 +124,13 @@ choice-is_xor s B x y m =
     (ap₂ bits_or (bits-and s B x m) (bits-and s B y _ ∙ ap (bits_and (bits B y)) (bits-not s B m))
     ∙ choice (bits B x) (bits B y) (bits B m)
     ∙ sym (ap (bits_xor (bits B y)) (bits-and s B _ m ∙ ap (λ (l : List Bool). bits_and l (bits B m)) (bits-xor s B x y))))
+
+-- the bits that at least two of three numbers have
+pub majority-is_xor : (s : Bool) (B : ℕ) (x y z : ℤ)
+    → bitwise_or s B (bitwise_or s B (bitwise_and s B x y) (bitwise_and s B x z)) (bitwise_and s B y z)
+    ≡ bitwise_xor s B (bitwise_xor s B (bitwise_and s B x y) (bitwise_and s B x z)) (bitwise_and s B y z)
+majority-is_xor s B x y z =
+    by-bits _ _ _ _ _ (or-is s B _ _) (xor-is s B _ _)
+    (ap₂ bits_or (bits-or s B _ _ ∙ ap₂ bits_or (bits-and s B x y) (bits-and s B x z)) (bits-and s B y z)
+    ∙ majority (bits B x) (bits B y) (bits B z)
+    ∙ sym (ap₂ bits_xor (bits-xor s B _ _ ∙ ap₂ bits_xor (bits-and s B x y) (bits-and s B x z)) (bits-and s B y z)))

@@ -1,25 +1,30 @@
 -- The laws of shifts on the numbers of a type.
-use Rattle.std.specs.Prelude.{◌≡◌, ℕ, ℤ, Bool, true, false, not, ◌&&◌, ◌||◌, List, [], ◌∷◌, ◌++◌, get_or, take, length, replicate, pos, negsuc, zero, suc, ◌≤◌, ◌<◌, ◌+◌, ◌-◌, ◌*◌, ◌/◌, ◌^◌, ◌+ℤ◌, ◌-ℤ◌, ◌*ℤ◌}
+use Rattle.std.specs.Prelude.{◌≡◌, ℕ, ℤ, Bool, true, false, not, ◌&&◌, ◌||◌, List, [], ◌∷◌, ◌++◌, get_or, take, length, replicate, pos, negsuc, neg_ℤ, zero, suc, ◌≤◌, ◌<◌, ◌+◌, ◌-◌, ◌*◌, ◌/◌, ◌^◌, ◌-ℤ◌, ◌*ℤ◌}
 use Rattle.std.specs.Bool.{beq}
 use Rattle.std.specs.Int.{int_shr}
 use Rattle.std.proofs.Common.{refl, sym, ap, ap₂, ◌∙◌, arith, pow-add}
-use Rattle.std.proofs.Math.Nat.{div-div-eq-div-mul, zero-div}
+use Rattle.std.proofs.Math.IntN.{*ℤ_comm}
+use Rattle.std.proofs.Math.Nat.{div-div-eq-div-mul, div-eq_of_lt-le, pow-le-pow_right, zero-div}
 use Rattle.std.proofs.lemmas.Int.{ints}
-use Rattle.std.proofs.lemmas.List.{drop-replicate, length-replicate, replicate-append-replicate, take-replicate}
+use Rattle.std.proofs.lemmas.Nat.{pow_pos}
+use Rattle.std.proofs.lemmas.List.{length-replicate, replicate-append-replicate, take-replicate}
 use Rattle.arbitrary_base.specs.Range.{InRange}
-use Rattle.arbitrary_base.specs.Residue.{residue, wrap}
+use Rattle.arbitrary_base.specs.Residue.{Congruent, residue}
 use Rattle.arbitrary_base.specs.BitList.{bits, bits_and, bits_or, bits_xor, fill, shl, shr}
 use Rattle.arbitrary_base.specs.Operation.{bitwise_and, bitwise_or, bitwise_xor, bitwise_not, shifted_left, shifted_right, wrapped_sum, wrapped_difference, wrapped_product}
-use Rattle.arbitrary_base.proofs.modular.Congruence.{Congruent-mul_left}
+use Rattle.arbitrary_base.proofs.integers.Ring.{sub-mul_z}
+use Rattle.arbitrary_base.proofs.modular.Congruence.{Congruent-mul_left, Congruent-refl}
 use Rattle.arbitrary_base.proofs.modular.Residue.{residue-congruent, wrap-same}
 use Rattle.arbitrary_base.proofs.storages.CheckedSum.{zero-in_range}
 use Rattle.arbitrary_base.proofs.bit_lists.UnsignedNumber.{length-bits, same_length}
 use Rattle.arbitrary_base.proofs.bit_lists.SignBit.{val-shl, val-shr, InRange-int_shr}
+use Rattle.arbitrary_base.proofs.bit_lists.StdBitwise.{not-signed}
 use Rattle.arbitrary_base.proofs.bit_lists.Pointwise.{length-pointwise, pointwise, shl-pointwise, shr-pointwise}
 use Rattle.arbitrary_base.proofs.bit_lists.Rotation.{shl-none, shl-past, shl-shr, shl-twice, shr-none, shr-shl}
-use Rattle.arbitrary_base.proofs.operations.Definition.{and-is, or-is, xor-is, left-is, right-is, bits-and, bits-highest, bits-left, bits-minus_one, bits-not_zero, bits-or, bits-right, bits-xor, bits-zero, by-bits, of-bits, product-is, zero-is}
+use Rattle.arbitrary_base.proofs.operations.Definition.{and-is, or-is, xor-is, left-is, not-in_range, not-is, right-is, bits-and, bits-highest, bits-left, bits-minus_one, bits-not_zero, bits-or, bits-right, bits-xor, bits-zero, by-bits, of-bits, product-is, zero-is}
 use Rattle.arbitrary_base.proofs.operations.Bitwise.{alike}
-use Rattle.arbitrary_base.proofs.operations.WrappedRing.{products-of_differences, products-of_sums, wrapped_product-commutes}
+use Rattle.arbitrary_base.proofs.operations.ShiftAsProduct.{shl-stays}
+use Rattle.arbitrary_base.proofs.operations.WrappedRing.{by-congruence, product-congruent, product-in_range, products-of_differences, products-of_sums}
 
 pub shifted_left-none : (s : Bool) (B : ℕ) (x : ℤ) → 1 ≤ B → InRange s B x → shifted_left s B x 0 ≡ x
 shifted_left-none s B x h f = by-bits _ _ _ _ _ (left-is s B x 0) (of-bits s B x h f) (shl-none (bits B x))
@@ -56,6 +61,25 @@ shifted_right-twice s B x a b h g f =
     ap (λ (z : ℤ). shifted_right s B z b) one
     ∙ shifted_right-is_shr s B (int_shr x a) b h (omega arith) (InRange-int_shr s B a x f)
     ∙ int_shr-twice x a b ∙ sym (shifted_right-is_shr s B x (a + b) h g f)
+
+-- the complement of a number with a sign is what it lacks to -1, and each half of that too
+not-is_less : (B : ℕ) (x : ℤ) → 1 ≤ B → InRange true B x → bitwise_not true B x ≡ negsuc 0 -ℤ x
+not-is_less B x h f = let e = not-signed true B x _ refl h f (not-is true B x) in omega (arith, ints)
+
+int_shr-not : (k : ℕ) (x : ℤ) → int_shr (negsuc 0 -ℤ x) k ≡ negsuc 0 -ℤ int_shr x k
+int_shr-not k (pos n) =
+    let e : negsuc 0 -ℤ pos n ≡ negsuc n = omega (arith, ints) in
+    ap (λ (z : ℤ). int_shr z k) e ∙ (let d : negsuc (n / 2 ^ k) ≡ negsuc 0 -ℤ pos (n / 2 ^ k) = omega (arith, ints) in d)
+int_shr-not k (negsuc n) =
+    let e : negsuc 0 -ℤ negsuc n ≡ pos n = omega (arith, ints) in
+    ap (λ (z : ℤ). int_shr z k) e ∙ (let d : pos (n / 2 ^ k) ≡ negsuc 0 -ℤ negsuc (n / 2 ^ k) = omega (arith, ints) in d)
+
+pub shifted_right-not : (B : ℕ) (x : ℤ) (k : ℕ) → 1 ≤ B → k ≤ B → InRange true B x
+    → shifted_right true B (bitwise_not true B x) k ≡ bitwise_not true B (shifted_right true B x k)
+shifted_right-not B x k h g f =
+    let e = shifted_right-is_shr true B x k h g f in
+    shifted_right-is_shr true B _ k h g (not-in_range true B x h) ∙ ap (λ (z : ℤ). int_shr z k) (not-is_less B x h f)
+    ∙ int_shr-not k x ∙ sym (not-is_less B (int_shr x k) h (InRange-int_shr true B k x f)) ∙ sym (ap (bitwise_not true B) e)
 
 -- ---- a left shift is a product
 
@@ -120,7 +144,7 @@ get_or-pointwise f i (a ∷ l) [] z e = absurd (omega arith)
 get_or-pointwise f zero (a ∷ l) (b ∷ m) z e = refl
 get_or-pointwise f (suc i) (a ∷ l) (b ∷ m) z e = get_or-pointwise f i l m z (omega arith)
 
-fill-pointwise : (f : Bool → Bool → Bool) (s : Bool) (B : ℕ) (x y : ℤ) → f false false ≡ false
+pub fill-pointwise : (f : Bool → Bool → Bool) (s : Bool) (B : ℕ) (x y : ℤ) → f false false ≡ false
     → fill s (pointwise f (bits B x) (bits B y)) ≡ f (fill s (bits B x)) (fill s (bits B y))
 fill-pointwise f false B x y z = sym z
 fill-pointwise f true B x y z =
@@ -196,3 +220,45 @@ left_right-mask B x k h = left-right B x _ k h (bits-highest B)
 pub left_right-mask_not : (B : ℕ) (x : ℤ) (k : ℕ) → k ≤ B
     → shifted_right false B (shifted_left false B x k) k ≡ bitwise_and false B x (shifted_right false B (bitwise_not false B (pos 0)) k)
 left_right-mask_not B x k h = left-right B x _ k h (bits-not_zero false B)
+
+-- ---- the same with the mask as a numeral
+
+highest-left : (B k : ℕ) → 1 ≤ B → k ≤ B → shifted_left false B (pos (2 ^ B) -ℤ pos 1) k ≡ pos (2 ^ B) -ℤ pos (2 ^ k)
+highest-left B k h g =
+    let p = pow_pos k in
+    let q : 2 ^ k ≤ 2 ^ B = pow-le-pow_right (omega arith) g in
+    let f : InRange false B (pos (2 ^ B) -ℤ pos (2 ^ k)) = record { low = omega (arith, ints); high = omega (arith, ints) } in
+    let a = sub-mul_z (pos (2 ^ B)) (pos 1) (pos (2 ^ k)) in
+    let b = sub-mul_z (pos 1) (pos (2 ^ k)) (pos (2 ^ B)) in
+    let c = *ℤ_comm (pos (2 ^ B)) (pos (2 ^ k)) in
+    let e : Congruent B (pos (2 ^ B) -ℤ pos (2 ^ k)) ((pos (2 ^ B) -ℤ pos 1) *ℤ pos (2 ^ k)) = record { times = pos 1 -ℤ pos (2 ^ k); apart = omega (arith, ints) } in
+    shifted_left-is_product false B _ k h g
+    ∙ by-congruence false B _ _ _ _ h (product-in_range false B _ _ h) f (product-congruent false B _ _ _ _ (Congruent-refl B _) (Congruent-refl B _)) e refl
+
+pub right_left-numeral : (B : ℕ) (x : ℤ) (k : ℕ) → 1 ≤ B → k ≤ B
+    → shifted_left false B (shifted_right false B x k) k ≡ bitwise_and false B x (pos (2 ^ B) -ℤ pos (2 ^ k))
+right_left-numeral B x k h g = right_left-mask B x k g ∙ ap (bitwise_and false B x) (highest-left B k h g)
+
+pub right_left-numeral_signed : (B : ℕ) (x : ℤ) (k : ℕ) → 1 ≤ B → k < B
+    → shifted_left true B (shifted_right true B x k) k ≡ bitwise_and true B x (neg_ℤ (pos (2 ^ k)))
+right_left-numeral_signed B x k h g =
+    let p = pow_pos k in
+    let q : 2 ^ k ≤ 2 ^ (B - 1) = pow-le-pow_right (omega arith) (omega arith) in
+    let f : InRange true B (negsuc 0 *ℤ pos (2 ^ k)) = record { low = omega (arith, ints); high = omega (arith, ints) } in
+    let e = shl-stays true B k (negsuc 0) _ h g f (left-is true B (negsuc 0) k) in
+    right_left-mask_signed B x k (omega arith) ∙ ap (bitwise_and true B x) (e ∙ (let d : negsuc 0 *ℤ pos (2 ^ k) ≡ neg_ℤ (pos (2 ^ k)) = omega (arith, ints) in d))
+
+highest-right : (B k : ℕ) → 1 ≤ B → k ≤ B → shifted_right false B (pos (2 ^ B) -ℤ pos 1) k ≡ pos (2 ^ (B - k)) -ℤ pos 1
+highest-right B k h g =
+    let p = pow_pos B in
+    let q = pow_pos (B - k) in
+    let r = pow_pos k in
+    let f : InRange false B (pos (2 ^ B) -ℤ pos 1) = record { low = omega (arith, ints); high = omega (arith, ints) } in
+    let e : 2 ^ (B - k) * 2 ^ k ≡ 2 ^ B = sym (pow-add 2 (B - k) k) ∙ ap (λ (n : ℕ). 2 ^ n) (omega arith) in
+    let m : pos (2 ^ B) -ℤ pos 1 ≡ pos (2 ^ B - 1) = omega (arith, ints) in
+    let d : (2 ^ B - 1) / 2 ^ k ≡ 2 ^ (B - k) - 1 = div-eq_of_lt-le (2 ^ k) (grind arith) (grind arith) in
+    shifted_right-is_shr false B _ k h g f ∙ ap (λ (z : ℤ). int_shr z k) m ∙ (let w : pos ((2 ^ B - 1) / 2 ^ k) ≡ pos (2 ^ (B - k)) -ℤ pos 1 = omega (arith, ints) in w)
+
+pub left_right-numeral : (B : ℕ) (x : ℤ) (k : ℕ) → 1 ≤ B → k ≤ B
+    → shifted_right false B (shifted_left false B x k) k ≡ bitwise_and false B x (pos (2 ^ (B - k)) -ℤ pos 1)
+left_right-numeral B x k h g = left_right-mask B x k g ∙ ap (bitwise_and false B x) (highest-right B k h g)

@@ -4,7 +4,7 @@ use Rattle.std.proofs.Common.{sym, ap, ap₂, subst, ◌∙◌, arith}
 use Rattle.std.proofs.lemmas.Int.{ints}
 use Rattle.std.proofs.Math.IntN.{*ℤ_comm}
 use Rattle.arbitrary_base.specs.Range.{InRange}
-use Rattle.arbitrary_base.specs.Residue.{Congruent, wrap}
+use Rattle.arbitrary_base.specs.Residue.{Congruent}
 use Rattle.arbitrary_base.specs.Operation.{wrapped_difference, wrapped_product, wrapped_sum}
 use Rattle.arbitrary_base.proofs.integers.Ring.{add-mul_z, mul_assoc_z, sub-mul_z}
 use Rattle.arbitrary_base.proofs.modular.Congruence.{Congruent-refl, Congruent-trans, Congruent-sym, Congruent-add, Congruent-sub, Congruent-mul}
@@ -151,3 +151,47 @@ pub product-of_negated : (s : Bool) (B : ℕ) (x y : ℤ) → 1 ≤ B
 product-of_negated s B x y h =
     products-of_differences s B (pos 0) x y h
     ∙ ap (λ (z : ℤ). wrapped_difference s B z (wrapped_product s B x y)) (wrapped_product-commutes s B (pos 0) y h ∙ wrapped_product-zero s B y h)
+
+pub product-of_negated_both : (s : Bool) (B : ℕ) (x y : ℤ) → 1 ≤ B
+    → wrapped_product s B (wrapped_difference s B (pos 0) x) (wrapped_difference s B (pos 0) y) ≡ wrapped_product s B x y
+product-of_negated_both s B x y h =
+    product-of_negated s B x _ h
+    ∙ ap (wrapped_difference s B (pos 0)) (wrapped_product-commutes s B x _ h ∙ product-of_negated s B y x h)
+    ∙ negated-twice s B _ h (product-in_range s B y x h) ∙ wrapped_product-commutes s B y x h
+
+-- ---- a number taken to the other side
+
+pub sum-of_difference_right : (s : Bool) (B : ℕ) (x y z : ℤ) → 1 ≤ B
+    → wrapped_sum s B x (wrapped_difference s B y z) ≡ wrapped_difference s B (wrapped_sum s B x y) z
+sum-of_difference_right s B x y z h =
+    by-congruence s B _ _ _ _ h (sum-in_range s B _ _ h) (difference-in_range s B _ _ h)
+    (sum-congruent s B _ _ _ _ (Congruent-refl B x) (difference-congruent s B _ _ _ _ (Congruent-refl B y) (Congruent-refl B z)))
+    (difference-congruent s B _ _ _ _ (sum-congruent s B _ _ _ _ (Congruent-refl B x) (Congruent-refl B y)) (Congruent-refl B z)) (omega (arith, ints))
+
+pub difference-of_difference_right : (s : Bool) (B : ℕ) (x y z : ℤ) → 1 ≤ B
+    → wrapped_difference s B x (wrapped_difference s B y z) ≡ wrapped_sum s B (wrapped_difference s B x y) z
+difference-of_difference_right s B x y z h =
+    by-congruence s B _ _ _ _ h (difference-in_range s B _ _ h) (sum-in_range s B _ _ h)
+    (difference-congruent s B _ _ _ _ (Congruent-refl B x) (difference-congruent s B _ _ _ _ (Congruent-refl B y) (Congruent-refl B z)))
+    (sum-congruent s B _ _ _ _ (difference-congruent s B _ _ _ _ (Congruent-refl B x) (Congruent-refl B y)) (Congruent-refl B z)) (omega (arith, ints))
+
+pub difference-of_sums : (s : Bool) (B : ℕ) (x y z : ℤ) → 1 ≤ B
+    → wrapped_difference s B (wrapped_sum s B x z) (wrapped_sum s B y z) ≡ wrapped_difference s B x y
+difference-of_sums s B x y z h =
+    by-congruence s B _ _ _ _ h (difference-in_range s B _ _ h) (difference-in_range s B _ _ h)
+    (difference-congruent s B _ _ _ _ (sum-congruent s B _ _ _ _ (Congruent-refl B x) (Congruent-refl B z)) (sum-congruent s B _ _ _ _ (Congruent-refl B y) (Congruent-refl B z)))
+    (difference-congruent s B _ _ _ _ (Congruent-refl B x) (Congruent-refl B y)) (omega (arith, ints))
+
+pub difference-of_squares : (s : Bool) (B : ℕ) (x y : ℤ) → 1 ≤ B
+    → wrapped_product s B (wrapped_sum s B x y) (wrapped_difference s B x y) ≡ wrapped_difference s B (wrapped_product s B x x) (wrapped_product s B y y)
+difference-of_squares s B x y h =
+    let a = add-mul_z x y (x -ℤ y) in
+    let b = sub-mul_z x y x in
+    let c = sub-mul_z x y y in
+    let d = *ℤ_comm x (x -ℤ y) in
+    let e = *ℤ_comm y (x -ℤ y) in
+    let f = *ℤ_comm x y in
+    by-congruence s B _ _ _ _ h (product-in_range s B _ _ h) (difference-in_range s B _ _ h)
+    (product-congruent s B _ _ _ _ (sum-congruent s B _ _ _ _ (Congruent-refl B x) (Congruent-refl B y)) (difference-congruent s B _ _ _ _ (Congruent-refl B x) (Congruent-refl B y)))
+    (difference-congruent s B _ _ _ _ (product-congruent s B _ _ _ _ (Congruent-refl B x) (Congruent-refl B x)) (product-congruent s B _ _ _ _ (Congruent-refl B y) (Congruent-refl B y)))
+    (omega (arith, ints))

@@ -1,0 +1,54 @@
+//! Laws of an operand that both sides of a test have.
+#![tactic(auto, using(arbitrary_int::proofs::BitVector::cancellations))]
+
+ghost use Rattle.std.specs.Prelude.{IsTrue};
+
+use arbitrary_int::prelude::*;
+
+pub fn sums(x: i12, y: i12, z: i12) -> bool
+    ensures { IsTrue result }
+{
+    (z.wrapping_add(x) == z.wrapping_add(y)) == (x == y)
+}
+
+pub fn differences(x: u24, y: u24, z: u24) -> bool
+    ensures { IsTrue result }
+{
+    (x.wrapping_sub(z) == y.wrapping_sub(z)) == (x == y)
+}
+
+pub fn differences_from(x: u5, y: u5, z: u5) -> bool
+    ensures { IsTrue result }
+{
+    (z.wrapping_sub(x) == z.wrapping_sub(y)) == (x == y)
+}
+
+pub fn xors(x: i48, y: i48, z: i48) -> bool
+    ensures { IsTrue result }
+{
+    (z ^ x == z ^ y) == (x == y)
+}
+
+pub fn nots(x: i48, y: i48) -> bool
+    ensures { IsTrue result }
+{
+    (!x == !y) == (x == y)
+}
+
+pub fn reversals(x: u24, y: u24) -> bool
+    ensures { IsTrue result }
+{
+    (x.reverse_bits() == y.reverse_bits()) == (x == y)
+}
+
+pub fn left_rotations(x: u24, y: u24) -> bool
+    ensures { IsTrue result }
+{
+    (x.rotate_left(2) == y.rotate_left(2)) == (x == y)
+}
+
+pub fn right_rotations(x: i5, y: i5) -> bool
+    ensures { IsTrue result }
+{
+    (x.rotate_right(2) == y.rotate_right(2)) == (x == y)
+}
