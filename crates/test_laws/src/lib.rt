@@ -10,6 +10,7 @@ pub mod counts;
 pub mod distribution;
 pub mod exact;
 pub mod former_names;
+pub mod generic;
 pub mod masks;
 pub mod mixed;
 pub mod order;
