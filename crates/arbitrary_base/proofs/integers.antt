@@ -1,4 +1,5 @@
--- Lemmas over integers without bounds.
+-- Lemmas over integers without bounds that std lacks, for any crate to cite, a file for each subject.
+-- What needs a modulus or the range of a type goes to modular, and what needs a storage to storages.
 pub mod Ring
 pub mod Quotient
 pub mod Powers

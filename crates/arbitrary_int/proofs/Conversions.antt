@@ -1,4 +1,6 @@
--- For callers: a conversion before a sum, a difference or a product, of which the low bits are what counts. To name: `#[tactic(auto, using(arbitrary_int::proofs::Conversions::conversions))]`.
+-- For callers: a conversion before a sum, a difference or a product, of which the low bits are what counts.
+-- You name the set at the end by `#[tactic(auto, using(arbitrary_int::proofs::Conversions::conversions))]`; only a lemma that is in it is found.
+-- Beside it stand the sets of Everyday.antt, on words of clauses, and of BitVector.antt, on bits.
 use Rattle.std.specs.Prelude.{◌≡◌, ℕ, ℤ, Bool, false, pos, ◌+ℤ◌, ◌-ℤ◌, ◌*ℤ◌, ◌+◌, ◌%◌, ◌^◌, ◌≤◌}
 use Rattle.std.proofs.Common.{arith, ap, sym, subst, ◌∙◌}
 use Rattle.std.proofs.lemmas.Int.{ints}

@@ -1,5 +1,6 @@
 //! What most programs use: the types, their short names, the traits that give them their calls, and what sums,
-//! ranges and streams take. Each row of docs/CALLS.md compiles with this one import.
+//! ranges and streams take. Each row of docs/CALLS.md compiles with this one import, so a new name of a row goes here.
+//! `traits` has the bounds of generic code too, and `former_names` the names of before 1.0.0.
 
 pub use crate::borsh::BorshDeserialize;
 pub use crate::borsh::BorshSerialize;

@@ -1,4 +1,7 @@
-//! Lists of steps on registers.
+//! Lists of steps on registers: what `run` leaves, and where and why it stops.
+//!
+//! The contract of `run` is a definition, and these are values from outside, so a test that fails shows that the definition
+//! is wrong. Runs at two widths stand in `widths`.
 
 use crate::same::same;
 use arbitrary_int::prelude::*;

@@ -1,4 +1,6 @@
 -- The laws of bits beside sums, differences and order.
+-- Callers have them by the set `mixed` of `arbitrary_int::proofs::BitVector`: a new law goes there too. Complement.antt, Carry.antt and Order.antt
+-- use the lemmas on `num` here. Laws of `!` beside sums go to the first of these, and those of carries to the second.
 use Rattle.std.specs.Prelude.{◌≡◌, ℕ, ℤ, Bool, true, false, not, ◌&&◌, ◌||◌, List, [], ◌∷◌, length, pos, ◌≤◌, ◌+◌, ◌≤ℤ◌}
 use Rattle.std.specs.Bool.{beq}
 use Rattle.std.proofs.Common.{refl, sym, ap, subst, ◌∙◌, arith}

@@ -1,4 +1,6 @@
--- The laws of numbers that are taken apart and put together under a mask, and of one operation told by others.
+-- The laws of numbers that are taken apart and put together under a mask, and of one operation in terms of others.
+-- Each is proved of lists, item by item, and carried to numbers by Definition.antt. A law comes to callers by the set `masks` of
+-- `arbitrary_int::proofs::BitVector`, so a new one goes there too. Laws of one operation alone stand in Bitwise.antt.
 use Rattle.std.specs.Prelude.{◌≡◌, ℕ, ℤ, Bool, not, ◌&&◌, ◌||◌, List, [], ◌∷◌, length, ◌≤◌}
 use Rattle.std.specs.Bool.{beq}
 use Rattle.std.proofs.Common.{refl, sym, ap, ap₂, ◌∙◌, arith}

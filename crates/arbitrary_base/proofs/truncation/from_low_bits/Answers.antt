@@ -1,3 +1,5 @@
+-- For `from_low_bits` in src/truncation.rt: what the pattern is extended to is congruent to it, so the storage's number is the one in range.
+-- The clause `range` follows from `value`. Both rest on modular/Truncation.antt; `truncated` and `extend` have theirs in the folders beside it.
 use Rattle.std.proofs.Common.{◌∙◌}
 use Rattle.std.specs.Prelude.{pos}
 use Rattle.arbitrary_base.specs.Residue.{wrap, Congruent}
