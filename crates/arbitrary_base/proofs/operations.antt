@@ -15,3 +15,4 @@ pub mod PowerAndQuotient
 pub mod Carry
 pub mod Order
 pub mod Cancellation
+pub mod KnownMask

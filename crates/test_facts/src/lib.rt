@@ -15,5 +15,6 @@ pub mod generic_calls;
 pub mod headers;
 pub mod indices;
 pub mod machine;
+pub mod masks;
 pub mod sensors;
 pub mod structs;

@@ -16,7 +16,7 @@ use Rattle.arbitrary_base.proofs.bit_lists.UnsignedNumber.{length-bits, same_len
 use Rattle.arbitrary_base.proofs.bit_lists.TwosComplement.{bits-negsuc, val-bits_in_range, val-num}
 
 -- how many bits a number of the type has that is not below zero
-abbrev reach : Bool → ℕ → ℕ
+abbrev pub reach : Bool → ℕ → ℕ
 reach false B = B
 reach true B = B - 1
 
@@ -38,7 +38,7 @@ num-plain s B (pos n) f p = num-bits_small B n (lt_of_lt_of_le (below-reach s B 
     reach-le false B = omega arith
     reach-le true B = omega arith
 
-val-plain : (s : Bool) (B n : ℕ) (l : List Bool) → 1 ≤ B → length l ≡ B → num l ≡ n → n < 2 ^ reach s B → val s l ≡ pos n
+pub val-plain : (s : Bool) (B n : ℕ) (l : List Bool) → 1 ≤ B → length l ≡ B → num l ≡ n → n < 2 ^ reach s B → val s l ≡ pos n
 val-plain s B n l h e d g =
     val-num s B l e ∙ ap (λ (m : ℕ). wrap s B (pos m)) d ∙ wrap-of_in_range s B (pos n) h (in_range-reach s B n g)
 

@@ -74,7 +74,7 @@ and-below_or B x y h =
 
 -- ---- where it has one: which results are below 0
 
-sign-pointwise : (f : Bool → Bool → Bool) (B : ℕ) (x y z : ℤ) → f false false ≡ false → 1 ≤ B → InRange true B x → InRange true B y → InRange true B z
+pub sign-pointwise : (f : Bool → Bool → Bool) (B : ℕ) (x y z : ℤ) → f false false ≡ false → 1 ≤ B → InRange true B x → InRange true B y → InRange true B z
     → bits B z ≡ pointwise f (bits B x) (bits B y) → int_lt z (pos 0) ≡ f (int_lt x (pos 0)) (int_lt y (pos 0))
 sign-pointwise f B x y z n h i j k e =
     sym (fill-is_negative B z h k) ∙ ap (fill true) e ∙ fill-pointwise f true B x y n
