@@ -32,6 +32,9 @@ python3 tools/wrong_bodies.py test_bounds_core test_bounds test_pages test_laws 
     arbitrary_core/{order_is_that_of_the_bits,text_is_that_of_the_bits,valid_width_is_constant} \
     arbitrary_core/{default_of_a_signed_type_is_its_minimum,saturated_sum_by_the_trait_wraps} \
     arbitrary_core/greatest_number_by_the_trait_is_one_too_small_at_full_widths \
+    arbitrary_int/{no_bytes_are_canonical,reader_masks_excess_bits,reader_always_passes_a_fault_on,reader_takes_one_byte_too_many} \
+    arbitrary_int/{reads_on_after_a_refusal,takes_an_old_fault_for_a_new_one,writer_always_passes_a_fault_on,writes_other_bytes} \
+    arbitrary_int/{last_value_comes_from_both_ends,sum_tests_only_the_total,swap_bytes_answers_its_argument} \
     bitrun_text/{reports_the_largest_bad_line,runs_the_steps_before_a_bad_line,status_is_always_2}
 # of this shell and of what it waited for, each as 1m2.345s
 times > "$spent"

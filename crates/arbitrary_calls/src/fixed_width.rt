@@ -8,6 +8,7 @@ ghost use Rattle.arbitrary_base.specs.Exact.{ExactOrNone, QuotientOrNone};
 ghost use Rattle.arbitrary_base.specs.Power.{power, binary_digits};
 ghost use Rattle.arbitrary_base.specs.Operation.{Associates, Commutes, DistributesOver, Dualizes, bitwise_and, bitwise_not, bitwise_or, bitwise_xor, reversed, rotated_left, rotated_right, shifted_left, shifted_right, wrapped_difference, wrapped_product, wrapped_sum};
 ghost use Rattle.arbitrary_base.specs.BitList.{bits, val, fill, front, popcount, rotl, rotr, shl, shr, tail};
+ghost use Rattle.arbitrary_base.proofs.operations.Bitwise.{and-distributes_or, bitwise_and-associates, bitwise_and-commutes, bitwise_or-associates, bitwise_or-commutes, bitwise_xor-associates, bitwise_xor-commutes, not-and_parts, not-or_parts, or-distributes_and};
 
 use crate::low_bits::LowBits;
 use arbitrary_base::storage::Storage;
@@ -59,29 +60,39 @@ pub trait FixedWidth: Integer + LowBits {
 
     // For proofs in generic code: there the check takes the laws of the bound, or the set that a file names, never both. With a law that
     // names a variable twice, or with two dozen, its search ends before a proof.
-    ghost and_commutes: { Commutes (bitwise_and Self.IS_SIGNED Self.BITS) };
+    ghost and_commutes: { Commutes (bitwise_and Self.IS_SIGNED Self.BITS) }
+        = { bitwise_and-commutes _ _ };
 
-    ghost or_commutes: { Commutes (bitwise_or Self.IS_SIGNED Self.BITS) };
+    ghost or_commutes: { Commutes (bitwise_or Self.IS_SIGNED Self.BITS) }
+        = { bitwise_or-commutes _ _ };
 
-    ghost xor_commutes: { Commutes (bitwise_xor Self.IS_SIGNED Self.BITS) };
+    ghost xor_commutes: { Commutes (bitwise_xor Self.IS_SIGNED Self.BITS) }
+        = { bitwise_xor-commutes _ _ };
 
-    ghost and_associates: { Associates (bitwise_and Self.IS_SIGNED Self.BITS) };
+    ghost and_associates: { Associates (bitwise_and Self.IS_SIGNED Self.BITS) }
+        = { bitwise_and-associates _ _ };
 
-    ghost or_associates: { Associates (bitwise_or Self.IS_SIGNED Self.BITS) };
+    ghost or_associates: { Associates (bitwise_or Self.IS_SIGNED Self.BITS) }
+        = { bitwise_or-associates _ _ };
 
-    ghost xor_associates: { Associates (bitwise_xor Self.IS_SIGNED Self.BITS) };
+    ghost xor_associates: { Associates (bitwise_xor Self.IS_SIGNED Self.BITS) }
+        = { bitwise_xor-associates _ _ };
 
     ghost and_distributes: { DistributesOver (bitwise_or Self.IS_SIGNED Self.BITS)
-        (bitwise_and Self.IS_SIGNED Self.BITS) };
+        (bitwise_and Self.IS_SIGNED Self.BITS) }
+        = { and-distributes_or _ _ };
 
     ghost or_distributes: { DistributesOver (bitwise_and Self.IS_SIGNED Self.BITS)
-        (bitwise_or Self.IS_SIGNED Self.BITS) };
+        (bitwise_or Self.IS_SIGNED Self.BITS) }
+        = { or-distributes_and _ _ };
 
     ghost not_of_and: { Dualizes (bitwise_not Self.IS_SIGNED Self.BITS) (bitwise_and Self.IS_SIGNED Self.BITS)
-        (bitwise_or Self.IS_SIGNED Self.BITS) };
+        (bitwise_or Self.IS_SIGNED Self.BITS) }
+        = { not-and_parts _ _ };
 
     ghost not_of_or: { Dualizes (bitwise_not Self.IS_SIGNED Self.BITS) (bitwise_or Self.IS_SIGNED Self.BITS)
-        (bitwise_and Self.IS_SIGNED Self.BITS) };
+        (bitwise_and Self.IS_SIGNED Self.BITS) }
+        = { not-or_parts _ _ };
 
     /// The sum, wrapped.
     final fn wrapping_add(self, rhs: Self) -> Self

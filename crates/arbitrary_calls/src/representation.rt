@@ -3,7 +3,6 @@
 ghost use Rattle.std.specs.Prelude.{refl};
 ghost use Rattle.std.proofs.Common.{◌∙◌, sym};
 ghost use Rattle.arbitrary_base.proofs.operations.Definition.{and-is, not-is, or-is, xor-is};
-ghost use Rattle.arbitrary_base.proofs.operations.Bitwise.{and-distributes_or, bitwise_and-associates, bitwise_and-commutes, bitwise_or-associates, bitwise_or-commutes, bitwise_xor-associates, bitwise_xor-commutes, not-and_parts, not-or_parts, or-distributes_and};
 
 use crate::fixed_width::FixedWidth;
 use arbitrary_base::storage::{
@@ -38,26 +37,6 @@ where
     ghost xor_law = { λ a b r h. h ∙ sym (xor-is _ _ _ _) };
 
     ghost complement_law = { λ a r h. h ∙ sym (not-is _ _ _) };
-
-    ghost and_commutes = { bitwise_and-commutes _ _ };
-
-    ghost or_commutes = { bitwise_or-commutes _ _ };
-
-    ghost xor_commutes = { bitwise_xor-commutes _ _ };
-
-    ghost and_associates = { bitwise_and-associates _ _ };
-
-    ghost or_associates = { bitwise_or-associates _ _ };
-
-    ghost xor_associates = { bitwise_xor-associates _ _ };
-
-    ghost and_distributes = { and-distributes_or _ _ };
-
-    ghost or_distributes = { or-distributes_and _ _ };
-
-    ghost not_of_and = { not-and_parts _ _ };
-
-    ghost not_of_or = { not-or_parts _ _ };
 }
 
 impl<T: BuiltinInteger + SignedStorage, const BITS: usize> FixedWidth for Int<T, BITS>
@@ -85,24 +64,4 @@ where
     ghost xor_law = { λ a b r h. h ∙ sym (xor-is _ _ _ _) };
 
     ghost complement_law = { λ a r h. h ∙ sym (not-is _ _ _) };
-
-    ghost and_commutes = { bitwise_and-commutes _ _ };
-
-    ghost or_commutes = { bitwise_or-commutes _ _ };
-
-    ghost xor_commutes = { bitwise_xor-commutes _ _ };
-
-    ghost and_associates = { bitwise_and-associates _ _ };
-
-    ghost or_associates = { bitwise_or-associates _ _ };
-
-    ghost xor_associates = { bitwise_xor-associates _ _ };
-
-    ghost and_distributes = { and-distributes_or _ _ };
-
-    ghost or_distributes = { or-distributes_and _ _ };
-
-    ghost not_of_and = { not-and_parts _ _ };
-
-    ghost not_of_or = { not-or_parts _ _ };
 }
