@@ -60,39 +60,29 @@ pub trait FixedWidth: Integer + LowBits {
 
     // For proofs in generic code: there the check takes the laws of the bound, or the set that a file names, never both. With a law that
     // names a variable twice, or with two dozen, its search ends before a proof.
-    ghost and_commutes: { Commutes (bitwise_and Self.IS_SIGNED Self.BITS) }
-        = { bitwise_and-commutes _ _ };
+    ghost and_commutes: { Commutes (bitwise_and Self.IS_SIGNED Self.BITS) } = { bitwise_and-commutes _ _ };
 
-    ghost or_commutes: { Commutes (bitwise_or Self.IS_SIGNED Self.BITS) }
-        = { bitwise_or-commutes _ _ };
+    ghost or_commutes: { Commutes (bitwise_or Self.IS_SIGNED Self.BITS) } = { bitwise_or-commutes _ _ };
 
-    ghost xor_commutes: { Commutes (bitwise_xor Self.IS_SIGNED Self.BITS) }
-        = { bitwise_xor-commutes _ _ };
+    ghost xor_commutes: { Commutes (bitwise_xor Self.IS_SIGNED Self.BITS) } = { bitwise_xor-commutes _ _ };
 
-    ghost and_associates: { Associates (bitwise_and Self.IS_SIGNED Self.BITS) }
-        = { bitwise_and-associates _ _ };
+    ghost and_associates: { Associates (bitwise_and Self.IS_SIGNED Self.BITS) } = { bitwise_and-associates _ _ };
 
-    ghost or_associates: { Associates (bitwise_or Self.IS_SIGNED Self.BITS) }
-        = { bitwise_or-associates _ _ };
+    ghost or_associates: { Associates (bitwise_or Self.IS_SIGNED Self.BITS) } = { bitwise_or-associates _ _ };
 
-    ghost xor_associates: { Associates (bitwise_xor Self.IS_SIGNED Self.BITS) }
-        = { bitwise_xor-associates _ _ };
+    ghost xor_associates: { Associates (bitwise_xor Self.IS_SIGNED Self.BITS) } = { bitwise_xor-associates _ _ };
 
     ghost and_distributes: { DistributesOver (bitwise_or Self.IS_SIGNED Self.BITS)
-        (bitwise_and Self.IS_SIGNED Self.BITS) }
-        = { and-distributes_or _ _ };
+        (bitwise_and Self.IS_SIGNED Self.BITS) } = { and-distributes_or _ _ };
 
     ghost or_distributes: { DistributesOver (bitwise_and Self.IS_SIGNED Self.BITS)
-        (bitwise_or Self.IS_SIGNED Self.BITS) }
-        = { or-distributes_and _ _ };
+        (bitwise_or Self.IS_SIGNED Self.BITS) } = { or-distributes_and _ _ };
 
     ghost not_of_and: { Dualizes (bitwise_not Self.IS_SIGNED Self.BITS) (bitwise_and Self.IS_SIGNED Self.BITS)
-        (bitwise_or Self.IS_SIGNED Self.BITS) }
-        = { not-and_parts _ _ };
+        (bitwise_or Self.IS_SIGNED Self.BITS) } = { not-and_parts _ _ };
 
     ghost not_of_or: { Dualizes (bitwise_not Self.IS_SIGNED Self.BITS) (bitwise_or Self.IS_SIGNED Self.BITS)
-        (bitwise_and Self.IS_SIGNED Self.BITS) }
-        = { not-or_parts _ _ };
+        (bitwise_and Self.IS_SIGNED Self.BITS) } = { not-or_parts _ _ };
 
     /// The sum, wrapped.
     final fn wrapping_add(self, rhs: Self) -> Self
