@@ -51,12 +51,13 @@ def code(file, line):
 
 
 def clauses():
-    """The lines of the clauses and ghost members in the libraries: all that `rt fmt` doesn't lay out."""
+    """The lines of the clauses and ghost members in the libraries: all that `rt fmt` doesn't lay out. The proof of a law's default is no
+    part of the law."""
     for crate in LIBRARIES:
         for file in sorted((ROOT / 'crates' / crate / 'src').rglob('*.rt')):
             for number, line in enumerate(file.read_text().splitlines(), 1):
                 if not re.match(r'\s*(//|#|ghost use|pub ghost use|use )', line):
-                    yield file, number, line
+                    yield file, number, re.sub(r'} = {.*};$', '};', line)
 
 
 def main():
