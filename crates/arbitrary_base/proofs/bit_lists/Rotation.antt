@@ -1,4 +1,5 @@
--- Shifts, rotations and reversal of bit lists, one after the other.
+-- Shifts, rotations and reversal of bit lists, one after the other. `Movement` has each alone; `operations.RotateAndReverse` and
+-- `operations.Shift` have the same of numbers.
 use Rattle.std.specs.Prelude.{◌≡◌, ℕ, zero, suc, ◌+◌, ◌-◌, ◌%◌, ◌≤◌, ◌<◌, Bool, true, false, ◌&&◌, ◌||◌, List, [], ◌∷◌, ◌++◌, get_or, reverse, length, take, drop, replicate}
 use Rattle.std.proofs.Common.{refl, sym, ap, ap₂, ◌∙◌, subst, arith, mod-eq_of_lt, length-take, length-drop, take-append-drop, take-take}
 use Rattle.std.proofs.lemmas.List.{append_assoc, append-nil, drop-append-le, drop-drop, drop-replicate, length-replicate, length-reverse, length-take-le, replicate-append-replicate, reverse-append, reverse-reverse, take-append-le, take-replicate}
