@@ -15,6 +15,10 @@ use Rattle.arbitrary_base.proofs.operations.Order.{and-below_or, le-tested, lt-t
 use Rattle.arbitrary_base.proofs.operations.Cancellation.{differences-equal, differences_from-equal, left_rotations-equal, nots-equal, reversals-equal, right_rotations-equal, sums-equal, xors-equal}
 use Rattle.arbitrary_base.proofs.operations.PowerAndQuotient.{to_u128_bits-back, power-none, power-one, power-twice, quotient-self, power-of_one, power-of_zero}
 use Rattle.arbitrary_base.proofs.modular.Residue.{wrap-of_in_range}
+use Rattle.arbitrary_int.proofs.KnownCount.{popcount-of_numeral}
+use Rattle.arbitrary_int.proofs.QuotientAndCube.{negated-is_difference, power-thrice, quotient-times}
+use Rattle.arbitrary_int.proofs.SingleBit.{and-one_bit, left-of_one, low-of_right, low-of_right_set}
+use Rattle.arbitrary_int.proofs.WrittenMask.{and-none, and-of_cleared_by_negative, or-by_mask, xor-by_mask}
 use Rattle.arbitrary_base.proofs.operations.Shift.{left_right-mask, left_right-mask_not, left_right-numeral, right_left-mask, right_left-mask_not, right_left-mask_signed, right_left-numeral, right_left-numeral_signed, shifted_left-and, shifted_left-difference, shifted_left-is_product, shifted_left-none, shifted_left-or, shifted_left-past, shifted_left-sum, shifted_left-twice, shifted_left-xor, shifted_left-zero, shifted_right-and, shifted_right-none, shifted_right-not, shifted_right-or, shifted_right-twice, shifted_right-xor, shifted_right-zero}
 
 -- one of `& | ^ !`, or several of the same
@@ -64,3 +68,21 @@ pub ruleset known_masks = (Decides-int_eq, and-digits, and-run, and-congruent, a
 
 -- an operand that both sides of a test of equality have
 pub ruleset cancellations = (Decides-int_eq, sums-equal, differences-equal, differences_from-equal, xors-equal, nots-equal, reversals-equal, left_rotations-equal, right_rotations-equal, wrapped_sum-commutes, bitwise_xor-commutes)
+
+-- one bit by its place: `1 << k`, set, cleared, and tested by `x & (1 << k)` or by `(x >> k) & 1`
+pub ruleset single_bits = (Decides-int_eq, left-of_one, and-one_bit, low-of_right, or-by_and, and-by_complement, and-of_cleared, and-of_set)
+
+-- one bit that is set, and then tested by `(x >> k) & 1`
+pub ruleset bit_tests = (Decides-int_eq, low-of_right_set)
+
+-- flags that are set and cleared by a mask that is written out, exactly
+pub ruleset flags = (Decides-int_eq, and-digits, and-run, and-within, and-none, and-by_complement, and-by_negative, or-by_mask, xor-by_mask, and-of_cleared, and-of_cleared_by_negative, and-of_set)
+
+-- how many bits of a number that is written out are one
+pub ruleset known_counts = (popcount-of_numeral)
+
+-- negation beside sums, differences and the complement
+pub ruleset negations = (Decides-int_eq, negated-is_difference, negated-twice, negated-sum, difference-turned, sum-of_difference, sum-to_difference, difference-of_sum, wrapped_difference-zero, wrapped_sum-commutes, not-is_difference, negated-is_sum, not-of_before, negated-not)
+
+-- a quotient times its divisor, and small powers
+pub ruleset quotients = (power-none, power-one, power-twice, power-thrice, quotient-self, quotient-times, wrap-of_in_range, clamp-fits)

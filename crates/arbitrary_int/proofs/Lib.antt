@@ -7,6 +7,16 @@ pub mod Rows
 pub mod RangeSteps
 pub mod ByteLaws
 pub mod Everyday
+pub mod SideBySide
+pub mod StreamBytes
+pub mod TextLength
+pub mod RangeNumbers
+pub mod EmptyWord
+pub mod SingleBit
+pub mod WrittenMask
+pub mod QuotientAndCube
+pub mod KnownCount
+pub mod Sets
 pub mod BitVector
 pub mod Conversions
 pub use Rattle.arbitrary_base.proofs.modular.Truncation

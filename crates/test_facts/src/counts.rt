@@ -1,6 +1,6 @@
 //! Counts of bits at their ends, and the places that they find.
 
-ghost use Rattle.std.specs.Prelude.{◌≡◌, ◌<◌, ◌≤◌, ◌≤ℤ◌, ◌<ℤ◌, pos, neg_ℤ, IfSome};
+ghost use Rattle.std.specs.Prelude.{◌≡◌, ◌<◌, ◌≤◌, ◌≤ℤ◌, ◌<ℤ◌, pos, neg_ℤ, IfSome, IsTrue};
 ghost use Rattle.arbitrary_int.specs.Residue.{Congruent};
 
 use arbitrary_int::prelude::*;
@@ -57,4 +57,18 @@ pub fn ones_of_all() -> u32
     ensures { result ≡ 12 }
 {
     u12::max_value().count_ones()
+}
+
+#[tactic(auto, using(arbitrary_int::proofs::BitVector::known_counts))]
+pub fn parity_of_one() -> bool
+    ensures { IsTrue result }
+{
+    u12::new(1).count_ones() % 2 == 1
+}
+
+#[tactic(auto, using(arbitrary_int::proofs::BitVector::known_counts))]
+pub fn count_of_a_number() -> u32
+    ensures { result ≡ 4 }
+{
+    u24::new(0xA5).count_ones()
 }

@@ -116,6 +116,15 @@ pub fn apart() -> bool
     disjoint(0, 8, 8, 8)
 }
 
+#[tactic(auto, using(arbitrary_int::proofs::Sets::empty_word))]
+pub fn of_nothing(x: u5) -> u128
+    ensures { pos result ≡ x }
+{
+    let mut word = Record { bits: 0 };
+    word.put(0, x);
+    word.bits
+}
+
 // ---- a struct, whose contract is one word
 
 #[derive(Clone, Copy, Debug, PartialEq, Eq)]

@@ -1,0 +1,75 @@
+-- The laws of one bit of a number with no sign, by its place k: as `1 << k`, tested and set.
+use Rattle.std.specs.Prelude.{◌≡◌, ◌⊎◌, ℕ, ℤ, zero, suc, false, pos, negsuc, unsigned_abs, max, ◌≤◌, ◌<◌, ◌*◌, ◌/◌, ◌%◌, ◌^◌, ◌*ℤ◌}
+use Rattle.std.specs.Int.{bit_at}
+use Rattle.std.specs.Int.Bits.{bit_and, bit_or}
+use Rattle.std.proofs.Common.{refl, ap, ◌∙◌, arith, inl, inr, div-le_self}
+use Rattle.std.proofs.lemmas.Int.{ints}
+use Rattle.std.proofs.lemmas.Nat.{pow_below, pow_pos}
+use Rattle.std.proofs.lemmas.Nat.Bits.{and_pow, bit_at-lt, bit_at-pow_same, bit_at_or, shr_and_one}
+use Rattle.arbitrary_base.specs.Range.{InRange}
+use Rattle.arbitrary_base.specs.Operation.{bitwise_and, bitwise_or, shifted_left, shifted_right}
+use Rattle.arbitrary_base.proofs.storages.Primitive.{unsigned-in_range}
+use Rattle.arbitrary_base.proofs.bit_lists.StdBitwise.{and-plain, or-plain}
+use Rattle.arbitrary_base.proofs.operations.Definition.{and-is, left-is, or-is}
+use Rattle.arbitrary_base.proofs.operations.BitsAndSums.{or-in_range}
+use Rattle.arbitrary_base.proofs.operations.Shift.{shifted_right-is_shr}
+use Rattle.arbitrary_base.proofs.operations.ShiftAsProduct.{shl-stays}
+
+below : (B : ℕ) (x : ℤ) → InRange false B x → unsigned_abs x < 2 ^ B
+below B (pos n) f = let t = f.high in let o = pow_pos B in omega (arith, ints)
+below B (negsuc n) f = let l = f.low in absurd (omega (arith, ints))
+
+pub left-of_one : (B k : ℕ) → k < B → shifted_left false B (pos 1) k ≡ pos (2 ^ k)
+left-of_one B k g =
+    let b = pow_below k B g in
+    let f : InRange false B (pos 1 *ℤ pos (2 ^ k)) = record { low = omega (arith, ints); high = omega (arith, ints) } in
+    let e : pos 1 *ℤ pos (2 ^ k) ≡ pos (2 ^ k) = omega (arith, ints) in
+    shl-stays false B k (pos 1) _ (omega arith) g f (left-is false B (pos 1) k) ∙ e
+
+right-natural : (B k : ℕ) (x : ℤ) → 1 ≤ B → k < B → InRange false B x → shifted_right false B x k ≡ pos (unsigned_abs x / 2 ^ k)
+right-natural B k (pos n) h g f = shifted_right-is_shr false B (pos n) k h (omega arith) f
+right-natural B k (negsuc n) h g f = let l = f.low in absurd (omega (arith, ints))
+
+and-natural : (B n : ℕ) (x : ℤ) → 1 ≤ B → n < 2 ^ B → InRange false B x → bitwise_and false B x (pos n) ≡ pos (bit_and (unsigned_abs x) n)
+and-natural B n x h g f = and-plain false B x (pos n) _ h f (unsigned-in_range B n g) (and-is false B x (pos n)) f.low (omega (arith, ints))
+
+or-natural : (B n : ℕ) (x : ℤ) → 1 ≤ B → n < 2 ^ B → InRange false B x → bitwise_or false B x (pos n) ≡ pos (bit_or (unsigned_abs x) n)
+or-natural B n x h g f = or-plain false B x (pos n) _ h f (unsigned-in_range B n g) (or-is false B x (pos n)) f.low (omega (arith, ints))
+
+-- ---- a test by `x & (1 << k)`
+
+tested : (B k : ℕ) (x : ℤ) → 1 ≤ B → k < B → InRange false B x → bitwise_and false B x (shifted_left false B (pos 1) k) ≡ pos (bit_at (unsigned_abs x) k * 2 ^ k)
+tested B k x h g f =
+    ap (bitwise_and false B x) (left-of_one B k g) ∙ and-natural B (2 ^ k) x h (pow_below k B g) f ∙ ap pos (and_pow (unsigned_abs x) k)
+
+either : (b m : ℕ) (z : ℤ) → b < 2 → z ≡ pos (b * m) → ((b ≡ 0) × (z ≡ pos 0)) ⊎ ((b ≡ 1) × (z ≡ pos m))
+either zero m z h e = inl (refl, e ∙ ap pos (omega arith))
+either (suc zero) m z h e = inr (refl, e ∙ ap pos (omega arith))
+either (suc (suc b)) m z h e = absurd (omega arith)
+
+pub and-one_bit : (B k : ℕ) (x : ℤ) → 1 ≤ B → k < B → InRange false B x
+    → (bitwise_and false B x (shifted_left false B (pos 1) k) ≡ bitwise_and false B x (shifted_left false B (pos 1) k)) × (1 ≤ 2 ^ k)
+    × (((unsigned_abs x / 2 ^ k % 2 ≡ 0) × (bitwise_and false B x (shifted_left false B (pos 1) k) ≡ pos 0))
+    ⊎ ((unsigned_abs x / 2 ^ k % 2 ≡ 1) × (bitwise_and false B x (shifted_left false B (pos 1) k) ≡ pos (2 ^ k))))
+and-one_bit B k x h g f = (refl, pow_pos k, either (bit_at (unsigned_abs x) k) (2 ^ k) _ (bit_at-lt (unsigned_abs x) k) (tested B k x h g f))
+
+-- ---- a test by `(x >> k) & 1`
+
+pub low-of_right : (B k : ℕ) (x : ℤ) → 1 ≤ B → k < B → InRange false B x → bitwise_and false B (shifted_right false B x k) (pos 1) ≡ pos (unsigned_abs x / 2 ^ k % 2)
+low-of_right B k x h g f =
+    let b = below B x f in
+    let d = div-le_self (unsigned_abs x) (2 ^ k) in
+    ap (λ (z : ℤ). bitwise_and false B z (pos 1)) (right-natural B k x h g f)
+    ∙ and-natural B 1 (pos (unsigned_abs x / 2 ^ k)) h (pow_below 0 B (omega arith)) (unsigned-in_range B _ (omega arith))
+    ∙ ap pos (shr_and_one (unsigned_abs x) k)
+
+or-one_bit : (B k : ℕ) (x : ℤ) → 1 ≤ B → k < B → InRange false B x → bitwise_or false B x (shifted_left false B (pos 1) k) ≡ pos (bit_or (unsigned_abs x) (2 ^ k))
+or-one_bit B k x h g f = ap (bitwise_or false B x) (left-of_one B k g) ∙ or-natural B (2 ^ k) x h (pow_below k B g) f
+
+pub low-of_right_set : (B k : ℕ) (x : ℤ) → 1 ≤ B → k < B → InRange false B x
+    → bitwise_and false B (shifted_right false B (bitwise_or false B x (shifted_left false B (pos 1) k)) k) (pos 1) ≡ pos 1
+low-of_right_set B k x h g f =
+    let n = unsigned_abs x in
+    let top : max (bit_at n k) (bit_at (2 ^ k) k) ≡ 1 = omega (arith, bit_at-lt n k, bit_at-pow_same k) in
+    low-of_right B k _ h g (or-in_range false B x (shifted_left false B (pos 1) k) h) ∙ ap (λ (z : ℤ). pos (unsigned_abs z / 2 ^ k % 2)) (or-one_bit B k x h g f)
+    ∙ ap pos (bit_at_or n (2 ^ k) k ∙ top)

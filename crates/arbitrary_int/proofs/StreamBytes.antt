@@ -1,0 +1,43 @@
+-- The bytes of a number in a stream: how many they are, and that they tell the number, also where more bytes follow.
+use Rattle.std.specs.Prelude.{◌≡◌, ℕ, ℤ, Bool, true, false, pos, List, ◌++◌, length, take, ◌≤◌, ◌<◌, ◌^◌}
+use lib.Dec.{eqb}
+use lib.Pointwise.{bytes_decides, pointwise}
+use Rattle.std.proofs.Common.{refl, sym, ap, ◌∙◌, arith}
+use Rattle.std.proofs.Math.Seq.{take-append_seam}
+use Rattle.std.proofs.lemmas.List.{take_all}
+use Rattle.arbitrary_base.specs.Range.{InRange}
+use Rattle.arbitrary_base.specs.Residue.{wrap}
+use Rattle.arbitrary_base.specs.Bytes.{BorshBytes, bytes_number, byte_count}
+use Rattle.arbitrary_base.proofs.bytes.NumberOfBytes.{Borsh-canonical, length-Borsh, wrap-Borsh}
+
+pub Borsh-told : (B : ℕ) (x : ℤ) → (BorshBytes B x ≡ BorshBytes B x) × (length (BorshBytes B x) ≡ byte_count B) × (bytes_number (BorshBytes B x) < 2 ^ B)
+Borsh-told B x = (refl, length-Borsh B x, (Borsh-canonical B x).below)
+
+-- the number that the first bytes of a list tell
+unfoldable pub told : Bool → ℕ → List ℕ → ℤ
+told s B l = wrap s B (pos (bytes_number (take (byte_count B) l)))
+
+module _ (s : Bool) (B : ℕ) (x : ℤ) (h : 1 ≤ B) (f : InRange s B x) where
+  told-alone : told s B (BorshBytes B x) ≡ x
+  unfolding told
+  told-alone = ap (λ (l : List ℕ). wrap s B (pos (bytes_number l))) (take_all (byte_count B) (BorshBytes B x) (omega (arith, length-Borsh B x))) ∙ wrap-Borsh s B x h f
+
+  told-first : (more : List ℕ) → told s B (BorshBytes B x ++ more) ≡ x
+  unfolding told
+  told-first more = ap (λ (l : List ℕ). wrap s B (pos (bytes_number l))) (ap (λ (n : ℕ). take n (BorshBytes B x ++ more)) (sym (length-Borsh B x)) ∙ take-append_seam (BorshBytes B x) more) ∙ wrap-Borsh s B x h f
+
+pub number-of_Borsh : (B : ℕ) (x : ℤ) → 1 ≤ B → InRange false B x → (BorshBytes B x ≡ BorshBytes B x) × (told false B (BorshBytes B x) ≡ x)
+number-of_Borsh B x h f = (refl, told-alone false B x h f)
+
+pub number-of_Borsh_signed : (B : ℕ) (x : ℤ) → 1 ≤ B → InRange true B x → (BorshBytes B x ≡ BorshBytes B x) × (told true B (BorshBytes B x) ≡ x)
+number-of_Borsh_signed B x h f = (refl, told-alone true B x h f)
+
+pub first-of_Borsh : (B : ℕ) (x : ℤ) (more : List ℕ) → 1 ≤ B → InRange false B x → (BorshBytes B x ++ more ≡ BorshBytes B x ++ more) × (told false B (BorshBytes B x ++ more) ≡ x)
+first-of_Borsh B x more h f = (refl, told-first false B x h f more)
+
+pub first-of_Borsh_signed : (B : ℕ) (x : ℤ) (more : List ℕ) → 1 ≤ B → InRange true B x → (BorshBytes B x ++ more ≡ BorshBytes B x ++ more) × (told true B (BorshBytes B x ++ more) ≡ x)
+first-of_Borsh_signed B x more h f = (refl, told-first true B x h f more)
+
+-- a test of two arrays of bytes
+pub bytes-compared : (l m : List ℕ) → (pointwise eqb l m ≡ pointwise eqb l m) × (l ≡ m → pointwise eqb l m ≡ true) × (pointwise eqb l m ≡ true → l ≡ m)
+bytes-compared l m = let d = bytes_decides l m in (refl, d.1, d.0)

@@ -1,0 +1,34 @@
+//! Quotients times their divisor, and powers.
+//! None has a proof of its own: the file names one set of laws.
+#![tactic(auto, using(arbitrary_int::proofs::BitVector::quotients))]
+
+ghost use Rattle.std.specs.Prelude.{◌≡◌, ◌*ℤ◌, ◌≤ℤ◌, ◌<ℤ◌, pos};
+
+use arbitrary_int::prelude::*;
+
+pub fn cube(x: u4) -> u12
+    ensures { result ≡ x *ℤ x *ℤ x }
+{
+    u12::from_(x).saturating_pow(3)
+}
+
+pub fn remainder(a: u24, b: u24) -> u24
+    requires { pos 0 <ℤ b }
+    ensures { result <ℤ b }
+{
+    a - a / b * b
+}
+
+pub fn power_of_two(x: u12) -> u12
+    requires { x ≡ pos 3 }
+    ensures { result ≡ pos 9 }
+{
+    x.saturating_pow(2)
+}
+
+pub fn blocks(size: u24, block: u12) -> u24
+    requires { pos 0 <ℤ block }
+    ensures { result ≤ℤ size }
+{
+    size / u24::from_(block) * u24::from_(block)
+}

@@ -1,0 +1,15 @@
+//! The values of a range.
+//! None has a proof of its own: the file names one set of laws.
+#![tactic(auto, using(arbitrary_int::proofs::Sets::ranges))]
+
+ghost use Rattle.std.specs.Prelude.{◌≡◌, ◌≤ℤ◌, Some};
+
+use arbitrary_int::prelude::*;
+use arbitrary_int::range_inclusive;
+
+pub fn first_of_range(low: u7, high: u7) -> Option<u7>
+    requires { low ≤ℤ high }
+    ensures { result ≡ Some low }
+{
+    range_inclusive(low, high).next()
+}

@@ -1,0 +1,44 @@
+//! Fields put together by `|`.
+//! None has a proof of its own: the file names one set of laws.
+#![tactic(auto, using(arbitrary_int::proofs::Sets::fields))]
+
+ghost use Rattle.std.specs.Prelude.{◌≡◌, ◌*◌, ◌+◌, ◌+ℤ◌, ◌*ℤ◌, pos};
+
+use arbitrary_int::prelude::*;
+
+pub fn from_three_bytes(high: u8, middle: u8, low: u8) -> u24
+    ensures { result ≡ pos 65536 *ℤ pos high +ℤ pos 256 *ℤ pos middle +ℤ pos low }
+{
+    u24::new((u32::from(high) << 16) | (u32::from(middle) << 8) | u32::from(low))
+}
+
+pub fn colour(red: u5, green: u6, blue: u5) -> u16
+    ensures { pos result ≡ red *ℤ pos 2048 +ℤ green *ℤ pos 32 +ℤ blue }
+{
+    (u16::from_(red) << 11) | (u16::from_(green) << 5) | u16::from_(blue)
+}
+
+pub fn colour_and_back(red: u5, green: u6, blue: u5) -> u6
+    ensures { result ≡ green }
+{
+    let word = (u16::from_(red) << 11) | (u16::from_(green) << 5) | u16::from_(blue);
+    u6::extract_u16(word, 5)
+}
+
+pub fn three_bytes(high: u8, middle: u8, low: u8) -> u24
+    ensures { result ≡ pos (65536 * high + 256 * middle + low) }
+{
+    (u24::from_(high) << 16) | (u24::from_(middle) << 8) | u24::from_(low)
+}
+
+pub fn four(a: u4, b: u4, c: u4, d: u4) -> u16
+    ensures { pos result ≡ pos 4096 *ℤ a +ℤ pos 256 *ℤ b +ℤ pos 16 *ℤ c +ℤ d }
+{
+    (u16::from_(a) << 12) | (u16::from_(b) << 8) | (u16::from_(c) << 4) | u16::from_(d)
+}
+
+pub fn low_first(low: u8, middle: u8, high: u8) -> u32
+    ensures { result ≡ low + 256 * middle + 65536 * high }
+{
+    u32::from(low) | (u32::from(middle) << 8) | (u32::from(high) << 16)
+}

@@ -1,0 +1,50 @@
+//! Values in a stream, and read back.
+//! None has a proof of its own: the file names one set of laws.
+#![tactic(auto, using(arbitrary_int::proofs::Sets::streams))]
+
+ghost use Rattle.std.specs.Prelude.{◌≡◌, IsTrue, IfOk, Some};
+
+use arbitrary_int::Watched;
+use arbitrary_int::prelude::*;
+use std::alloc::Global;
+use std::io;
+
+pub fn borsh_and_back(x: u9) -> Option<u9>
+    ensures { result ≡ Some x }
+{
+    let mut out = [0; 16];
+    let length = x.to_borsh_bytes(&mut out);
+    u9::from_borsh_bytes(&out[..length])
+}
+
+pub fn borsh_length(x: i12) -> usize
+    ensures { result ≡ 2 }
+{
+    x.to_borsh_bytes(&mut [0; 16])
+}
+
+pub fn written_and_read(alloc: Global, x: u24) -> io::Result<u24>
+    ensures { IfOk result (λ y. y ≡ x) }
+{
+    let mut log = Watched::new(Vec::new(alloc));
+    x.serialize(&mut log)?;
+    let bytes = log.into_inner();
+    let found = u24::deserialize_reader(&mut Watched::new(bytes.as_slice()))?;
+    Ok(found)
+}
+
+pub fn stored_and_read(x: u12) -> bool
+    ensures { IsTrue result }
+{
+    let mut out = [0u8; 16];
+    let n = x.to_borsh_bytes(&mut out);
+    u12::from_borsh_bytes(&out[..n]) == Some(x)
+}
+
+pub fn signed_and_back(x: i12) -> Option<i12>
+    ensures { result ≡ Some x }
+{
+    let mut out = [0; 16];
+    let length = x.to_borsh_bytes(&mut out);
+    i12::from_borsh_bytes(&out[..length])
+}
