@@ -1,9 +1,9 @@
 //! The widths that a storage has room for, shown by a trait: so a function with no argument, as std's `default`, can make
 //! a value of every type that has one.
 
-ghost use Rattle.arbitrary_base.specs.Range.{IsValidWidth};
 
 use arbitrary_base::storage::Storage;
+ghost use Rattle.std.specs.Int.{IsInRange};
 
 pub mod room;
 pub mod to_128;
@@ -12,5 +12,5 @@ pub mod valid;
 
 /// The storage has room for `B` bits: each does for every `B` from 1 to its own width, and for no other.
 pub trait HasWidth<const B: usize>: Storage {
-    ghost valid_law: { IsValidWidth B Self.WIDTH };
+    ghost valid_law: { IsInRange 1 Self.WIDTH B };
 }
