@@ -1,9 +1,9 @@
 //! The widths that a storage has room for, shown by a trait: so a function with no argument, as std's `default`, can make
 //! a value of every type that has one.
 
+ghost use Rattle.std.specs.Int.{IsInRange};
 
 use arbitrary_base::storage::Storage;
-ghost use Rattle.std.specs.Int.{IsInRange};
 
 pub mod room;
 pub mod to_128;
