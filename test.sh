@@ -35,7 +35,8 @@ python3 tools/wrong_bodies.py test_bounds_core test_bounds test_pages test_laws 
     arbitrary_int/{no_bytes_are_canonical,reader_masks_excess_bits,reader_always_passes_a_fault_on,reader_takes_one_byte_too_many} \
     arbitrary_int/{reads_on_after_a_refusal,takes_an_old_fault_for_a_new_one,writer_always_passes_a_fault_on,writes_other_bytes} \
     arbitrary_int/{last_value_comes_from_both_ends,sum_tests_only_the_total,swap_bytes_answers_its_argument} \
-    bitrun_text/{reports_the_largest_bad_line,runs_the_steps_before_a_bad_line,status_is_always_2}
+    bitrun_text/{reports_the_largest_bad_line,runs_the_steps_before_a_bad_line,status_is_always_2} \
+    bitrun_service/{answers_read_always,answers_write_always,reads_nothing,stops_at_a_short_read,writes_other_bytes_after_a_fault}
 # of this shell and of what it waited for, each as 1m2.345s
 times > "$spent"
 awk -F '[ms ]+' -v wall="$SECONDS" '{ sum += 60 * ($1 + $3) + $2 + $4 }

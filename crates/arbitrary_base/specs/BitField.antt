@@ -1,4 +1,5 @@
--- Fields in a word of 128 bits, and lists of puts into such fields.
+-- Fields in a word of 128 bits, and lists of puts into such fields: the contracts of `bit_fields` cite these. `Field` has the number
+-- of one field of a word.
 use Rattle.std.specs.Prelude.{◌≡◌, ℕ, ◌+◌, ◌-◌, ◌≤◌, ◌<◌, ◌^◌, Bool, false, List, [], ◌∷◌, length, take, drop, get_or, pos, All, AllPairs, Contains, IsPermutation}
 use Rattle.std.specs.List.{fold, replace_range}
 use Rattle.arbitrary_base.specs.BitList.{bits, num}

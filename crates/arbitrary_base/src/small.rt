@@ -1,4 +1,5 @@
-//! The numbers of storages of at most 16 bits, in 64 bits, where their sums and products are exact.
+//! The numbers of storages of at most 16 bits, in 64 bits, where their sums and products are exact. So one is made once, and
+//! `checked`, `saturating`, `overflowing` and `raised` test it.
 
 ghost use Rattle.std.specs.Prelude.{◌≡◌, ◌↔◌, ◌≤◌, ◌+ℤ◌, ◌*ℤ◌, IsTrue};
 ghost use Rattle.arbitrary_base.specs.Range.{InRange};
@@ -14,7 +15,7 @@ fn number<T: Storage>(x: T) -> i64
     ensures value { result ≡ T.number x }
     ensures range { InRange T.SIGNED T.WIDTH (T.number x) }
 {
-    // The contract of `pattern` says that the number is in range; the pattern itself is not needed.
+    // The contract of `storage_bits` says that the number is in range; the bits themselves are not needed.
     let _pattern = x.storage_bits();
     cast(x, 64)
 }

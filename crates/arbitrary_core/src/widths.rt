@@ -1,5 +1,5 @@
 //! The widths that a storage has room for, shown by a trait: so a function with no argument, as std's `default`, can make
-//! a value of every type that has one.
+//! a value of every type that has one. `to_64` and `to_128` have the impls, over `room`; `valid` has the same of an integer type.
 
 ghost use Rattle.std.specs.Int.{IsInRange};
 

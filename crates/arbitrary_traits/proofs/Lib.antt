@@ -1,1 +1,2 @@
+-- The lemmas that several proofs of this crate share.
 pub mod Conversion

@@ -13,6 +13,7 @@ use Rattle.bitrun_text.specs.declared.fault.Fault.TheVariants.{Line, TooLong, Re
 pub record Serves (held left : Option (List ℕ)) (reader_failed : Bool) (before after : Option (List ℕ)) (writer_failed : Bool) (result : Result ⊤ Fault) : Type 0 where
   -- what is written is the output, and nothing else
   pub outputs : OnOk result (IfSome held (λ input. (text : List ℕ) × IsOutput input text × Appends before after text))
+  -- each line is there where it must be, and has its form
   pub no_bad_line : OnOk result (IfSome held (λ input. (i : ℕ) → HasForm (word_lines input) i))
   pub all_read : OnOk result (IsAtEnd left)
   pub short : OnOk result (IfSome held (λ input. length input ≤ 65536))

@@ -1,4 +1,5 @@
-//! The output to an input: its lines read, and the steps run at the type that the first one names.
+//! The output to an input: its lines read, and the steps run at the type that the first one names. `bitrun_text` reads the lines,
+//! `running` runs the steps at one type, and `serving` takes the bytes in and out.
 
 ghost use Rattle.std.specs.Prelude.{◌≡◌, ◌≤◌, length, map, filter, IfOk, IfErr, All};
 ghost use Rattle.bitrun_text.specs.Kind.{type_row, type_of};

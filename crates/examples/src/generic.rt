@@ -1,4 +1,5 @@
-//! Code for every width.
+//! Code for every width: a bound stands in place of a type, and the clauses are about `T.number` and `V.BITS`. `sums` has
+//! code that is generic by the traits of `num_traits`.
 
 ghost use Rattle.std.specs.Prelude.{◌≡◌, ◌↔◌, ◌+ℤ◌, ◌%◌, pos, int_div, IsTrue};
 ghost use Rattle.std.specs.List.{count_by};

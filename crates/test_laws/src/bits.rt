@@ -1,4 +1,5 @@
-//! Laws of `& | ^ !`, each by itself.
+//! Laws of one of `& | ^` with `!`, once or nested, each by the set `bits` alone. `distribution` has two of them, one over the
+//! other.
 #![tactic(auto, using(arbitrary_int::proofs::BitVector::bits))]
 
 ghost use Rattle.std.specs.Prelude.{IsTrue};

@@ -1,4 +1,5 @@
--- Shifts, rotations and reversal of bit lists, one after the other.
+-- Shifts, rotations and reversal of bit lists, one after the other. `Movement` has each alone; `operations.RotateAndReverse` and
+-- `operations.Shift` have the same of numbers.
 use Rattle.std.specs.Prelude.{◌≡◌, ℕ, zero, suc, ◌+◌, ◌-◌, ◌%◌, ◌≤◌, ◌<◌, Bool, true, false, ◌&&◌, ◌||◌, List, [], ◌∷◌, ◌++◌, get_or, reverse, length, take, drop, replicate}
 use Rattle.std.specs.List.{slice_rotate_right}
 use Rattle.std.proofs.Common.{refl, sym, ap, ap₂, ◌∙◌, subst, arith, mod-eq_of_lt, length-take, length-drop, take-append-drop, take-take}

@@ -1,4 +1,4 @@
-//! Equality and order of `Int`: those of the number, and not of its bits.
+//! Equality and order of `Int`: those of the number, and not of its bits. `unsigned` has those of `UInt`, which keeps its number.
 
 ghost use Rattle.std.specs.Prelude.{◌≡◌, ◌≤ℤ◌, ◌<ℤ◌, ◌+ℤ◌, ◌-ℤ◌, ◌-◌, ◌^◌, pos};
 ghost use Rattle.std.specs.Int.{IsInRange};

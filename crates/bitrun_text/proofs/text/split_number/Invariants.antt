@@ -1,3 +1,4 @@
+-- What the loop over the digits keeps: those passed write the number. A round ends nearer to the end of the text. `Answers` has why.
 use Rattle.std.proofs.Common.{◌-◌, length}
 use Rattle.bitrun_text.specs.Numeral.{Reads}
 use Rattle.bitrun_text.proofs.text.split_number.Given as goal
