@@ -33,12 +33,22 @@ s/\btruncation::kept_bits\b/truncation::low_bits_in_range/g
 s/\.ensures\.kept\b/.ensures.exact/g
 s/(\bc\.to_storage[A-Za-z0-9_-]*\.ensures)\.fits\b/\1.storage/g
 # ---- words of clauses
-s/(BitList\.\{[^}]*)\bones\b/\1popcount/
-s/\bones \(bits\b/popcount (bits/g
 s/(BitField\.\{[^}]*)\bFits\b/\1IsInBounds/
 s/\bAll Fits\b/All IsInBounds/g
-s/\bspecs\.Fits\b/specs.Representable/g
-s/(Representable\.\{[^}]*)\bFits\b/\1IsRepresentable/
+# ---- words that std has: import these from `Rattle.std.specs`, of `Prelude`, `Bool`, `List` and `Int`
+s/\brotl \(/slice_rotate_right (/g
+s/\bbits_not \(/map not (/g
+s/\b(ones|popcount) \(bits\b/count_by (λ b. b) (bits/g
+s/\bfront (true|false) \(/prefix_len (beq \1) (/g
+s/\btail (true|false) \(/suffix_len (beq \1) (/g
+s/\bpower \(/int_pow (/g
+s/\bbyte_count (\([^()]*\)|[^ (),}]+)/div_ceil \1 8/g
+s/\bIsValidWidth (\([^()]*\)|[^ ()]+) (\([^()]*\)|[^ ()]+)/IsInRange 1 \2 \1/g
+s/\bAllInRange (\([^()]*\)|[^ ()]+) (\([^()]*\)|[^ ()]+)/AllByRecursion (InRange \1 \2)/g
+# ---- lists of steps
+s/\bWellFormed (\([^()]*\)|[^ ()]+) (\([^()]*\)|[^ ()]+)/All (StepWithin \2) \1/g
+s/\bOnlyLowBits (\([^()]*\)|[^ ()]+)/All (IsLowBit \1)/g
+s/\bOnlyCheckedArithmetic /All IsCheckedArithmetic /g
 # ---- modules of lemmas
 s/\b(arbitrary_int\.proofs)\.Narrow\b/\1.Truncation/g
 s/\b(arbitrary_int\.proofs)\.Wrap\b/\1.Residue/g

@@ -1,7 +1,7 @@
 -- The laws of specs/Laws: those that no other proof needs are proved here, and `laws` cites all by these names.
-use Rattle.std.specs.Prelude.{◌≡◌, ◌≢◌, ◌↔◌, ℕ, zero, suc, ℤ, Bool, true, false, pos, Option, Some, None, int_div, IsTrue, if◌then◌else◌, ◌||◌, ◌+ℤ◌, ◌-ℤ◌, ◌*ℤ◌, ◌≤◌, List, [], ◌∷◌}
+use Rattle.std.specs.Prelude.{◌≡◌, ◌≢◌, ◌↔◌, ℕ, zero, suc, ℤ, Bool, true, false, pos, Option, Some, None, int_div, IsTrue, if◌then◌else◌, ◌||◌, ◌+ℤ◌, ◌-ℤ◌, ◌*ℤ◌, ◌≤◌, List, [], ◌∷◌, SomeIff, option_map}
 use Rattle.std.specs.Ordering.{int_eq}
-use Rattle.std.specs.List.{fold, last_or}
+use Rattle.std.specs.List.{fold, last_or, scan}
 use Rattle.std.proofs.Common.{arith, refl, ap, sym, ◌∙◌}
 use Rattle.std.proofs.lemmas.Int.{ints}
 use Rattle.std.proofs.lemmas.List.{reverse-reverse}
@@ -9,8 +9,6 @@ use Rattle.std.proofs.lemmas.List.Sums.{prefix_len-le-length}
 use Rattle.std.proofs.Math.IntN.{*ℤ_comm}
 use Rattle.arbitrary_base.specs.Range.{InRange, in_range, lo}
 use Rattle.arbitrary_base.specs.Residue.{Congruent, wrap}
-use Rattle.arbitrary_base.specs.Exact.{ExactOrNone, QuotientOrNone}
-use Rattle.arbitrary_base.specs.Totals.{partials}
 use Rattle.arbitrary_base.proofs.integers.Ring.{add-mul_z, mul_assoc_z}
 use Rattle.arbitrary_base.proofs.modular.Congruence.{Congruent-refl, Congruent-add, Congruent-mul}
 use Rattle.arbitrary_base.proofs.modular.Residue.{residue-lt, wrap-of_in_range, wrap-in_range, wrap-congruent, wrap-unique, wrap-same}
@@ -75,7 +73,7 @@ products-distribute s B x y z =
 pub ruleset wrapped_arithmetic_rules = (sums-commute, sums-associate, products-commute, products-associate, products-distribute)
 
 pub checked-tells : (s : Bool) (B : ℕ) (x : ℤ) (checked : Option ℤ) (wrapped : ℤ) (overflow : Bool) → 1 ≤ B
-    → ExactOrNone (λ y. y) s B x checked → wrapped ≡ wrap s B x → (IsTrue overflow ↔ ¬ (InRange s B x))
+    → SomeIff checked (InRange s B x) x → wrapped ≡ wrap s B x → (IsTrue overflow ↔ ¬ (InRange s B x))
     → checked ≡ (if overflow then None else Some wrapped)
 checked-tells s B x None w true h e q f = refl
 checked-tells s B x None w false h e q f = let t = f.1 e in cc
@@ -83,7 +81,7 @@ checked-tells s B x (Some y) w true h e q f = absurd (f.0 refl e.0)
 checked-tells s B x (Some y) w false h e q f = ap Some (e.1 ∙ sym (wrap-of_in_range s B x h e.0) ∙ sym q)
 
 pub checked-quotient_tells : (s : Bool) (B : ℕ) (x y : ℤ) (checked : Option ℤ) (wrapped : ℤ) (overflow : Bool) → 1 ≤ B
-    → QuotientOrNone (λ q. q) s B x y checked
+    → SomeIff checked ((y ≢ pos 0) × InRange s B (int_div x y)) (int_div x y)
     → (y ≢ pos 0 → (wrapped ≡ wrap s B (int_div x y)) × (IsTrue overflow ↔ ¬ (InRange s B (int_div x y))))
     → checked ≡ (if int_eq y (pos 0) || overflow then None else Some wrapped)
 checked-quotient_tells s B x y checked w overflow h e f = by_divisor (int_eq y (pos 0)) refl checked e
@@ -94,12 +92,12 @@ checked-quotient_tells s B x y checked w overflow h e f = by_divisor (int_eq y (
     other-is : int_eq y (pos 0) ≡ false → y ≢ pos 0
     other-is p z = let t : int_eq y (pos 0) ≡ true = rw z refl in cc
 
-    by_divisor : (t : Bool) → int_eq y (pos 0) ≡ t → (checked : Option ℤ) → QuotientOrNone (λ q. q) s B x y checked
+    by_divisor : (t : Bool) → int_eq y (pos 0) ≡ t → (checked : Option ℤ) → SomeIff checked ((y ≢ pos 0) × InRange s B (int_div x y)) (int_div x y)
         → checked ≡ (if int_eq y (pos 0) || overflow then None else Some w)
     by_divisor true p None e = rw p refl
-    by_divisor true p (Some q) e = absurd (e.0 (zero-is p))
-    by_divisor false p None e = let n = other-is p in rw p (checked-tells s B (int_div x y) None w overflow h (e n) (f n).0 (f n).1)
-    by_divisor false p (Some q) e = let n = other-is p in rw p (checked-tells s B (int_div x y) (Some q) w overflow h (e.1, e.2) (f n).0 (f n).1)
+    by_divisor true p (Some q) e = absurd (e.0.0 (zero-is p))
+    by_divisor false p None e = let n = other-is p in rw p (checked-tells s B (int_div x y) None w overflow h (λ i. e (n, i)) (f n).0 (f n).1)
+    by_divisor false p (Some q) e = let n = other-is p in rw p (checked-tells s B (int_div x y) (Some q) w overflow h (e.0.1, e.1) (f n).0 (f n).1)
 
 pub ruleset checked_rules = (checked-tells, checked-quotient_tells)
 
@@ -111,6 +109,6 @@ pub ruleset range_rules = (in_range-tells, clamp-fits, clamp-above, clamp-below)
 
 pub ruleset bit_list_rules = (length-bits, num-bits_residue, field-items, val-bits_in_range, bits-val, rotr-rotl, reverse-reverse, popcount-not, prefix_len-le-length, tail-le, items-items)
 
-pub last-partials : (op : ℤ → ℤ → ℤ) (o : Option ℤ) (first : ℤ) (l : List ℤ) → last_or o (partials op first l) ≡ Some (fold op first l)
+pub last-partials : (op : ℤ → ℤ → ℤ) (o : Option ℤ) (first : ℤ) (l : List ℤ) → last_or o (first ∷ scan op op first l) ≡ Some (fold op first l)
 last-partials op o first [] = refl
 last-partials op o first (x ∷ l) = last-partials op (Some first) (op first x) l

@@ -1,19 +1,16 @@
 -- Fields in a word of 128 bits, and lists of puts into such fields: the contracts of `bit_fields` cite these. `Field` has the number
 -- of one field of a word.
-use Rattle.std.specs.Prelude.{◌≡◌, ℕ, ◌+◌, ◌-◌, ◌≤◌, ◌<◌, ◌^◌, Bool, false, List, [], ◌∷◌, ◌++◌, length, take, drop, get_or, pos, All, AllPairs, Contains, IsPermutation}
-use Rattle.arbitrary_base.specs.BitList.{bits, num, items}
+use Rattle.std.specs.Prelude.{◌≡◌, ℕ, ◌+◌, ◌-◌, ◌≤◌, ◌<◌, ◌^◌, Bool, false, List, [], ◌∷◌, length, take, drop, get_or, pos, All, AllPairs, Contains, IsPermutation}
+use Rattle.std.specs.List.{fold, replace_range}
+use Rattle.arbitrary_base.specs.BitList.{bits, num}
 
 -- the bits of the field that begins at bit `start` and is `width` bits wide
 unfoldable pub field_bits : ℕ → ℕ → ℕ → List Bool
-field_bits word start width = items start width (bits 128 (pos word))
-
--- a list with l in its places from start on
-abbrev pub placed : ℕ → List Bool → List Bool → List Bool
-placed start l whole = take start whole ++ l ++ drop (start + length l) whole
+field_bits word start width = take width (drop start (bits 128 (pos word)))
 
 -- the word whose 128 bits are those of this one, with l in the places from start on
 unfoldable pub with_field : ℕ → ℕ → List Bool → ℕ
-with_field word start l = num (placed start l (bits 128 (pos word)))
+with_field word start l = num (replace_range (bits 128 (pos word)) start (start + length l) l)
 
 unfoldable pub bit_of : ℕ → ℕ → Bool
 bit_of word i = get_or (bits 128 (pos word)) i false
@@ -52,37 +49,34 @@ pub record Put : Type 0 where
 abbrev pub IsInBounds : Put → Type 0
 IsInBounds put = put.start + length put.bits ≤ 128
 
-abbrev pub Covers : ℕ → Put → Type 0
-Covers i put = IsInField put.start (length put.bits) i
-
-abbrev pub AreApart : Put → Put → Type 0
-AreApart p q = AreDisjoint p.start (length p.bits) q.start (length q.bits)
-
 -- the word after these puts, the first of them first
 abbrev pub after_puts : ℕ → List Put → ℕ
-after_puts word [] = word
-after_puts word (put ∷ later) = after_puts (with_field word put.start put.bits) later
+after_puts word puts = fold (λ now put. with_field now put.start put.bits) word puts
 
 -- a bit of one of the fields is that of the list that was put there
 abbrev pub PutsSetTheirBits : Type 0
-PutsSetTheirBits = (word : ℕ) (puts : List Put) (put : Put) (i : ℕ) → All IsInBounds puts → AllPairs AreApart puts → Contains puts put
-    → Covers i put → bit_of (after_puts word puts) i ≡ get_or put.bits (i - put.start) false
+PutsSetTheirBits = (word : ℕ) (puts : List Put) (put : Put) (i : ℕ) → All IsInBounds puts
+    → AllPairs (λ p q. AreDisjoint p.start (length p.bits) q.start (length q.bits)) puts → Contains puts put
+    → IsInField put.start (length put.bits) i → bit_of (after_puts word puts) i ≡ get_or put.bits (i - put.start) false
 
 -- a bit of none of them is as it was
 abbrev pub PutsKeepOtherBits : Type 0
-PutsKeepOtherBits = (word : ℕ) (puts : List Put) (i : ℕ) → All IsInBounds puts → All (λ put. ¬ (Covers i put)) puts
+PutsKeepOtherBits = (word : ℕ) (puts : List Put) (i : ℕ) → All IsInBounds puts
+    → All (λ put. ¬ (IsInField put.start (length put.bits) i)) puts
     → bit_of (after_puts word puts) i ≡ bit_of word i
 
 -- so each field reads as what was put there, whatever was put into the others before and after
 abbrev pub FieldAfterPuts : Type 0
-FieldAfterPuts = (word : ℕ) (puts : List Put) (put : Put) → All IsInBounds puts → AllPairs AreApart puts → Contains puts put
+FieldAfterPuts = (word : ℕ) (puts : List Put) (put : Put) → All IsInBounds puts
+    → AllPairs (λ p q. AreDisjoint p.start (length p.bits) q.start (length q.bits)) puts → Contains puts put
     → field_bits (after_puts word puts) put.start (length put.bits) ≡ put.bits
 
 -- and their order doesn't matter
 abbrev pub PutsInAnyOrder : Type 0
-PutsInAnyOrder = (word : ℕ) (puts others : List Put) → word < 2 ^ 128 → All IsInBounds puts → AllPairs AreApart puts → IsPermutation puts others
+PutsInAnyOrder = (word : ℕ) (puts others : List Put) → word < 2 ^ 128 → All IsInBounds puts
+    → AllPairs (λ p q. AreDisjoint p.start (length p.bits) q.start (length q.bits)) puts → IsPermutation puts others
     → after_puts word puts ≡ after_puts word others
 
 abbrev pub DisjointPutsCommute : Type 0
-DisjointPutsCommute = (word : ℕ) (p q : Put) → IsInBounds p → IsInBounds q → AreApart p q
+DisjointPutsCommute = (word : ℕ) (p q : Put) → IsInBounds p → IsInBounds q → AreDisjoint p.start (length p.bits) q.start (length q.bits)
     → after_puts word (p ∷ q ∷ []) ≡ after_puts word (q ∷ p ∷ [])

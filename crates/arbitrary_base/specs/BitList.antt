@@ -10,13 +10,10 @@ unfoldable pub bits : ℕ → ℤ → List Bool
 bits zero x = []
 bits (suc k) x = (unsigned_abs x % 2 == 1) ∷ bits k (int_div_euclid x (pos 2))
 
-abbrev pub digit : Bool → ℕ
-digit b = if b then 1 else 0
-
 -- the number from 0 up that has these bits
 abbrev pub num : List Bool → ℕ
 num [] = 0
-num (b ∷ l) = digit b + 2 * num l
+num (b ∷ l) = (if b then 1 else 0) + 2 * num l
 
 -- the number of the type of length l that has these bits
 unfoldable pub val : Bool → List Bool → ℤ
@@ -33,9 +30,6 @@ bits_or l m = map (λ (p : Bool × Bool). p.0 || p.1) (zip l m)
 abbrev pub bits_xor : List Bool → List Bool → List Bool
 bits_xor l m = map (λ (p : Bool × Bool). not (beq p.0 p.1)) (zip l m)
 
-abbrev pub bits_not : List Bool → List Bool
-bits_not l = map not l
-
 -- ---- shifts and rotations
 
 -- k zeros, then l without its last k items
@@ -50,28 +44,6 @@ shr l k f = drop k l ++ replicate k f
 abbrev pub fill : Bool → List Bool → Bool
 fill s l = s && get_or l (length l - 1) false
 
--- the last k items, then the others
-abbrev pub rotl : List Bool → ℕ → List Bool
-rotl l k = drop (length l - k) l ++ take (length l - k) l
-
 -- l without its first k items, then these
 abbrev pub rotr : List Bool → ℕ → List Bool
 rotr l k = drop k l ++ take k l
-
--- ---- counts
-
--- how many items are one
-abbrev pub popcount : List Bool → ℕ
-popcount l = count_by (λ b. b) l
-
--- the length of the longest run of b at the front
-abbrev pub front : Bool → List Bool → ℕ
-front b l = prefix_len (beq b) l
-
--- and at the end
-abbrev pub tail : Bool → List Bool → ℕ
-tail b l = front b (reverse l)
-
--- items start .. start + k - 1
-abbrev pub items : ℕ → ℕ → List Bool → List Bool
-items start k l = take k (drop start l)

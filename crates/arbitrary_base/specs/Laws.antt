@@ -1,15 +1,14 @@
 -- The laws of what wraps and of bit lists, as statements. `laws` proves them.
-use Rattle.std.specs.Prelude.{◌≡◌, ◌≢◌, ◌↔◌, ℕ, ℤ, Bool, List, Option, Some, None, pos, length, reverse, int_div, IsTrue, if◌then◌else◌, ◌||◌, ◌+◌, ◌≤◌, ◌<◌, ◌+ℤ◌, ◌-ℤ◌, ◌*ℤ◌, false, ◌^◌, ◌<ℤ◌, ◌*◌}
+use Rattle.std.specs.Prelude.{◌≡◌, ◌≢◌, ◌↔◌, ℕ, ℤ, Bool, List, Option, Some, None, pos, length, reverse, int_div, IsTrue, if◌then◌else◌, ◌∷◌, ◌||◌, ◌+◌, ◌≤◌, ◌<◌, ◌+ℤ◌, ◌-ℤ◌, ◌*ℤ◌, false, ◌^◌, ◌<ℤ◌, ◌*◌, map, not, take, drop, SomeIff, option_map}
+use Rattle.std.specs.Bool.{beq}
 use Rattle.std.specs.Ordering.{int_eq}
 use Rattle.arbitrary_base.specs.Range.{InRange, in_range, lo, hi}
 use Rattle.arbitrary_base.specs.Residue.{Congruent, residue, wrap}
 use Rattle.arbitrary_base.specs.Field.{field}
 use Rattle.arbitrary_base.specs.Saturation.{clamp}
-use Rattle.std.specs.List.{fold, last_or}
-use Rattle.arbitrary_base.specs.Exact.{ExactOrNone, QuotientOrNone}
-use Rattle.arbitrary_base.specs.BitList.{bits, val, bits_and, bits_or, bits_xor, shl, rotl, rotr, popcount, front, tail, bits_not, items, num}
+use Rattle.std.specs.List.{fold, last_or, scan, slice_rotate_right, count_by, prefix_len, suffix_len}
+use Rattle.arbitrary_base.specs.BitList.{bits, val, bits_and, bits_or, bits_xor, shl, rotr, num}
 use Rattle.arbitrary_base.specs.Bytes.{bytes, bytes_number, BorshBytes, Canonical}
-use Rattle.arbitrary_base.specs.Totals.{partials}
 
 -- ---- what `wrap` is
 
@@ -62,13 +61,13 @@ WrappedProductsDistribute = (s : Bool) (B : ℕ) (x y z : ℤ) → wrap s B (x *
 -- what is exact or none is the wrapped number, but for an overflow
 abbrev pub CheckedTellsOverflow : Type 0
 CheckedTellsOverflow = (s : Bool) (B : ℕ) (x : ℤ) (checked : Option ℤ) (wrapped : ℤ) (overflow : Bool) → 1 ≤ B
-    → ExactOrNone (λ y. y) s B x checked → wrapped ≡ wrap s B x → (IsTrue overflow ↔ ¬ (InRange s B x))
+    → SomeIff checked (InRange s B x) x → wrapped ≡ wrap s B x → (IsTrue overflow ↔ ¬ (InRange s B x))
     → checked ≡ (if overflow then None else Some wrapped)
 
 -- and a quotient that is exact or none, but for a divisor of zero and an overflow
 abbrev pub CheckedQuotientTellsOverflow : Type 0
 CheckedQuotientTellsOverflow = (s : Bool) (B : ℕ) (x y : ℤ) (checked : Option ℤ) (wrapped : ℤ) (overflow : Bool) → 1 ≤ B
-    → QuotientOrNone (λ q. q) s B x y checked
+    → SomeIff checked ((y ≢ pos 0) × InRange s B (int_div x y)) (int_div x y)
     → (y ≢ pos 0 → (wrapped ≡ wrap s B (int_div x y)) × (IsTrue overflow ↔ ¬ (InRange s B (int_div x y))))
     → checked ≡ (if int_eq y (pos 0) || overflow then None else Some wrapped)
 
@@ -87,28 +86,28 @@ abbrev pub BitsOfValue : Type 0
 BitsOfValue = (s : Bool) (B : ℕ) (l : List Bool) → length l ≡ B → bits B (val s l) ≡ l
 
 abbrev pub RotationsUndo : Type 0
-RotationsUndo = (l : List Bool) (k : ℕ) → k ≤ length l → rotr (rotl l k) k ≡ l
+RotationsUndo = (l : List Bool) (k : ℕ) → k ≤ length l → rotr (slice_rotate_right l k) k ≡ l
 
 abbrev pub ReversalUndoesItself : Type 0
 ReversalUndoesItself = (l : List Bool) → reverse (reverse l) ≡ l
 
 abbrev pub OnesAddUp : Type 0
-OnesAddUp = (l : List Bool) → popcount l + popcount (bits_not l) ≡ length l
+OnesAddUp = (l : List Bool) → count_by (λ b. b) l + count_by (λ b. b) (map not l) ≡ length l
 
 abbrev pub FrontRunsFit : Type 0
-FrontRunsFit = (b : Bool) (l : List Bool) → front b l ≤ length l
+FrontRunsFit = (b : Bool) (l : List Bool) → prefix_len (beq b) l ≤ length l
 
 abbrev pub EndRunsFit : Type 0
-EndRunsFit = (b : Bool) (l : List Bool) → tail b l ≤ length l
+EndRunsFit = (b : Bool) (l : List Bool) → suffix_len (beq b) l ≤ length l
 
 -- items t .. t + A - 1 of items s .. s + B - 1 are items s + t .. s + t + A - 1
 abbrev pub ExtractionComposes : Type 0
-ExtractionComposes = (s t A B : ℕ) (l : List Bool) → t + A ≤ B → items t A (items s B l) ≡ items (s + t) A l
+ExtractionComposes = (s t A B : ℕ) (l : List Bool) → t + A ≤ B → take A (drop t (take B (drop s l))) ≡ take A (drop (s + t) l)
 
 -- a field of a word of W bits is what is extracted from it
 abbrev pub FieldIsExtracted : Type 0
 FieldIsExtracted = (W start width word : ℕ) → 1 ≤ width → start + width ≤ W → word < 2 ^ W
-    → val false (items start width (bits W (pos word))) ≡ field word start width
+    → val false (take width (drop start (bits W (pos word)))) ≡ field word start width
 
 -- ---- between two widths: s and A are the sign and the width of the narrow type, t and B those of the wide one
 
@@ -138,7 +137,7 @@ XorKeepsLowBits = (s t : Bool) (A B : ℕ) (x y : ℤ) → 1 ≤ A → A ≤ B
 
 abbrev pub ComplementsKeepLowBits : Type 0
 ComplementsKeepLowBits = (s t : Bool) (A B : ℕ) (x : ℤ) → 1 ≤ A → A ≤ B
-    → wrap s A (val t (bits_not (bits B x))) ≡ val s (bits_not (bits A (wrap s A x)))
+    → wrap s A (val t (map not (bits B x))) ≡ val s (map not (bits A (wrap s A x)))
 
 -- the amount is below the narrow width
 abbrev pub LeftShiftsKeepLowBits : Type 0
@@ -171,7 +170,7 @@ BorshIsUnique = (s : Bool) (B : ℕ) (x y : ℤ) → 1 ≤ B → InRange s B x �
 
 -- what all items leave is the last of the partial results
 abbrev pub TotalIsTheLastPartial : Type 0
-TotalIsTheLastPartial = (op : ℤ → ℤ → ℤ) (first : ℤ) (l : List ℤ) → last_or None (partials op first l) ≡ Some (fold op first l)
+TotalIsTheLastPartial = (op : ℤ → ℤ → ℤ) (first : ℤ) (l : List ℤ) → last_or None (first ∷ scan op op first l) ≡ Some (fold op first l)
 
 -- ---- a number and its pattern
 

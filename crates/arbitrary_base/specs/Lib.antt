@@ -2,7 +2,6 @@ pub mod Range
 pub mod Residue
 pub mod Field
 pub mod Saturation
-pub mod Exact
 pub mod BitList
 pub mod Operation
 pub mod BitField
@@ -10,7 +9,5 @@ pub mod Power
 pub mod Order
 pub mod Watching
 pub mod Bytes
-pub mod Totals
 pub mod Stream
 pub mod Laws
-pub mod Representable

@@ -1,7 +1,8 @@
 -- The operations on the numbers of a type, each as one word. The type is its sign s and its width B in bits.
-use Rattle.std.specs.Prelude.{◌≡◌, ℕ, ℤ, Bool, reverse, ◌+ℤ◌, ◌-ℤ◌, ◌*ℤ◌}
+use Rattle.std.specs.Prelude.{ℕ, ℤ, Bool, reverse, ◌+ℤ◌, ◌-ℤ◌, ◌*ℤ◌, map, not}
+use Rattle.std.specs.List.{slice_rotate_right}
 use Rattle.arbitrary_base.specs.Residue.{wrap}
-use Rattle.arbitrary_base.specs.BitList.{bits, val, bits_and, bits_or, bits_xor, bits_not, shl, shr, fill, rotl, rotr}
+use Rattle.arbitrary_base.specs.BitList.{bits, val, bits_and, bits_or, bits_xor, shl, shr, fill, rotr}
 
 -- ---- arithmetic that wraps
 
@@ -26,7 +27,7 @@ unfoldable pub bitwise_xor : Bool → ℕ → ℤ → ℤ → ℤ
 bitwise_xor s B x y = val s (bits_xor (bits B x) (bits B y))
 
 unfoldable pub bitwise_not : Bool → ℕ → ℤ → ℤ
-bitwise_not s B x = val s (bits_not (bits B x))
+bitwise_not s B x = val s (map not (bits B x))
 
 -- ---- shifts, rotations and reversal
 
@@ -38,25 +39,10 @@ unfoldable pub shifted_right : Bool → ℕ → ℤ → ℕ → ℤ
 shifted_right s B x k = val s (shr (bits B x) k (fill s (bits B x)))
 
 unfoldable pub rotated_left : Bool → ℕ → ℤ → ℕ → ℤ
-rotated_left s B x k = val s (rotl (bits B x) k)
+rotated_left s B x k = val s (slice_rotate_right (bits B x) k)
 
 unfoldable pub rotated_right : Bool → ℕ → ℤ → ℕ → ℤ
 rotated_right s B x k = val s (rotr (bits B x) k)
 
 unfoldable pub reversed : Bool → ℕ → ℤ → ℤ
 reversed s B x = val s (reverse (bits B x))
-
--- ---- how two operations go together
-
-abbrev pub Commutes : (ℤ → ℤ → ℤ) → Type 0
-Commutes f = (x y : ℤ) → f x y ≡ f y x
-
-abbrev pub Associates : (ℤ → ℤ → ℤ) → Type 0
-Associates f = (x y z : ℤ) → f (f x y) z ≡ f x (f y z)
-
-abbrev pub DistributesOver : (ℤ → ℤ → ℤ) → (ℤ → ℤ → ℤ) → Type 0
-DistributesOver g f = (x y z : ℤ) → f x (g y z) ≡ g (f x y) (f x z)
-
--- De Morgan's law: h makes g of f
-abbrev pub Dualizes : (ℤ → ℤ) → (ℤ → ℤ → ℤ) → (ℤ → ℤ → ℤ) → Type 0
-Dualizes h f g = (x y : ℤ) → h (f x y) ≡ g (h x) (h y)

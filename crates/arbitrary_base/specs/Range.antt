@@ -1,5 +1,5 @@
 -- Which numbers a type has. A type is its sign s (true where it is signed) and its width B in bits.
-use Rattle.std.specs.Prelude.{ℕ, ℤ, Bool, true, false, pos, neg_ℤ, ◌-ℤ◌, ◌≤ℤ◌, ◌-◌, ◌^◌, ◌≤◌, ◌&&◌, int_le}
+use Rattle.std.specs.Prelude.{ℕ, ℤ, Bool, true, false, pos, neg_ℤ, ◌-ℤ◌, ◌≤ℤ◌, ◌-◌, ◌^◌, ◌&&◌, int_le}
 
 -- the least number
 abbrev pub lo : Bool → ℕ → ℤ
@@ -24,7 +24,3 @@ in_range s B x = int_le (lo s B) x && int_le x (hi s B)
 abbrev pub range_end : Bool → ℕ → Bool → ℤ
 range_end s B true = lo s B
 range_end s B false = hi s B
-
--- a storage of W bits can keep a type of B bits
-abbrev pub IsValidWidth : ℕ → ℕ → Type 0
-IsValidWidth B W = (1 ≤ B) × (B ≤ W)

@@ -1,8 +1,8 @@
 //! The bitwise operators at `bits` bits.
 
-ghost use Rattle.std.specs.Prelude.{◌≡◌, ◌≤◌};
+ghost use Rattle.std.specs.Prelude.{◌≡◌, ◌≤◌, map, not};
 ghost use Rattle.arbitrary_base.specs.Range.{InRange};
-ghost use Rattle.arbitrary_base.specs.BitList.{bits as bit_list, val, bits_and, bits_or, bits_xor, bits_not};
+ghost use Rattle.arbitrary_base.specs.BitList.{bits as bit_list, val, bits_and, bits_or, bits_xor};
 
 use crate::patterns;
 use crate::storage::Storage;
@@ -55,7 +55,7 @@ pub fn xor<T: Storage>(x: T, y: T, bits: usize) -> T
 pub fn not<T: Storage>(x: T, bits: usize) -> T
     requires width { 1 ≤ bits }
     requires storage { bits ≤ T.WIDTH }
-    ensures value { T.number result ≡ val T.SIGNED (bits_not (bit_list bits (T.number x))) }
+    ensures value { T.number result ≡ val T.SIGNED (map not (bit_list bits (T.number x))) }
     ensures range { InRange T.SIGNED bits (T.number result) }
 {
     from_low_bits(patterns::not(low_bits(x, bits), bits), bits)

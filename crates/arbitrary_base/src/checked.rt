@@ -1,8 +1,7 @@
 //! Arithmetic at `bits` bits that refuses: the exact result where the type has it, else `None`.
 
-ghost use Rattle.std.specs.Prelude.{◌≢◌, ◌≡◌, ◌≤◌, ◌+ℤ◌, ◌-ℤ◌, ◌*ℤ◌, neg_ℤ, pos, int_div};
+ghost use Rattle.std.specs.Prelude.{◌≢◌, ◌≡◌, ◌&&◌, ◌≤◌, ◌+ℤ◌, ◌-ℤ◌, ◌*ℤ◌, neg_ℤ, pos, int_div, int_lt, SomeIff, option_map};
 ghost use Rattle.arbitrary_base.specs.Range.{InRange};
-ghost use Rattle.arbitrary_base.specs.Exact.{ExactOrNone, QuotientOrNone, turned};
 
 use crate::ends::{is_below, is_below_zero, is_within, is_zero, zero};
 use crate::storage::Storage;
@@ -18,7 +17,8 @@ pub fn add<T: Storage>(x: T, y: T, bits: usize) -> Option<T>
     requires storage { bits ≤ T.WIDTH }
     requires x_in { InRange T.SIGNED bits (T.number x) }
     requires y_in { InRange T.SIGNED bits (T.number y) }
-    ensures { ExactOrNone T.number T.SIGNED bits (T.number x +ℤ T.number y) result }
+    ensures { SomeIff (option_map T.number result)
+        (InRange T.SIGNED bits (T.number x +ℤ T.number y)) (T.number x +ℤ T.number y) }
 {
     if T::SIGNED && T::WIDTH <= 16 {
         let (sum, overflow) = raised::add(x, y, bits);
@@ -43,7 +43,8 @@ pub(crate) fn add_by_order<T: Storage>(x: T, y: T, bits: usize) -> Option<T>
     requires storage { bits ≤ T.WIDTH }
     requires x_in { InRange T.SIGNED bits (T.number x) }
     requires y_in { InRange T.SIGNED bits (T.number y) }
-    ensures { ExactOrNone T.number T.SIGNED bits (T.number x +ℤ T.number y) result }
+    ensures { SomeIff (option_map T.number result)
+        (InRange T.SIGNED bits (T.number x +ℤ T.number y)) (T.number x +ℤ T.number y) }
 {
     let sum = wrapping::add(x, y, bits);
     if is_below(&sum, &x) == is_below_zero(&y) {
@@ -61,7 +62,8 @@ pub fn sub<T: Storage>(x: T, y: T, bits: usize) -> Option<T>
     requires storage { bits ≤ T.WIDTH }
     requires x_in { InRange T.SIGNED bits (T.number x) }
     requires y_in { InRange T.SIGNED bits (T.number y) }
-    ensures { ExactOrNone T.number T.SIGNED bits (T.number x -ℤ T.number y) result }
+    ensures { SomeIff (option_map T.number result)
+        (InRange T.SIGNED bits (T.number x -ℤ T.number y)) (T.number x -ℤ T.number y) }
 {
     if bits < T::WIDTH {
         let difference = x.wrapping_sub(y);
@@ -82,7 +84,8 @@ pub(crate) fn sub_by_order<T: Storage>(x: T, y: T, bits: usize) -> Option<T>
     requires storage { bits ≤ T.WIDTH }
     requires x_in { InRange T.SIGNED bits (T.number x) }
     requires y_in { InRange T.SIGNED bits (T.number y) }
-    ensures { ExactOrNone T.number T.SIGNED bits (T.number x -ℤ T.number y) result }
+    ensures { SomeIff (option_map T.number result)
+        (InRange T.SIGNED bits (T.number x -ℤ T.number y)) (T.number x -ℤ T.number y) }
 {
     let difference = wrapping::sub(x, y, bits);
     if is_below(&x, &difference) == is_below_zero(&y) {
@@ -99,7 +102,8 @@ pub(crate) fn sub_by_order<T: Storage>(x: T, y: T, bits: usize) -> Option<T>
 pub fn mul<T: Storage>(x: T, y: T, bits: usize) -> Option<T>
     requires width { 1 ≤ bits }
     requires storage { bits ≤ T.WIDTH }
-    ensures { ExactOrNone T.number T.SIGNED bits (T.number x *ℤ T.number y) result }
+    ensures { SomeIff (option_map T.number result)
+        (InRange T.SIGNED bits (T.number x *ℤ T.number y)) (T.number x *ℤ T.number y) }
 {
     if T::SIGNED && (bits < T::WIDTH && is_in_range(x, bits)) {
         let (product, overflow) = raised::mul(x, y, bits);
@@ -125,7 +129,7 @@ pub fn mul<T: Storage>(x: T, y: T, bits: usize) -> Option<T>
 
 /// Whether a quotient of two numbers below 0 came out below 0.
 fn is_turned<T: Storage>(x: &T, y: &T, quotient: &T) -> bool
-    ensures { result ≡ turned (T.number x.now) (T.number y.now) (T.number quotient.now) }
+    ensures { result ≡ (int_lt (T.number x.now) (pos 0) && (int_lt (T.number y.now) (pos 0) && int_lt (T.number quotient.now) (pos 0))) }
 {
     is_below_zero(x) && (is_below_zero(y) && is_below_zero(quotient))
 }
@@ -139,7 +143,9 @@ pub(crate) fn div_by_nonzero<T: Storage>(x: T, y: T, bits: usize) -> Option<T>
     requires x_in { InRange T.SIGNED bits (T.number x) }
     requires y_in { InRange T.SIGNED bits (T.number y) }
     requires divisor { T.number y ≢ pos 0 }
-    ensures { ExactOrNone T.number T.SIGNED bits (int_div (T.number x) (T.number y)) result }
+    ensures { SomeIff (option_map T.number result)
+        (InRange T.SIGNED bits (int_div (T.number x) (T.number y)))
+        (int_div (T.number x) (T.number y)) }
 {
     let quotient = wrapping::div(x, y, bits);
     if is_turned(&x, &y, &quotient) {
@@ -155,7 +161,9 @@ pub fn div<T: Storage>(x: T, y: T, bits: usize) -> Option<T>
     requires storage { bits ≤ T.WIDTH }
     requires x_in { InRange T.SIGNED bits (T.number x) }
     requires y_in { InRange T.SIGNED bits (T.number y) }
-    ensures { QuotientOrNone T.number T.SIGNED bits (T.number x) (T.number y) result }
+    ensures { SomeIff (option_map T.number result)
+        ((T.number y ≢ pos 0) × InRange T.SIGNED bits (int_div (T.number x) (T.number y)))
+        (int_div (T.number x) (T.number y)) }
 {
     if is_zero(&y) {
         None
@@ -169,7 +177,8 @@ pub fn neg<T: Storage>(x: T, bits: usize) -> Option<T>
     requires width { 1 ≤ bits }
     requires storage { bits ≤ T.WIDTH }
     requires x_in { InRange T.SIGNED bits (T.number x) }
-    ensures { ExactOrNone T.number T.SIGNED bits (neg_ℤ (T.number x)) result }
+    ensures { SomeIff (option_map T.number result)
+        (InRange T.SIGNED bits (neg_ℤ (T.number x))) (neg_ℤ (T.number x)) }
 {
     sub(zero(), x, bits)
 }

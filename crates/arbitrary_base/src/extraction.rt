@@ -1,8 +1,8 @@
 //! A number out of the middle of another's bits.
 
-ghost use Rattle.std.specs.Prelude.{◌≡◌, ◌≤◌, ◌+◌};
+ghost use Rattle.std.specs.Prelude.{◌≡◌, ◌≤◌, ◌+◌, take, drop};
 ghost use Rattle.arbitrary_base.specs.Range.{InRange};
-ghost use Rattle.arbitrary_base.specs.BitList.{bits as bit_list, val, items};
+ghost use Rattle.arbitrary_base.specs.BitList.{bits as bit_list, val};
 
 use crate::storage::Storage;
 use crate::truncation::from_low_bits;
@@ -13,7 +13,7 @@ pub fn extract<S: Storage, T: Storage>(source: S, start_bit: usize, bits: usize)
     requires width { 1 ≤ bits }
     requires storage { bits ≤ T.WIDTH }
     requires within { start_bit + bits ≤ S.WIDTH }
-    ensures value { T.number result ≡ val T.SIGNED (items start_bit bits (bit_list S.WIDTH (S.number source))) }
+    ensures value { T.number result ≡ val T.SIGNED (take bits (drop start_bit (bit_list S.WIDTH (S.number source)))) }
     ensures range { InRange T.SIGNED bits (T.number result) }
 {
     // Shifted in the source, not at 128 bits: only the bits above the wanted ones may differ, and they are masked.

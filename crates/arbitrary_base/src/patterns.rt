@@ -1,9 +1,11 @@
 //! The operations of bit lists on patterns. The pattern of a list of `width` bits is the number that it
 //! spells, the lowest bit first: a number below `2 ^ width`.
 
-ghost use Rattle.std.specs.Prelude.{◌≡◌, ◌≤◌, ◌<◌, ◌%◌, ◌^◌, pos, false, true, reverse};
+ghost use Rattle.std.specs.Prelude.{◌≡◌, ◌≤◌, ◌<◌, ◌%◌, ◌^◌, pos, false, true, reverse, map, not};
+ghost use Rattle.std.specs.Bool.{beq};
+ghost use Rattle.std.specs.List.{slice_rotate_right, count_by, prefix_len, suffix_len};
 ghost use Rattle.std.specs.Int.{w64, w128, reverse_bits as reversed};
-ghost use Rattle.arbitrary_base.specs.BitList.{bits, num, bits_and, bits_or, bits_xor, bits_not, rotl, rotr, popcount, front, tail};
+ghost use Rattle.arbitrary_base.specs.BitList.{bits, num, bits_and, bits_or, bits_xor, rotr};
 
 use crate::shifts;
 use crate::truncation::low_mask;
@@ -39,7 +41,7 @@ pub fn xor(left: u128, right: u128, width: usize) -> u128
 pub fn not(pattern: u128, width: usize) -> u128
     requires high { width ≤ 128 }
     requires fits { pattern < 2 ^ width }
-    ensures { result ≡ num (bits_not (bits width (pos pattern))) }
+    ensures { result ≡ num (map not (bits width (pos pattern))) }
 {
     pattern ^ low_mask(width)
 }
@@ -50,7 +52,7 @@ pub fn rotate_left(pattern: u128, width: usize, amount: u32) -> u128
     requires low { 1 ≤ width }
     requires high { width ≤ 128 }
     requires fits { pattern < 2 ^ width }
-    ensures { result ≡ num (rotl (bits width (pos pattern)) (amount % width)) }
+    ensures { result ≡ num (slice_rotate_right (bits width (pos pattern)) (amount % width)) }
 {
     let places = shifts::places(amount, width);
     if width == 128 && places == 0 {
@@ -119,7 +121,7 @@ pub fn reverse_bits(pattern: u128, width: usize) -> u128
 /// How many bits are one.
 pub fn count_ones(pattern: u128, width: usize) -> u32
     requires fits { pattern < 2 ^ width }
-    ensures { result ≡ popcount (bits width (pos pattern)) }
+    ensures { result ≡ count_by (λ b. b) (bits width (pos pattern)) }
 {
     pattern.count_ones()
 }
@@ -128,7 +130,7 @@ pub fn count_ones(pattern: u128, width: usize) -> u32
 pub fn trailing_zeros(pattern: u128, width: usize) -> u32
     requires high { width ≤ 128 }
     requires fits { pattern < 2 ^ width }
-    ensures { result ≡ front false (bits width (pos pattern)) }
+    ensures { result ≡ prefix_len (beq false) (bits width (pos pattern)) }
 {
     pattern.trailing_zeros().min(width as u32)
 }
@@ -137,7 +139,7 @@ pub fn trailing_zeros(pattern: u128, width: usize) -> u32
 pub fn trailing_ones(pattern: u128, width: usize) -> u32
     requires high { width ≤ 128 }
     requires fits { pattern < 2 ^ width }
-    ensures { result ≡ front true (bits width (pos pattern)) }
+    ensures { result ≡ prefix_len (beq true) (bits width (pos pattern)) }
 {
     trailing_zeros(not(pattern, width), width)
 }
@@ -146,7 +148,7 @@ pub fn trailing_ones(pattern: u128, width: usize) -> u32
 pub fn leading_zeros(pattern: u128, width: usize) -> u32
     requires high { width ≤ 128 }
     requires fits { pattern < 2 ^ width }
-    ensures { result ≡ tail false (bits width (pos pattern)) }
+    ensures { result ≡ suffix_len (beq false) (bits width (pos pattern)) }
 {
     pattern.leading_zeros() - (128 - width as u32)
 }
@@ -155,7 +157,7 @@ pub fn leading_zeros(pattern: u128, width: usize) -> u32
 pub fn leading_ones(pattern: u128, width: usize) -> u32
     requires high { width ≤ 128 }
     requires fits { pattern < 2 ^ width }
-    ensures { result ≡ tail true (bits width (pos pattern)) }
+    ensures { result ≡ suffix_len (beq true) (bits width (pos pattern)) }
 {
     leading_zeros(not(pattern, width), width)
 }

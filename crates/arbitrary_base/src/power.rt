@@ -1,10 +1,11 @@
 //! Powers that stop at the ends of a range.
 
-ghost use Rattle.std.specs.Prelude.{◌≡◌, ◌≤◌, ◌<◌, ◌+◌, ◌*◌, ◌*ℤ◌, ◌<ℤ◌, pos, unsigned_abs, int_lt, MatchOption};
+ghost use Rattle.std.specs.Prelude.{◌≡◌, ◌≤◌, ◌<◌, ◌+◌, ◌*◌, ◌*ℤ◌, ◌<ℤ◌, length, pos, unsigned_abs, int_lt, MatchOption, SomeIff, option_map};
+ghost use Rattle.std.specs.Int.{int_pow};
+ghost use Rattle.std.specs.Int.Digits.{digits_of};
 ghost use Rattle.arbitrary_base.specs.Range.{InRange, hi};
 ghost use Rattle.arbitrary_base.specs.Saturation.{clamp};
-ghost use Rattle.arbitrary_base.specs.Exact.{ExactOrNone};
-ghost use Rattle.arbitrary_base.specs.Power.{power, binary_digits, PowersOfSums, PowersOfProducts};
+ghost use Rattle.arbitrary_base.specs.Power.{PowersOfSums, PowersOfProducts};
 
 use crate::ends::{end, is_below_zero};
 use crate::raised;
@@ -48,7 +49,8 @@ fn multiply<T: Storage>(x: T, y: T, bits: usize, count: &mut u32) -> Option<T>
     requires x_in { InRange T.SIGNED bits (T.number x) }
     requires room { count.old < 64 }
     ensures counted { count.new ≡ count.old + 1 }
-    ensures product { ExactOrNone T.number T.SIGNED bits (T.number x *ℤ T.number y) result }
+    ensures product { SomeIff (option_map T.number result)
+        (InRange T.SIGNED bits (T.number x *ℤ T.number y)) (T.number x *ℤ T.number y) }
 {
     *count += 1;
     if bits < T::WIDTH {
@@ -68,8 +70,8 @@ fn exact_power<T: Storage>(x: T, exp: u32, bits: usize, count: &mut u32) -> Opti
     requires some { 2 ≤ bits }
     requires storage { bits ≤ T.WIDTH }
     requires range { InRange T.SIGNED bits (T.number x) }
-    ensures value { MatchOption result (hi T.SIGNED bits <ℤ pos (unsigned_abs (power (T.number x) exp))) (λ y. T.number y ≡ power (T.number x) exp) }
-    ensures counted { count.new ≤ 2 * binary_digits exp }
+    ensures value { MatchOption result (hi T.SIGNED bits <ℤ pos (unsigned_abs (int_pow (T.number x) exp))) (λ y. T.number y ≡ int_pow (T.number x) exp) }
+    ensures counted { count.new ≤ 2 * length (digits_of 2 exp) }
 {
     let mut product = one::<T>();
     if exp == 0 {
@@ -95,7 +97,7 @@ fn exact_power<T: Storage>(x: T, exp: u32, bits: usize, count: &mut u32) -> Opti
 /// Whether the power is below zero: an odd one has the base's sign.
 #[tactic(auto, using(crate::proofs::integers::Powers::signs))]
 fn is_power_below_zero<T: Storage>(x: &T, exp: u32) -> bool
-    ensures { result ≡ int_lt (power (T.number x.now) exp) (pos 0) }
+    ensures { result ≡ int_lt (int_pow (T.number x.now) exp) (pos 0) }
 {
     exp % 2 == 1 && is_below_zero(x)
 }
@@ -123,9 +125,9 @@ pub fn saturating_pow_counted<T: Storage>(x: T, exp: u32, bits: usize) -> (T, u3
     requires width { 1 ≤ bits }
     requires storage { bits ≤ T.WIDTH }
     requires x_in { InRange T.SIGNED bits (T.number x) }
-    ensures value { T.number result.0 ≡ clamp T.SIGNED bits (power (T.number x) exp) }
+    ensures value { T.number result.0 ≡ clamp T.SIGNED bits (int_pow (T.number x) exp) }
     ensures range { InRange T.SIGNED bits (T.number result.0) }
-    ensures count { result.1 ≤ 2 * binary_digits exp }
+    ensures count { result.1 ≤ 2 * length (digits_of 2 exp) }
     ensures bound { result.1 ≤ 64 }
 {
     let mut count = 0;
@@ -144,7 +146,7 @@ pub fn saturating_pow<T: Storage>(x: T, exp: u32, bits: usize) -> T
     requires width { 1 ≤ bits }
     requires storage { bits ≤ T.WIDTH }
     requires x_in { InRange T.SIGNED bits (T.number x) }
-    ensures value { T.number result ≡ clamp T.SIGNED bits (power (T.number x) exp) }
+    ensures value { T.number result ≡ clamp T.SIGNED bits (int_pow (T.number x) exp) }
     ensures range { InRange T.SIGNED bits (T.number result) }
 {
     saturating_pow_counted(x, exp, bits).0

@@ -1,11 +1,10 @@
 //! The primitive integers, as storages of narrower numbers.
 
-ghost use Rattle.std.specs.Prelude.{◌≡◌, ◌≢◌, ◌↔◌, ◌≤◌, ◌<◌, ◌+ℤ◌, ◌-ℤ◌, ◌*ℤ◌, ℕ, ℤ, Bool, true, false, pos, Some, int_div, IsTrue};
+ghost use Rattle.std.specs.Prelude.{◌≡◌, ◌≢◌, ◌↔◌, ◌≤◌, ◌<◌, ◌+ℤ◌, ◌-ℤ◌, ◌*ℤ◌, ℕ, ℤ, Bool, true, false, pos, Some, int_div, IsTrue, SomeIff, option_map};
 ghost use Rattle.std.specs.Ordering.{int_cmp};
 ghost use Rattle.std.specs.Fmt.{signed_decimal};
 ghost use Rattle.arbitrary_base.specs.Range.{InRange};
 ghost use Rattle.arbitrary_base.specs.Residue.{residue, wrap};
-ghost use Rattle.arbitrary_base.specs.Exact.{ExactOrNone};
 ghost use Rattle.arbitrary_base.specs.BitList.{bits, val, shl, shr, fill};
 
 use std::fmt::{Debug, Display};
@@ -72,7 +71,8 @@ pub trait Storage: Sealed + Copy + Ord + Hash + Display + Debug + Drop {
 
     /// The product where the type has it, and `None` where it does not.
     fn checked_mul(self, other: Self) -> Option<Self>
-        ensures { ExactOrNone number SIGNED WIDTH (number self *ℤ number other) result };
+        ensures { SomeIff (option_map number result)
+            (InRange SIGNED WIDTH (number self *ℤ number other)) (number self *ℤ number other) };
 
     /// The product, wrapped, and whether the exact one is out of range.
     fn overflowing_mul(self, other: Self) -> (Self, bool)

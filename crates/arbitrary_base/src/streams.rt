@@ -1,9 +1,9 @@
 //! A known number of bytes in, and all of some bytes out. After a fault no call is made again.
 
-ghost use Rattle.std.specs.Prelude.{length, OnOk, OnErr};
+ghost use Rattle.std.specs.Prelude.{◌<◌, ◌⊎◌, length, IfSome, OnOk, OnErr};
 ghost use Rattle.std.specs.Io.KnownBytes.{Appends, Consumes};
 ghost use Rattle.arbitrary_base.specs.Watching.{inner_of, NoFailure, Failure};
-ghost use Rattle.arbitrary_base.specs.Stream.{AppendsBeginning, FailedOrShort};
+ghost use Rattle.arbitrary_base.specs.Stream.{AppendsBeginning};
 
 use crate::watched::Watched;
 use std::io;
@@ -13,7 +13,7 @@ use std::io::{ErrorKind, Read, Write};
 pub fn read_full<R: Read>(reader: &mut Watched<R>, buf: &mut [u8]) -> io::Result<()>
     ensures all { OnOk result (Consumes (R.remaining (inner_of reader.old)) (R.remaining (inner_of reader.new)) buf.new) }
     ensures no_failure { OnOk result (NoFailure reader.old reader.new) }
-    ensures why { OnErr result (FailedOrShort (R.remaining (inner_of reader.old)) (Failure reader.old reader.new) (length buf.old)) }
+    ensures why { OnErr result (IfSome (R.remaining (inner_of reader.old)) (λ held. Failure reader.old reader.new ⊎ (length held < length buf.old))) }
 {
     let mut at = 0;
     while at < buf.len() {

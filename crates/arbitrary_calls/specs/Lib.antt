@@ -2,6 +2,4 @@
 pub use Rattle.arbitrary_base.specs.Range
 pub use Rattle.arbitrary_base.specs.Residue
 pub use Rattle.arbitrary_base.specs.Saturation
-pub use Rattle.arbitrary_base.specs.Exact
 pub use Rattle.arbitrary_base.specs.BitList
-pub use Rattle.arbitrary_base.specs.Power

@@ -1,9 +1,9 @@
 //! The value of some bits of a wider word.
 
-ghost use Rattle.std.specs.Prelude.{◌≡◌, ◌≤◌, ◌+◌, ◌/◌, ◌%◌, ◌^◌, pos, false};
+ghost use Rattle.std.specs.Prelude.{◌≡◌, ◌≤◌, ◌+◌, ◌/◌, ◌%◌, ◌^◌, pos, false, take, drop};
 ghost use Rattle.arbitrary_base.specs.Residue.{Congruent, wrap};
 ghost use Rattle.arbitrary_base.specs.Field.{field, IsField};
-ghost use Rattle.arbitrary_base.specs.BitList.{bits, val, items};
+ghost use Rattle.arbitrary_base.specs.BitList.{bits, val};
 
 use crate::fixed_width::FixedWidth;
 use arbitrary_base::extraction;
@@ -15,7 +15,8 @@ pub trait Extraction: FixedWidth {
     final fn extract_u8(value: u8, start_bit: usize) -> Self
         requires width { Self.valid }
         requires within { start_bit + Self.BITS ≤ 8 }
-        ensures value { Self.number result ≡ val Self.IS_SIGNED (items start_bit Self.BITS (bits 8 (pos value))) }
+        ensures value { Self.number result
+            ≡ val Self.IS_SIGNED (take Self.BITS (drop start_bit (bits 8 (pos value)))) }
         ensures plain { Self.IS_SIGNED ≡ false → Self.number result ≡ pos (value / 2 ^ start_bit % 2 ^ Self.BITS) }
         ensures congruent { Congruent Self.BITS (Self.number result) (pos (value / 2 ^ start_bit)) }
         ensures wrapped { Self.number result ≡ wrap Self.IS_SIGNED Self.BITS (field value start_bit Self.BITS) }
@@ -28,7 +29,8 @@ pub trait Extraction: FixedWidth {
     final fn extract_u16(value: u16, start_bit: usize) -> Self
         requires width { Self.valid }
         requires within { start_bit + Self.BITS ≤ 16 }
-        ensures value { Self.number result ≡ val Self.IS_SIGNED (items start_bit Self.BITS (bits 16 (pos value))) }
+        ensures value { Self.number result
+            ≡ val Self.IS_SIGNED (take Self.BITS (drop start_bit (bits 16 (pos value)))) }
         ensures plain { Self.IS_SIGNED ≡ false → Self.number result ≡ pos (value / 2 ^ start_bit % 2 ^ Self.BITS) }
         ensures congruent { Congruent Self.BITS (Self.number result) (pos (value / 2 ^ start_bit)) }
         ensures wrapped { Self.number result ≡ wrap Self.IS_SIGNED Self.BITS (field value start_bit Self.BITS) }
@@ -41,7 +43,8 @@ pub trait Extraction: FixedWidth {
     final fn extract_u32(value: u32, start_bit: usize) -> Self
         requires width { Self.valid }
         requires within { start_bit + Self.BITS ≤ 32 }
-        ensures value { Self.number result ≡ val Self.IS_SIGNED (items start_bit Self.BITS (bits 32 (pos value))) }
+        ensures value { Self.number result
+            ≡ val Self.IS_SIGNED (take Self.BITS (drop start_bit (bits 32 (pos value)))) }
         ensures plain { Self.IS_SIGNED ≡ false → Self.number result ≡ pos (value / 2 ^ start_bit % 2 ^ Self.BITS) }
         ensures congruent { Congruent Self.BITS (Self.number result) (pos (value / 2 ^ start_bit)) }
         ensures wrapped { Self.number result ≡ wrap Self.IS_SIGNED Self.BITS (field value start_bit Self.BITS) }
@@ -54,7 +57,8 @@ pub trait Extraction: FixedWidth {
     final fn extract_u64(value: u64, start_bit: usize) -> Self
         requires width { Self.valid }
         requires within { start_bit + Self.BITS ≤ 64 }
-        ensures value { Self.number result ≡ val Self.IS_SIGNED (items start_bit Self.BITS (bits 64 (pos value))) }
+        ensures value { Self.number result
+            ≡ val Self.IS_SIGNED (take Self.BITS (drop start_bit (bits 64 (pos value)))) }
         ensures plain { Self.IS_SIGNED ≡ false → Self.number result ≡ pos (value / 2 ^ start_bit % 2 ^ Self.BITS) }
         ensures congruent { Congruent Self.BITS (Self.number result) (pos (value / 2 ^ start_bit)) }
         ensures wrapped { Self.number result ≡ wrap Self.IS_SIGNED Self.BITS (field value start_bit Self.BITS) }
@@ -67,7 +71,8 @@ pub trait Extraction: FixedWidth {
     final fn extract_u128(value: u128, start_bit: usize) -> Self
         requires width { Self.valid }
         requires within { start_bit + Self.BITS ≤ 128 }
-        ensures value { Self.number result ≡ val Self.IS_SIGNED (items start_bit Self.BITS (bits 128 (pos value))) }
+        ensures value { Self.number result
+            ≡ val Self.IS_SIGNED (take Self.BITS (drop start_bit (bits 128 (pos value)))) }
         ensures plain { Self.IS_SIGNED ≡ false → Self.number result ≡ pos (value / 2 ^ start_bit % 2 ^ Self.BITS) }
         ensures congruent { Congruent Self.BITS (Self.number result) (pos (value / 2 ^ start_bit)) }
         ensures wrapped { Self.number result ≡ wrap Self.IS_SIGNED Self.BITS (field value start_bit Self.BITS) }
@@ -80,7 +85,8 @@ pub trait Extraction: FixedWidth {
     final fn extract_i8(value: i8, start_bit: usize) -> Self
         requires width { Self.valid }
         requires within { start_bit + Self.BITS ≤ 8 }
-        ensures value { Self.number result ≡ val Self.IS_SIGNED (items start_bit Self.BITS (bits 8 value)) }
+        ensures value { Self.number result
+            ≡ val Self.IS_SIGNED (take Self.BITS (drop start_bit (bits 8 value))) }
         ensures field { IsField start_bit Self.BITS value (Self.number result) }
     {
         Self::from_storage(extraction::extract(value, start_bit, Self::BITS))
@@ -91,7 +97,8 @@ pub trait Extraction: FixedWidth {
     final fn extract_i16(value: i16, start_bit: usize) -> Self
         requires width { Self.valid }
         requires within { start_bit + Self.BITS ≤ 16 }
-        ensures value { Self.number result ≡ val Self.IS_SIGNED (items start_bit Self.BITS (bits 16 value)) }
+        ensures value { Self.number result
+            ≡ val Self.IS_SIGNED (take Self.BITS (drop start_bit (bits 16 value))) }
         ensures field { IsField start_bit Self.BITS value (Self.number result) }
     {
         Self::from_storage(extraction::extract(value, start_bit, Self::BITS))
@@ -102,7 +109,8 @@ pub trait Extraction: FixedWidth {
     final fn extract_i32(value: i32, start_bit: usize) -> Self
         requires width { Self.valid }
         requires within { start_bit + Self.BITS ≤ 32 }
-        ensures value { Self.number result ≡ val Self.IS_SIGNED (items start_bit Self.BITS (bits 32 value)) }
+        ensures value { Self.number result
+            ≡ val Self.IS_SIGNED (take Self.BITS (drop start_bit (bits 32 value))) }
         ensures field { IsField start_bit Self.BITS value (Self.number result) }
     {
         Self::from_storage(extraction::extract(value, start_bit, Self::BITS))
@@ -113,7 +121,8 @@ pub trait Extraction: FixedWidth {
     final fn extract_i64(value: i64, start_bit: usize) -> Self
         requires width { Self.valid }
         requires within { start_bit + Self.BITS ≤ 64 }
-        ensures value { Self.number result ≡ val Self.IS_SIGNED (items start_bit Self.BITS (bits 64 value)) }
+        ensures value { Self.number result
+            ≡ val Self.IS_SIGNED (take Self.BITS (drop start_bit (bits 64 value))) }
         ensures field { IsField start_bit Self.BITS value (Self.number result) }
     {
         Self::from_storage(extraction::extract(value, start_bit, Self::BITS))
@@ -124,7 +133,8 @@ pub trait Extraction: FixedWidth {
     final fn extract_i128(value: i128, start_bit: usize) -> Self
         requires width { Self.valid }
         requires within { start_bit + Self.BITS ≤ 128 }
-        ensures value { Self.number result ≡ val Self.IS_SIGNED (items start_bit Self.BITS (bits 128 value)) }
+        ensures value { Self.number result
+            ≡ val Self.IS_SIGNED (take Self.BITS (drop start_bit (bits 128 value))) }
         ensures field { IsField start_bit Self.BITS value (Self.number result) }
     {
         Self::from_storage(extraction::extract(value, start_bit, Self::BITS))

@@ -1,13 +1,15 @@
 //! What every integer of fixed width can do, each call written once for both types.
 
-ghost use Rattle.std.specs.Prelude.{◌≡◌, ◌≢◌, ◌↔◌, ◌≤◌, ◌<◌, ◌+◌, ◌-◌, ◌*◌, ◌%◌, ◌^◌, ◌≤ℤ◌, ◌<ℤ◌, ◌+ℤ◌, ◌-ℤ◌, ◌*ℤ◌, ℤ, pos, neg_ℤ, unsigned_abs, IsTrue, IsNone, IfSome, false, true, int_div, reverse};
+ghost use Rattle.std.specs.Prelude.{length, ◌≡◌, ◌≢◌, ◌↔◌, ◌≤◌, ◌<◌, ◌+◌, ◌-◌, ◌*◌, ◌%◌, ◌^◌, ◌≤ℤ◌, ◌<ℤ◌, ◌+ℤ◌, ◌-ℤ◌, ◌*ℤ◌, ℤ, pos, neg_ℤ, unsigned_abs, IsTrue, IsNone, IfSome, false, true, int_div, reverse, SomeIff, option_map};
+ghost use Rattle.std.specs.Bool.{beq};
+ghost use Rattle.std.specs.Int.{int_pow};
+ghost use Rattle.std.specs.Int.Digits.{digits_of};
+ghost use Rattle.std.specs.List.{slice_rotate_right, count_by, suffix_len, prefix_len};
 ghost use Rattle.arbitrary_base.specs.Range.{InRange, lo, hi};
 ghost use Rattle.arbitrary_base.specs.Residue.{Congruent, wrap};
 ghost use Rattle.arbitrary_base.specs.Saturation.{clamp};
-ghost use Rattle.arbitrary_base.specs.Exact.{ExactOrNone, QuotientOrNone};
-ghost use Rattle.arbitrary_base.specs.Power.{power, binary_digits};
-ghost use Rattle.arbitrary_base.specs.Operation.{Associates, Commutes, DistributesOver, Dualizes, bitwise_and, bitwise_not, bitwise_or, bitwise_xor, reversed, rotated_left, rotated_right, shifted_left, shifted_right, wrapped_difference, wrapped_product, wrapped_sum};
-ghost use Rattle.arbitrary_base.specs.BitList.{bits, val, fill, front, popcount, rotl, rotr, shl, shr, tail};
+ghost use Rattle.arbitrary_base.specs.Operation.{bitwise_and, bitwise_not, bitwise_or, bitwise_xor, reversed, rotated_left, rotated_right, shifted_left, shifted_right, wrapped_difference, wrapped_product, wrapped_sum};
+ghost use Rattle.arbitrary_base.specs.BitList.{bits, val, fill, rotr, shl, shr};
 ghost use Rattle.arbitrary_base.proofs.operations.Bitwise.{and-distributes_or, bitwise_and-associates, bitwise_and-commutes, bitwise_or-associates, bitwise_or-commutes, bitwise_xor-associates, bitwise_xor-commutes, not-and_parts, not-or_parts, or-distributes_and};
 
 use crate::low_bits::LowBits;
@@ -60,29 +62,39 @@ pub trait FixedWidth: Integer + LowBits {
 
     // For proofs in generic code: there the check takes the laws of the bound, or the set that a file names, never both. With a law that
     // names a variable twice, or with two dozen, its search ends before a proof.
-    ghost and_commutes: { Commutes (bitwise_and Self.IS_SIGNED Self.BITS) } = { bitwise_and-commutes _ _ };
+    ghost and_commutes: { (x y : ℤ) → bitwise_and Self.IS_SIGNED Self.BITS x y
+        ≡ bitwise_and Self.IS_SIGNED Self.BITS y x } = { bitwise_and-commutes _ _ };
 
-    ghost or_commutes: { Commutes (bitwise_or Self.IS_SIGNED Self.BITS) } = { bitwise_or-commutes _ _ };
+    ghost or_commutes: { (x y : ℤ) → bitwise_or Self.IS_SIGNED Self.BITS x y
+        ≡ bitwise_or Self.IS_SIGNED Self.BITS y x } = { bitwise_or-commutes _ _ };
 
-    ghost xor_commutes: { Commutes (bitwise_xor Self.IS_SIGNED Self.BITS) } = { bitwise_xor-commutes _ _ };
+    ghost xor_commutes: { (x y : ℤ) → bitwise_xor Self.IS_SIGNED Self.BITS x y
+        ≡ bitwise_xor Self.IS_SIGNED Self.BITS y x } = { bitwise_xor-commutes _ _ };
 
-    ghost and_associates: { Associates (bitwise_and Self.IS_SIGNED Self.BITS) } = { bitwise_and-associates _ _ };
+    ghost and_associates: { (x y z : ℤ) → bitwise_and Self.IS_SIGNED Self.BITS (bitwise_and Self.IS_SIGNED Self.BITS x y) z
+        ≡ bitwise_and Self.IS_SIGNED Self.BITS x (bitwise_and Self.IS_SIGNED Self.BITS y z) } = { bitwise_and-associates _ _ };
 
-    ghost or_associates: { Associates (bitwise_or Self.IS_SIGNED Self.BITS) } = { bitwise_or-associates _ _ };
+    ghost or_associates: { (x y z : ℤ) → bitwise_or Self.IS_SIGNED Self.BITS (bitwise_or Self.IS_SIGNED Self.BITS x y) z
+        ≡ bitwise_or Self.IS_SIGNED Self.BITS x (bitwise_or Self.IS_SIGNED Self.BITS y z) } = { bitwise_or-associates _ _ };
 
-    ghost xor_associates: { Associates (bitwise_xor Self.IS_SIGNED Self.BITS) } = { bitwise_xor-associates _ _ };
+    ghost xor_associates: { (x y z : ℤ) → bitwise_xor Self.IS_SIGNED Self.BITS (bitwise_xor Self.IS_SIGNED Self.BITS x y) z
+        ≡ bitwise_xor Self.IS_SIGNED Self.BITS x (bitwise_xor Self.IS_SIGNED Self.BITS y z) } = { bitwise_xor-associates _ _ };
 
-    ghost and_distributes: { DistributesOver (bitwise_or Self.IS_SIGNED Self.BITS)
-        (bitwise_and Self.IS_SIGNED Self.BITS) } = { and-distributes_or _ _ };
+    ghost and_distributes: { (x y z : ℤ) → bitwise_and Self.IS_SIGNED Self.BITS x (bitwise_or Self.IS_SIGNED Self.BITS y z)
+        ≡ bitwise_or Self.IS_SIGNED Self.BITS (bitwise_and Self.IS_SIGNED Self.BITS x y)
+        (bitwise_and Self.IS_SIGNED Self.BITS x z) } = { and-distributes_or _ _ };
 
-    ghost or_distributes: { DistributesOver (bitwise_and Self.IS_SIGNED Self.BITS)
-        (bitwise_or Self.IS_SIGNED Self.BITS) } = { or-distributes_and _ _ };
+    ghost or_distributes: { (x y z : ℤ) → bitwise_or Self.IS_SIGNED Self.BITS x (bitwise_and Self.IS_SIGNED Self.BITS y z)
+        ≡ bitwise_and Self.IS_SIGNED Self.BITS (bitwise_or Self.IS_SIGNED Self.BITS x y)
+        (bitwise_or Self.IS_SIGNED Self.BITS x z) } = { or-distributes_and _ _ };
 
-    ghost not_of_and: { Dualizes (bitwise_not Self.IS_SIGNED Self.BITS) (bitwise_and Self.IS_SIGNED Self.BITS)
-        (bitwise_or Self.IS_SIGNED Self.BITS) } = { not-and_parts _ _ };
+    ghost not_of_and: { (x y : ℤ) → bitwise_not Self.IS_SIGNED Self.BITS (bitwise_and Self.IS_SIGNED Self.BITS x y)
+        ≡ bitwise_or Self.IS_SIGNED Self.BITS (bitwise_not Self.IS_SIGNED Self.BITS x)
+        (bitwise_not Self.IS_SIGNED Self.BITS y) } = { not-and_parts _ _ };
 
-    ghost not_of_or: { Dualizes (bitwise_not Self.IS_SIGNED Self.BITS) (bitwise_or Self.IS_SIGNED Self.BITS)
-        (bitwise_and Self.IS_SIGNED Self.BITS) } = { not-or_parts _ _ };
+    ghost not_of_or: { (x y : ℤ) → bitwise_not Self.IS_SIGNED Self.BITS (bitwise_or Self.IS_SIGNED Self.BITS x y)
+        ≡ bitwise_and Self.IS_SIGNED Self.BITS (bitwise_not Self.IS_SIGNED Self.BITS x)
+        (bitwise_not Self.IS_SIGNED Self.BITS y) } = { not-or_parts _ _ };
 
     /// The sum, wrapped.
     final fn wrapping_add(self, rhs: Self) -> Self
@@ -111,7 +123,9 @@ pub trait FixedWidth: Integer + LowBits {
 
     /// The sum, and `None` exactly where it is out of range.
     final fn checked_add(self, rhs: Self) -> Option<Self>
-        ensures { ExactOrNone Self.number Self.IS_SIGNED Self.BITS (Self.number self +ℤ Self.number rhs) result }
+        ensures { SomeIff (option_map Self.number result)
+            (InRange Self.IS_SIGNED Self.BITS (Self.number self +ℤ Self.number rhs))
+            (Self.number self +ℤ Self.number rhs) }
     {
         match checked::add(self.to_storage(), rhs.to_storage(), Self::BITS) {
             Some(sum) => Some(Self::from_storage(sum)),
@@ -158,7 +172,9 @@ pub trait FixedWidth: Integer + LowBits {
 
     /// The difference, and `None` exactly where it is out of range.
     final fn checked_sub(self, rhs: Self) -> Option<Self>
-        ensures { ExactOrNone Self.number Self.IS_SIGNED Self.BITS (Self.number self -ℤ Self.number rhs) result }
+        ensures { SomeIff (option_map Self.number result)
+            (InRange Self.IS_SIGNED Self.BITS (Self.number self -ℤ Self.number rhs))
+            (Self.number self -ℤ Self.number rhs) }
     {
         match checked::sub(self.to_storage(), rhs.to_storage(), Self::BITS) {
             Some(difference) => Some(Self::from_storage(difference)),
@@ -207,7 +223,9 @@ pub trait FixedWidth: Integer + LowBits {
 
     /// The product, and `None` exactly where it is out of range.
     final fn checked_mul(self, rhs: Self) -> Option<Self>
-        ensures { ExactOrNone Self.number Self.IS_SIGNED Self.BITS (Self.number self *ℤ Self.number rhs) result }
+        ensures { SomeIff (option_map Self.number result)
+            (InRange Self.IS_SIGNED Self.BITS (Self.number self *ℤ Self.number rhs))
+            (Self.number self *ℤ Self.number rhs) }
     {
         match checked::mul(self.to_storage(), rhs.to_storage(), Self::BITS) {
             Some(product) => Some(Self::from_storage(product)),
@@ -253,7 +271,9 @@ pub trait FixedWidth: Integer + LowBits {
 
     /// The quotient, and `None` exactly where the divisor is zero or the quotient is out of range.
     final fn checked_div(self, rhs: Self) -> Option<Self>
-        ensures { QuotientOrNone Self.number Self.IS_SIGNED Self.BITS (Self.number self) (Self.number rhs) result }
+        ensures { SomeIff (option_map Self.number result)
+            ((Self.number rhs ≢ pos 0) × InRange Self.IS_SIGNED Self.BITS (int_div (Self.number self) (Self.number rhs)))
+            (int_div (Self.number self) (Self.number rhs)) }
     {
         match checked::div(self.to_storage(), rhs.to_storage(), Self::BITS) {
             Some(quotient) => Some(Self::from_storage(quotient)),
@@ -280,10 +300,10 @@ pub trait FixedWidth: Integer + LowBits {
     /// `self` to the power `exp`, or the end of the range that is nearest to it. 0 to the power 0 is 1.
     #[tactic(auto, using(arbitrary_base::proofs::storages::Clamp::clamped))]
     final fn saturating_pow(self, exp: u32) -> Self
-        ensures value { Self.number result ≡ clamp Self.IS_SIGNED Self.BITS (power (Self.number self) exp) }
-        ensures exact { InRange Self.IS_SIGNED Self.BITS (power (Self.number self) exp) → Self.number result ≡ power (Self.number self) exp }
-        ensures above { hi Self.IS_SIGNED Self.BITS <ℤ (power (Self.number self) exp) → Self.number result ≡ hi Self.IS_SIGNED Self.BITS }
-        ensures below { (power (Self.number self) exp) <ℤ lo Self.IS_SIGNED Self.BITS → Self.number result ≡ lo Self.IS_SIGNED Self.BITS }
+        ensures value { Self.number result ≡ clamp Self.IS_SIGNED Self.BITS (int_pow (Self.number self) exp) }
+        ensures exact { InRange Self.IS_SIGNED Self.BITS (int_pow (Self.number self) exp) → Self.number result ≡ int_pow (Self.number self) exp }
+        ensures above { hi Self.IS_SIGNED Self.BITS <ℤ (int_pow (Self.number self) exp) → Self.number result ≡ hi Self.IS_SIGNED Self.BITS }
+        ensures below { (int_pow (Self.number self) exp) <ℤ lo Self.IS_SIGNED Self.BITS → Self.number result ≡ lo Self.IS_SIGNED Self.BITS }
         ensures range { InRange Self.IS_SIGNED Self.BITS (Self.number self) }
         ensures bounded { InRange Self.IS_SIGNED Self.BITS (Self.number result) }
     {
@@ -294,12 +314,12 @@ pub trait FixedWidth: Integer + LowBits {
     /// digit of `exp`, so at most 64.
     #[tactic(auto, using(arbitrary_base::proofs::storages::Clamp::clamped))]
     final fn saturating_pow_counted(self, exp: u32) -> (Self, u32)
-        ensures value { Self.number result.0 ≡ clamp Self.IS_SIGNED Self.BITS (power (Self.number self) exp) }
-        ensures count { result.1 ≤ 2 * binary_digits exp }
+        ensures value { Self.number result.0 ≡ clamp Self.IS_SIGNED Self.BITS (int_pow (Self.number self) exp) }
+        ensures count { result.1 ≤ 2 * length (digits_of 2 exp) }
         ensures bound { result.1 ≤ 64 }
-        ensures exact { InRange Self.IS_SIGNED Self.BITS (power (Self.number self) exp) → Self.number result.0 ≡ power (Self.number self) exp }
-        ensures above { hi Self.IS_SIGNED Self.BITS <ℤ (power (Self.number self) exp) → Self.number result.0 ≡ hi Self.IS_SIGNED Self.BITS }
-        ensures below { (power (Self.number self) exp) <ℤ lo Self.IS_SIGNED Self.BITS → Self.number result.0 ≡ lo Self.IS_SIGNED Self.BITS }
+        ensures exact { InRange Self.IS_SIGNED Self.BITS (int_pow (Self.number self) exp) → Self.number result.0 ≡ int_pow (Self.number self) exp }
+        ensures above { hi Self.IS_SIGNED Self.BITS <ℤ (int_pow (Self.number self) exp) → Self.number result.0 ≡ hi Self.IS_SIGNED Self.BITS }
+        ensures below { (int_pow (Self.number self) exp) <ℤ lo Self.IS_SIGNED Self.BITS → Self.number result.0 ≡ lo Self.IS_SIGNED Self.BITS }
         ensures range { InRange Self.IS_SIGNED Self.BITS (Self.number self) }
         ensures bounded { InRange Self.IS_SIGNED Self.BITS (Self.number result.0) }
     {
@@ -394,7 +414,7 @@ pub trait FixedWidth: Integer + LowBits {
     /// below.
     final fn rotate_left(self, amount: u32) -> Self
         ensures operation { Self.number result ≡ rotated_left Self.IS_SIGNED Self.BITS (Self.number self) (amount % Self.BITS) }
-        ensures value { Self.number result ≡ val Self.IS_SIGNED (rotl (bits Self.BITS (Self.number self)) (amount % Self.BITS)) }
+        ensures value { Self.number result ≡ val Self.IS_SIGNED (slice_rotate_right (bits Self.BITS (Self.number self)) (amount % Self.BITS)) }
         ensures undo { (y : ℤ) → InRange Self.IS_SIGNED Self.BITS y → Self.number self ≡ val Self.IS_SIGNED (rotr (bits Self.BITS y) (amount % Self.BITS)) → Self.number result ≡ y }
         ensures range { InRange Self.IS_SIGNED Self.BITS (Self.number self) }
     {
@@ -406,7 +426,7 @@ pub trait FixedWidth: Integer + LowBits {
     final fn rotate_right(self, amount: u32) -> Self
         ensures operation { Self.number result ≡ rotated_right Self.IS_SIGNED Self.BITS (Self.number self) (amount % Self.BITS) }
         ensures value { Self.number result ≡ val Self.IS_SIGNED (rotr (bits Self.BITS (Self.number self)) (amount % Self.BITS)) }
-        ensures undo { (y : ℤ) → InRange Self.IS_SIGNED Self.BITS y → Self.number self ≡ val Self.IS_SIGNED (rotl (bits Self.BITS y) (amount % Self.BITS)) → Self.number result ≡ y }
+        ensures undo { (y : ℤ) → InRange Self.IS_SIGNED Self.BITS y → Self.number self ≡ val Self.IS_SIGNED (slice_rotate_right (bits Self.BITS y) (amount % Self.BITS)) → Self.number result ≡ y }
         ensures range { InRange Self.IS_SIGNED Self.BITS (Self.number self) }
     {
         Self::from_u128_bits(patterns::rotate_right(self.low_bits(), Self::BITS, amount))
@@ -425,7 +445,7 @@ pub trait FixedWidth: Integer + LowBits {
     /// How many of the bits are one.
     #[tactic(auto, using(arbitrary_base::proofs::bit_lists::ResultOfPattern::count_laws, arbitrary_base::proofs::operations::ZeroRunBounds::ones_bounds, arbitrary_base::proofs::operations::OneRunBounds::ones_ends))]
     final fn count_ones(self) -> u32
-        ensures value { result ≡ popcount (bits Self.BITS (Self.number self)) }
+        ensures value { result ≡ count_by (λ b. b) (bits Self.BITS (Self.number self)) }
         ensures bound { result ≤ Self.BITS }
         ensures none { Self.number self ≡ pos 0 → result ≡ 0 }
         ensures some { Self.number self ≢ pos 0 → 1 ≤ result }
@@ -439,7 +459,7 @@ pub trait FixedWidth: Integer + LowBits {
     /// How many of the bits are zero.
     #[tactic(auto, using(arbitrary_base::proofs::bit_lists::ResultOfPattern::count_laws, arbitrary_base::proofs::operations::OneRunBounds::zeros_ends))]
     final fn count_zeros(self) -> u32
-        ensures value { result ≡ Self.BITS - popcount (bits Self.BITS (Self.number self)) }
+        ensures value { result ≡ Self.BITS - count_by (λ b. b) (bits Self.BITS (Self.number self)) }
         ensures bound { result ≤ Self.BITS }
         ensures none { Self.number self ≡ pos 0 → result ≡ Self.BITS }
         ensures found { Self.number self ≢ pos 0 → result < Self.BITS }
@@ -454,7 +474,7 @@ pub trait FixedWidth: Integer + LowBits {
     /// How many bits at the high end are one before the first that is zero, or all of them.
     // The mask changes nothing. It tells the compiler the width, which then counts in fewer bits than 128.
     final fn leading_ones(self) -> u32
-        ensures value { result ≡ tail true (bits Self.BITS (Self.number self)) }
+        ensures value { result ≡ suffix_len (beq true) (bits Self.BITS (Self.number self)) }
         ensures bound { result ≤ Self.BITS }
         ensures highest { Self.number self ≡ pos (2 ^ Self.BITS) -ℤ pos 1 → result ≡ Self.BITS }
         ensures minus_one { Self.number self ≡ neg_ℤ (pos 1) → result ≡ Self.BITS }
@@ -469,7 +489,7 @@ pub trait FixedWidth: Integer + LowBits {
     /// How many bits at the high end are zero before the first that is one, or all of them.
     // The mask changes nothing. It tells the compiler the width, which then counts in fewer bits than 128.
     final fn leading_zeros(self) -> u32
-        ensures value { result ≡ tail false (bits Self.BITS (Self.number self)) }
+        ensures value { result ≡ suffix_len (beq false) (bits Self.BITS (Self.number self)) }
         ensures bound { result ≤ Self.BITS }
         ensures none { Self.number self ≡ pos 0 → result ≡ Self.BITS }
         ensures found { Self.number self ≢ pos 0 → result < Self.BITS }
@@ -483,7 +503,7 @@ pub trait FixedWidth: Integer + LowBits {
     /// How many bits at the low end are one before the first that is zero, or all of them.
     #[tactic(auto, using(arbitrary_base::proofs::bit_lists::ResultOfPattern::count_laws, arbitrary_base::proofs::operations::OneRunBounds::trailing_ends))]
     final fn trailing_ones(self) -> u32
-        ensures value { result ≡ front true (bits Self.BITS (Self.number self)) }
+        ensures value { result ≡ prefix_len (beq true) (bits Self.BITS (Self.number self)) }
         ensures bound { result ≤ Self.BITS }
         ensures highest { Self.number self ≡ pos (2 ^ Self.BITS) -ℤ pos 1 → result ≡ Self.BITS }
         ensures minus_one { Self.number self ≡ neg_ℤ (pos 1) → result ≡ Self.BITS }
@@ -497,7 +517,7 @@ pub trait FixedWidth: Integer + LowBits {
     /// How many bits at the low end are zero before the first that is one, or all of them.
     #[tactic(auto, using(arbitrary_base::proofs::bit_lists::ResultOfPattern::count_laws, arbitrary_base::proofs::operations::ZeroRunBounds::trailing_bounds, arbitrary_base::proofs::operations::OneRunBounds::lowest_bit))]
     final fn trailing_zeros(self) -> u32
-        ensures value { result ≡ front false (bits Self.BITS (Self.number self)) }
+        ensures value { result ≡ prefix_len (beq false) (bits Self.BITS (Self.number self)) }
         ensures bound { result ≤ Self.BITS }
         ensures none { Self.number self ≡ pos 0 → result ≡ Self.BITS }
         ensures found { Self.number self ≢ pos 0 → result < Self.BITS }

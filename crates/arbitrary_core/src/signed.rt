@@ -1,10 +1,10 @@
 //! Signed integers of any width, in two's complement.
 
-ghost use Rattle.std.specs.Prelude.{◌≡◌, ◌↔◌, ◌<◌, ◌≤◌, ◌-ℤ◌, ◌<ℤ◌, ◌^◌, pos, neg_ℤ, IsTrue, IfOk, MatchResult, ⊤};
-ghost use Rattle.arbitrary_base.specs.Range.{InRange, IsValidWidth, hi};
+ghost use Rattle.std.specs.Prelude.{◌≡◌, ◌↔◌, ◌<◌, ◌≤◌, ◌-ℤ◌, ◌<ℤ◌, ◌^◌, pos, neg_ℤ, IsTrue, IfOk, MatchResult, ⊤, SomeIff, option_map};
+ghost use Rattle.std.specs.Int.{IsInRange};
+ghost use Rattle.arbitrary_base.specs.Range.{InRange, hi};
 ghost use Rattle.arbitrary_base.specs.Residue.{residue, wrap, Congruent};
 ghost use Rattle.arbitrary_base.specs.Saturation.{clamp};
-ghost use Rattle.arbitrary_base.specs.Exact.{ExactOrNone};
 
 use arbitrary_base::ends::{is_below_zero, is_zero};
 use arbitrary_base::error::TryNewError;
@@ -31,8 +31,9 @@ pub struct Int<
 
 impl<T: SignedStorage, const BITS: usize, U: UnsignedOf<T>> Model for Int<T, BITS, U> {
     ghost use Rattle.std.specs.Prelude.{ℤ, ◌≡◌, pos};
+    ghost use Rattle.std.specs.Int.{IsInRange};
     ghost use Rattle.std.proofs.Common.{ap, ◌∙◌};
-    ghost use Rattle.arbitrary_base.specs.Range.{InRange, IsValidWidth};
+    ghost use Rattle.arbitrary_base.specs.Range.{InRange};
     ghost use Rattle.arbitrary_base.specs.Residue.{residue, wrap};
 
     ghost Value = { ℤ };
@@ -41,7 +42,7 @@ impl<T: SignedStorage, const BITS: usize, U: UnsignedOf<T>> Model for Int<T, BIT
     ghost view = { λ a. wrap T.SIGNED BITS (U.number a.bits) };
 
     // The number is in range, and the bits are its pattern: zeros stand above the width.
-    ghost invariant = { λ a. IsValidWidth BITS T.WIDTH × InRange T.SIGNED BITS (wrap T.SIGNED BITS (U.number a.bits))
+    ghost invariant = { λ a. IsInRange 1 T.WIDTH BITS × InRange T.SIGNED BITS (wrap T.SIGNED BITS (U.number a.bits))
         × (pos (residue BITS (wrap T.SIGNED BITS (U.number a.bits))) ≡ U.number a.bits) };
 
     ghost inverse = { λ x. record { bits = U.of_number (pos (residue BITS x)); of = record {} } };
@@ -67,7 +68,7 @@ where
 {
     /// Whether a type of this width exists: from 1 bit to as many as the storage has.
     pub fn is_valid_width() -> bool
-        ensures { IsTrue result ↔ IsValidWidth BITS T.WIDTH }
+        ensures { IsTrue result ↔ IsInRange 1 T.WIDTH BITS }
     {
         1 <= BITS && BITS <= T::WIDTH
     }
@@ -76,7 +77,7 @@ where
     /// `is_valid_width`) and that the number is in range (or calls `try_new`).
     #[tactic(auto, using(crate::proofs::StoredBits::stored))]
     pub fn new(value: T) -> Self
-        requires width { IsValidWidth BITS T.WIDTH }
+        requires width { IsInRange 1 T.WIDTH BITS }
         requires range { InRange T.SIGNED BITS (T.number value) }
         ensures { result ≡ T.number value }
     {
@@ -88,7 +89,7 @@ where
 
     /// `new` under the name of the original's unsafe call. Here it is safe: its conditions are shown.
     pub fn new_unchecked(value: T) -> Self
-        requires width { IsValidWidth BITS T.WIDTH }
+        requires width { IsInRange 1 T.WIDTH BITS }
         requires range { InRange T.SIGNED BITS (T.number value) }
         ensures { result ≡ T.number value }
     {
@@ -97,7 +98,7 @@ where
 
     /// The value of a number, or an error where the number is out of range.
     pub fn try_new(value: T) -> Result<Self, TryNewError>
-        requires width { IsValidWidth BITS T.WIDTH }
+        requires width { IsInRange 1 T.WIDTH BITS }
         ensures { MatchResult result
             (λ x. InRange T.SIGNED BITS (T.number value) × (x ≡ T.number value))
             (λ _. ¬ (InRange T.SIGNED BITS (T.number value))) }
@@ -112,7 +113,7 @@ where
     /// The storage's value whose low `BITS` bits are one, and whose others are zero: -1 where `BITS`
     /// is all of the storage's bits.
     pub fn mask() -> T
-        requires width { IsValidWidth BITS T.WIDTH }
+        requires width { IsInRange 1 T.WIDTH BITS }
         ensures value { T.number result ≡ wrap T.SIGNED T.WIDTH (pos (2 ^ BITS) -ℤ pos 1) }
         ensures plain { BITS < T.WIDTH → T.number result ≡ pos (2 ^ BITS) -ℤ pos 1 }
     {
@@ -123,7 +124,7 @@ where
     #[tactic(auto, using(crate::proofs::StoredBits::stored))]
     pub fn value(self) -> T
         ensures number { T.number result ≡ self }
-        ensures width { IsValidWidth BITS T.WIDTH }
+        ensures width { IsInRange 1 T.WIDTH BITS }
         ensures range { InRange T.SIGNED BITS self }
     {
         cast(self.bits, BITS)
@@ -134,7 +135,7 @@ where
     pub fn to_bits(self) -> T::Unsigned
         ensures value { T.Unsigned.number result ≡ pos (residue BITS self) }
         ensures congruent { Congruent BITS (T.Unsigned.number result) self }
-        ensures width { IsValidWidth BITS T.WIDTH }
+        ensures width { IsInRange 1 T.WIDTH BITS }
         ensures range { InRange T.Unsigned.SIGNED BITS (T.Unsigned.number result) }
         ensures self_range { InRange T.SIGNED BITS self }
     {
@@ -145,7 +146,7 @@ where
     /// is below `2 ^ BITS` (or calls `try_from_bits`).
     #[tactic(auto, using(crate::proofs::StoredBits::stored))]
     pub fn from_bits(bits: T::Unsigned) -> Self
-        requires width { IsValidWidth BITS T.WIDTH }
+        requires width { IsInRange 1 T.WIDTH BITS }
         requires range { InRange T.Unsigned.SIGNED BITS (T.Unsigned.number bits) }
         ensures bits { pos (residue BITS result) ≡ T.Unsigned.number bits }
         ensures number { result ≡ wrap T.SIGNED BITS (T.Unsigned.number bits) }
@@ -160,7 +161,7 @@ where
     /// `from_bits` under the name of the original's unsafe call. Here it is safe: its conditions are
     /// shown.
     pub fn from_bits_unchecked(bits: T::Unsigned) -> Self
-        requires width { IsValidWidth BITS T.WIDTH }
+        requires width { IsInRange 1 T.WIDTH BITS }
         requires range { InRange T.Unsigned.SIGNED BITS (T.Unsigned.number bits) }
         ensures bits { pos (residue BITS result) ≡ T.Unsigned.number bits }
         ensures number { result ≡ wrap T.SIGNED BITS (T.Unsigned.number bits) }
@@ -172,7 +173,7 @@ where
     /// The value that has these bits, or an error where the pattern is `2 ^ BITS` or more.
     #[tactic(auto, using(arbitrary_base::proofs::modular::Truncation::patterns))]
     pub fn try_from_bits(bits: T::Unsigned) -> Result<Self, TryNewError>
-        requires width { IsValidWidth BITS T.WIDTH }
+        requires width { IsInRange 1 T.WIDTH BITS }
         ensures bits { MatchResult result
             (λ x. InRange T.Unsigned.SIGNED BITS (T.Unsigned.number bits) × (pos (residue BITS x) ≡ T.Unsigned.number bits))
             (λ _. ¬ (InRange T.Unsigned.SIGNED BITS (T.Unsigned.number bits))) }
@@ -223,7 +224,7 @@ where
 
     /// The negated number, and `None` exactly at the least number.
     pub fn checked_neg(self) -> Option<Self>
-        ensures { ExactOrNone (λ x. x) T.SIGNED BITS (neg_ℤ self) result }
+        ensures { SomeIff result (InRange T.SIGNED BITS (neg_ℤ self)) (neg_ℤ self) }
     {
         match checked::neg(self.value(), BITS) {
             Some(negated) => Some(Int::<T, BITS>::new(negated)),
@@ -254,7 +255,7 @@ where
 
     /// The value of an `i8` that is in range.
     pub fn from_i8(value: i8) -> Self
-        requires width { IsValidWidth BITS T.WIDTH }
+        requires width { IsInRange 1 T.WIDTH BITS }
         requires range { InRange T.SIGNED BITS value }
         ensures { result ≡ value }
     {
@@ -263,7 +264,7 @@ where
 
     /// The value of an `i16` that is in range.
     pub fn from_i16(value: i16) -> Self
-        requires width { IsValidWidth BITS T.WIDTH }
+        requires width { IsInRange 1 T.WIDTH BITS }
         requires range { InRange T.SIGNED BITS value }
         ensures { result ≡ value }
     {
@@ -272,7 +273,7 @@ where
 
     /// The value of an `i32` that is in range.
     pub fn from_i32(value: i32) -> Self
-        requires width { IsValidWidth BITS T.WIDTH }
+        requires width { IsInRange 1 T.WIDTH BITS }
         requires range { InRange T.SIGNED BITS value }
         ensures { result ≡ value }
     {
@@ -281,7 +282,7 @@ where
 
     /// The value of an `i64` that is in range.
     pub fn from_i64(value: i64) -> Self
-        requires width { IsValidWidth BITS T.WIDTH }
+        requires width { IsInRange 1 T.WIDTH BITS }
         requires range { InRange T.SIGNED BITS value }
         ensures { result ≡ value }
     {
@@ -290,7 +291,7 @@ where
 
     /// The value of an `i128` that is in range.
     pub fn from_i128(value: i128) -> Self
-        requires width { IsValidWidth BITS T.WIDTH }
+        requires width { IsInRange 1 T.WIDTH BITS }
         requires range { InRange T.SIGNED BITS value }
         ensures { result ≡ value }
     {

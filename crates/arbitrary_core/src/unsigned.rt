@@ -1,9 +1,10 @@
 //! Unsigned integers of any width.
 
-ghost use Rattle.std.specs.Prelude.{◌≡◌, ◌↔◌, ◌<◌, ◌≤◌, ◌+◌, ◌/◌, ◌%◌, ◌-ℤ◌, ◌^◌, pos, unsigned_abs, IsTrue, MatchResult, ⊤, neg_ℤ};
-ghost use Rattle.arbitrary_base.specs.Range.{InRange, IsValidWidth};
+ghost use Rattle.std.specs.Prelude.{◌≡◌, ◌↔◌, ◌<◌, ◌≤◌, ◌+◌, ◌/◌, ◌%◌, ◌-ℤ◌, ◌^◌, pos, unsigned_abs, IsTrue, MatchResult, ⊤, neg_ℤ, take, drop};
+ghost use Rattle.std.specs.Int.{IsInRange};
+ghost use Rattle.arbitrary_base.specs.Range.{InRange};
 ghost use Rattle.arbitrary_base.specs.Residue.{wrap};
-ghost use Rattle.arbitrary_base.specs.BitList.{bits, items, val};
+ghost use Rattle.arbitrary_base.specs.BitList.{bits, val};
 
 use arbitrary_base::error::TryNewError;
 use arbitrary_base::storage::UnsignedStorage;
@@ -22,14 +23,15 @@ pub struct UInt<T: UnsignedStorage, const BITS: usize> {
 
 impl<T: UnsignedStorage, const BITS: usize> Model for UInt<T, BITS> {
     ghost use Rattle.std.specs.Prelude.{ℤ};
+    ghost use Rattle.std.specs.Int.{IsInRange};
     ghost use Rattle.std.proofs.Common.{ap};
-    ghost use Rattle.arbitrary_base.specs.Range.{InRange, IsValidWidth};
+    ghost use Rattle.arbitrary_base.specs.Range.{InRange};
 
     ghost Value = { ℤ };
 
     ghost view = { λ a. T.number a.value };
 
-    ghost invariant = { λ a. IsValidWidth BITS T.WIDTH × InRange T.SIGNED BITS (T.number a.value) };
+    ghost invariant = { λ a. IsInRange 1 T.WIDTH BITS × InRange T.SIGNED BITS (T.number a.value) };
 
     ghost inverse = { λ x. record { value = T.of_number x } };
 
@@ -51,7 +53,7 @@ impl<T: UnsignedStorage, const BITS: usize> Clone for UInt<T, BITS> {
 impl<T: UnsignedStorage, const BITS: usize> UInt<T, BITS> {
     /// Whether a type of this width exists: from 1 bit to as many as the storage has.
     pub fn is_valid_width() -> bool
-        ensures { IsTrue result ↔ IsValidWidth BITS T.WIDTH }
+        ensures { IsTrue result ↔ IsInRange 1 T.WIDTH BITS }
     {
         1 <= BITS && BITS <= T::WIDTH
     }
@@ -59,7 +61,7 @@ impl<T: UnsignedStorage, const BITS: usize> UInt<T, BITS> {
     /// The value of a number. The precondition is that the width is valid (test it by
     /// `is_valid_width`) and that the number is in range (or calls `try_new`).
     pub fn new(value: T) -> Self
-        requires width { IsValidWidth BITS T.WIDTH }
+        requires width { IsInRange 1 T.WIDTH BITS }
         requires range { InRange T.SIGNED BITS (T.number value) }
         ensures { result ≡ T.number value }
     {
@@ -68,7 +70,7 @@ impl<T: UnsignedStorage, const BITS: usize> UInt<T, BITS> {
 
     /// `new` under the name of the original's unsafe call. Here it is safe: its conditions are shown.
     pub fn new_unchecked(value: T) -> Self
-        requires width { IsValidWidth BITS T.WIDTH }
+        requires width { IsInRange 1 T.WIDTH BITS }
         requires range { InRange T.SIGNED BITS (T.number value) }
         ensures { result ≡ T.number value }
     {
@@ -77,7 +79,7 @@ impl<T: UnsignedStorage, const BITS: usize> UInt<T, BITS> {
 
     /// The value of a number, or an error where the number is out of range.
     pub fn try_new(value: T) -> Result<Self, TryNewError>
-        requires width { IsValidWidth BITS T.WIDTH }
+        requires width { IsInRange 1 T.WIDTH BITS }
         ensures { MatchResult result
             (λ x. InRange T.SIGNED BITS (T.number value) × (x ≡ T.number value))
             (λ _. ¬ (InRange T.SIGNED BITS (T.number value))) }
@@ -91,7 +93,7 @@ impl<T: UnsignedStorage, const BITS: usize> UInt<T, BITS> {
 
     /// The storage's value whose low `BITS` bits are one, and whose others are zero.
     pub fn mask() -> T
-        requires width { IsValidWidth BITS T.WIDTH }
+        requires width { IsInRange 1 T.WIDTH BITS }
         ensures value { T.number result ≡ wrap T.SIGNED T.WIDTH (pos (2 ^ BITS) -ℤ pos 1) }
         ensures plain { T.number result ≡ pos (2 ^ BITS) -ℤ pos 1 }
     {
@@ -101,7 +103,7 @@ impl<T: UnsignedStorage, const BITS: usize> UInt<T, BITS> {
     /// The number, in the storage.
     pub fn value(self) -> T
         ensures number { T.number result ≡ self }
-        ensures width { IsValidWidth BITS T.WIDTH }
+        ensures width { IsInRange 1 T.WIDTH BITS }
         ensures range { InRange T.SIGNED BITS self }
     {
         self.value
@@ -119,9 +121,9 @@ impl<T: UnsignedStorage, const BITS: usize> UInt<T, BITS> {
     /// The value whose bits are the `BITS` bits of `value` from place `start_bit` on: `extract_u8` to
     /// `extract_u128` at the storage's own type. Prefer those, which say how wide the source is.
     pub fn extract(value: T, start_bit: usize) -> Self
-        requires width { IsValidWidth BITS T.WIDTH }
+        requires width { IsInRange 1 T.WIDTH BITS }
         requires within { start_bit + BITS ≤ T.WIDTH }
-        ensures value { result ≡ val T.SIGNED (items start_bit BITS (bits T.WIDTH (T.number value))) }
+        ensures value { result ≡ val T.SIGNED (take BITS (drop start_bit (bits T.WIDTH (T.number value)))) }
         ensures plain { InRange T.SIGNED T.WIDTH (T.number value) → result ≡ pos (unsigned_abs (T.number value) / 2 ^ start_bit % 2 ^ BITS) }
     {
         UInt::new(extraction::extract(value, start_bit, BITS))
@@ -130,7 +132,7 @@ impl<T: UnsignedStorage, const BITS: usize> UInt<T, BITS> {
     /// The value of a `u8` that is in range.
     #[tactic(auto, using(arbitrary_base::proofs::storages::CheckedSum::fitting))]
     pub fn from_u8(value: u8) -> Self
-        requires width { IsValidWidth BITS T.WIDTH }
+        requires width { IsInRange 1 T.WIDTH BITS }
         requires range { InRange T.SIGNED BITS (pos value) }
         ensures { result ≡ pos value }
     {
@@ -140,7 +142,7 @@ impl<T: UnsignedStorage, const BITS: usize> UInt<T, BITS> {
     /// The value of a `u16` that is in range.
     #[tactic(auto, using(arbitrary_base::proofs::storages::CheckedSum::fitting))]
     pub fn from_u16(value: u16) -> Self
-        requires width { IsValidWidth BITS T.WIDTH }
+        requires width { IsInRange 1 T.WIDTH BITS }
         requires range { InRange T.SIGNED BITS (pos value) }
         ensures { result ≡ pos value }
     {
@@ -150,7 +152,7 @@ impl<T: UnsignedStorage, const BITS: usize> UInt<T, BITS> {
     /// The value of a `u32` that is in range.
     #[tactic(auto, using(arbitrary_base::proofs::storages::CheckedSum::fitting))]
     pub fn from_u32(value: u32) -> Self
-        requires width { IsValidWidth BITS T.WIDTH }
+        requires width { IsInRange 1 T.WIDTH BITS }
         requires range { InRange T.SIGNED BITS (pos value) }
         ensures { result ≡ pos value }
     {
@@ -160,7 +162,7 @@ impl<T: UnsignedStorage, const BITS: usize> UInt<T, BITS> {
     /// The value of a `u64` that is in range.
     #[tactic(auto, using(arbitrary_base::proofs::storages::CheckedSum::fitting))]
     pub fn from_u64(value: u64) -> Self
-        requires width { IsValidWidth BITS T.WIDTH }
+        requires width { IsInRange 1 T.WIDTH BITS }
         requires range { InRange T.SIGNED BITS (pos value) }
         ensures { result ≡ pos value }
     {
@@ -170,7 +172,7 @@ impl<T: UnsignedStorage, const BITS: usize> UInt<T, BITS> {
     /// The value of a `u128` that is in range.
     #[tactic(auto, using(arbitrary_base::proofs::storages::CheckedSum::fitting))]
     pub fn from_u128(value: u128) -> Self
-        requires width { IsValidWidth BITS T.WIDTH }
+        requires width { IsInRange 1 T.WIDTH BITS }
         requires range { InRange T.SIGNED BITS (pos value) }
         ensures { result ≡ pos value }
     {

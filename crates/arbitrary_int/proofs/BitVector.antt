@@ -13,7 +13,8 @@ use Rattle.arbitrary_base.proofs.operations.RotateAndReverse.{left-undoes_right,
 use Rattle.arbitrary_base.proofs.operations.Carry.{sum-with_carry, sum-less_xor, sum-less_or, sum-less_and, difference-of_parts, difference-with_borrow, difference-less_xor, or-is_sum, xor-is_sum, or-less_xor}
 use Rattle.arbitrary_base.proofs.operations.Order.{and-below_or, le-tested, lt-tested, ge-tested, gt-tested, xor-below_or, or-below_sum, difference-below_xor, shifted_right-keeps_order, and-negative, or-negative, xor-negative}
 use Rattle.arbitrary_base.proofs.operations.Cancellation.{differences-equal, differences_from-equal, left_rotations-equal, nots-equal, reversals-equal, right_rotations-equal, sums-equal, xors-equal}
-use Rattle.arbitrary_base.proofs.operations.PowerAndQuotient.{to_u128_bits-back, power-none, power-one, power-twice, quotient-self, power-of_one, power-of_zero}
+use Rattle.arbitrary_base.proofs.integers.Powers.{power-one, power-zero}
+use Rattle.arbitrary_base.proofs.operations.PowerAndQuotient.{to_u128_bits-back, power-twice, quotient-self, power-of_one, power-of_zero}
 use Rattle.arbitrary_base.proofs.modular.Residue.{wrap-of_in_range}
 use Rattle.arbitrary_int.proofs.KnownCount.{popcount-of_numeral}
 use Rattle.arbitrary_int.proofs.QuotientAndCube.{negated-is_difference, power-thrice, quotient-times}
@@ -46,7 +47,7 @@ pub ruleset ring = (Decides-int_eq, wrapped_sum-commutes, wrapped_sum-associates
 pub ruleset products = (Decides-int_eq, wrapped_product-commutes, wrapped_product-associates, wrapped_product-zero, wrapped_product-one, wrapped_product-two, products-of_sums, products-of_differences, product-of_sum, product-of_difference, product-of_negated, product-of_negated_both, shifted_left-is_product, difference-of_squares)
 
 -- small powers, a number by itself, and a number that is extended and cut again
-pub ruleset exact = (power-none, power-one, power-twice, quotient-self, to_u128_bits-back, wrap-of_in_range, clamp-fits, power-of_one, power-of_zero)
+pub ruleset exact = (power-zero, power-one, power-twice, quotient-self, to_u128_bits-back, wrap-of_in_range, clamp-fits, power-of_one, power-of_zero)
 
 -- bits beside sums and differences
 pub ruleset mixed = (Decides-int_eq, sum-of_or_and, sum-of_disjoint, sum-of_xor_and, difference-of_or_and, difference-of_and, sum-twice, bitwise_and-commutes, bitwise_or-commutes, wrapped_sum-commutes)
@@ -85,4 +86,4 @@ pub ruleset known_counts = (popcount-of_numeral)
 pub ruleset negations = (Decides-int_eq, negated-is_difference, negated-twice, negated-sum, difference-turned, sum-of_difference, sum-to_difference, difference-of_sum, wrapped_difference-zero, wrapped_sum-commutes, not-is_difference, negated-is_sum, not-of_before, negated-not)
 
 -- a quotient times its divisor, and small powers
-pub ruleset quotients = (power-none, power-one, power-twice, power-thrice, quotient-self, quotient-times, wrap-of_in_range, clamp-fits)
+pub ruleset quotients = (power-zero, power-one, power-twice, power-thrice, quotient-self, quotient-times, wrap-of_in_range, clamp-fits)

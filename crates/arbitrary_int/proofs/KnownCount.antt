@@ -1,8 +1,10 @@
 -- How many bits of a number that is written out are one.
 use Rattle.std.specs.Prelude.{◌≡◌, ℕ, zero, suc, pos, ◌+◌, ◌/◌, ◌%◌, ◌^◌, ◌≤◌, ◌<◌, ◌==◌}
 use Rattle.std.proofs.Common.{refl, ap, ap₂, ◌∙◌, arith, pow-suc}
-use Rattle.arbitrary_base.specs.BitList.{bits, digit, popcount}
+use Rattle.std.specs.List.{count_by}
+use Rattle.arbitrary_base.specs.BitList.{bits}
 use Rattle.arbitrary_base.proofs.bit_lists.Count.{popcount-cons}
+use Rattle.arbitrary_base.proofs.bit_lists.UnsignedNumber.{digit}
 use Rattle.arbitrary_base.proofs.operations.PopulationAndRuns.{popcount-of_zero}
 
 -- of the lowest f bits; an `abbrev`, so that it computes at a number that is written out
@@ -20,7 +22,7 @@ digit-of zero h = refl
 digit-of (suc zero) h = refl
 digit-of (suc (suc r)) h = absurd (omega arith)
 
-counted : (f B n : ℕ) → B ≤ f → n < 2 ^ B → popcount (bits B (pos n)) ≡ ones_of f n
+counted : (f B n : ℕ) → B ≤ f → n < 2 ^ B → count_by (λ b. b) (bits B (pos n)) ≡ ones_of f n
 unfolding bits
 counted f zero n h g = let z : 0 ≡ n = omega arith in none f ∙ ap (ones_of f) z
 counted zero (suc B) n h g = absurd (omega arith)
@@ -31,5 +33,5 @@ counted (suc f) (suc B) (suc m) h g =
     popcount-cons (suc m % 2 == 1) (bits B (pos (suc m / 2)))
     ∙ ap₂ (λ (a b : ℕ). a + b) (digit-of (suc m % 2) s) (counted f B (suc m / 2) (omega arith) (omega arith))
 
-pub popcount-of_numeral : (B m : ℕ) → B ≤ 128 → suc m < 2 ^ B → popcount (bits B (pos (suc m))) ≡ ones_of 128 (suc m)
+pub popcount-of_numeral : (B m : ℕ) → B ≤ 128 → suc m < 2 ^ B → count_by (λ b. b) (bits B (pos (suc m))) ≡ ones_of 128 (suc m)
 popcount-of_numeral B m h g = counted 128 B (suc m) h g

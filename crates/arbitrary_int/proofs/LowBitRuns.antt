@@ -1,18 +1,18 @@
 -- Why the low bits of a run at a wide type are those of the run at a narrow one.
-use Rattle.std.specs.Prelude.{◌≡◌, ℕ, ℤ, Bool, pos, ◌+◌, ◌%◌, ◌≤◌, ◌<◌, List, [], ◌∷◌, ◌++◌, length, map, take, get_or, set, Result, Ok, Err, ⊤, ◌+ℤ◌, ◌-ℤ◌, ◌*ℤ◌}
+use Rattle.std.specs.Prelude.{◌≡◌, ℕ, ℤ, Bool, pos, ◌+◌, ◌%◌, ◌≤◌, ◌<◌, List, [], ◌∷◌, ◌++◌, length, map, take, get_or, set, Result, Ok, Err, ⊤, ◌+ℤ◌, ◌-ℤ◌, ◌*ℤ◌, not, All}
 use Rattle.std.specs.Result.{result_map_both}
 use Rattle.std.proofs.Common.{arith, refl, ap, sym, ◌∙◌, mod-eq_of_lt}
 use Rattle.std.proofs.lemmas.List.{map-set, map-append, map_more, take_more_set, take_all}
 use Rattle.std.proofs.lemmas.List.Elements.{All-head, All-tail}
 use Rattle.std.proofs.Math.ListN.{get_or-map}
 use Rattle.arbitrary_base.specs.Residue.{wrap}
-use Rattle.arbitrary_base.specs.BitList.{bits, val, bits_and, bits_or, bits_xor, bits_not, shl}
+use Rattle.arbitrary_base.specs.BitList.{bits, val, bits_and, bits_or, bits_xor, shl}
 use Rattle.arbitrary_base.proofs.storages.CheckedSum.{wrap-zero}
 use Rattle.arbitrary_base.proofs.modular.LowBitOperation.{low-sum, low-difference, low-product, low-and, low-or, low-xor, low-not, low-shl}
 use Rattle.arbitrary_int.proofs.RunLemmas.{RunOf-ok}
 use Rattle.arbitrary_int.specs.Step.{two_meaning, one_meaning, by_meaning, result_of, target_of, meaning, StepWithin}
-use Rattle.arbitrary_int.specs.Run.{later, RunOf, WellFormed}
-use Rattle.arbitrary_int.specs.Widths.{IsLowBit, OnlyLowBits}
+use Rattle.arbitrary_int.specs.Run.{later, RunOf}
+use Rattle.arbitrary_int.specs.Widths.{IsLowBit}
 use Rattle.arbitrary_int.specs.declared.steps.TwoOp.{TwoOp}
 use Rattle.arbitrary_int.specs.declared.steps.TwoOp.TheVariants.{WrappingAdd, WrappingSub, WrappingMul, And, Or, Xor}
 use Rattle.arbitrary_int.specs.declared.steps.OneOp.{OneOp}
@@ -44,7 +44,7 @@ low-two_meaning s t A B op to left right x y h g l = absurd l
 
 low-one_meaning : (s t : Bool) (A B : ℕ) (op : OneOp) (to src : ℕ) (x : ℤ) → 1 ≤ A → A ≤ B → IsLowBit A (One op to src)
     → LowResult s A (one_meaning t B op x) (one_meaning s A op (wrap s A x))
-low-one_meaning s t A B Not to src x h g l = record { number = val t (bits_not (bits B x)); wide_is = refl; narrow_is = ap Ok (sym (low-not s t A B x h g)) }
+low-one_meaning s t A B Not to src x h g l = record { number = val t (map not (bits B x)); wide_is = refl; narrow_is = ap Ok (sym (low-not s t A B x h g)) }
 low-one_meaning s t A B WrappingNeg to src x h g l = record {
   number = wrap t B (pos 0 -ℤ x);
   wide_is = refl;
@@ -83,7 +83,7 @@ later-low : (s : Bool) (A k : ℕ) (wide narrow : List ℤ × Result ⊤ Stop) �
 later-low s A k (regs, Ok u) narrow r = record { wide_ends = r.wide_ends; narrow_is = ap (later k) r.narrow_is }
 later-low s A k (regs, Err stop) narrow r = let e = r.wide_ends in absurd (cc)
 
-pub low-run : (s t : Bool) (A B : ℕ) (steps : List Step) (regs : List ℤ) → 1 ≤ A → A ≤ B → OnlyLowBits A steps
+pub low-run : (s t : Bool) (A B : ℕ) (steps : List Step) (regs : List ℤ) → 1 ≤ A → A ≤ B → All (IsLowBit A) steps
     → LowRun s A (RunOf t B steps regs) (RunOf s A steps (map (wrap s A) regs))
 low-run s t A B [] regs h g l = record { wide_ends = refl; narrow_is = refl }
 low-run s t A B (step ∷ steps) regs h g l =
@@ -98,7 +98,7 @@ low-run s t A B (step ∷ steps) regs h g l =
     (later-low s A 1 (RunOf t B steps new) (RunOf s A steps (map (wrap s A) new)) rest)
 
 -- on no registers there are no steps
-pub no-steps : (steps : List Step) → WellFormed steps 0 → steps ≡ []
+pub no-steps : (steps : List Step) → All (StepWithin 0) steps → steps ≡ []
 no-steps [] w = refl
 no-steps (step ∷ steps) w = absurd (none step (All-head (StepWithin 0) step steps w))
   where
@@ -108,18 +108,18 @@ no-steps (step ∷ steps) w = absurd (none step (All-head (StepWithin 0) step st
     none (By op to src amount) w = omega (arith, w.0)
 
 -- the same, of any list of steps that the registers have room for: where there are none, nothing tells that the width is valid
-pub low-wide : (s t : Bool) (A B : ℕ) (steps : List Step) (regs : List ℤ) → WellFormed steps (length regs) → (0 < length regs → 1 ≤ A) → A ≤ B → OnlyLowBits A steps
+pub low-wide : (s t : Bool) (A B : ℕ) (steps : List Step) (regs : List ℤ) → All (StepWithin (length regs)) steps → (0 < length regs → 1 ≤ A) → A ≤ B → All (IsLowBit A) steps
     → LowRun s A (RunOf t B steps regs) (RunOf s A steps (map (wrap s A) regs))
 low-wide s t A B steps [] w h g l = rw (no-steps steps w) (record { wide_ends = refl; narrow_is = refl })
 low-wide s t A B steps (x ∷ regs) w h g l = low-run s t A B steps (x ∷ regs) (h (omega arith)) g l
 
 -- by what the code left
-pub low-registers : (s t : Bool) (A B : ℕ) (steps : List Step) (regs wide narrow : List ℤ) → WellFormed steps (length regs) → (0 < length regs → 1 ≤ A) → A ≤ B → OnlyLowBits A steps
+pub low-registers : (s t : Bool) (A B : ℕ) (steps : List Step) (regs wide narrow : List ℤ) → All (StepWithin (length regs)) steps → (0 < length regs → 1 ≤ A) → A ≤ B → All (IsLowBit A) steps
     → wide ≡ (RunOf t B steps regs).0 → narrow ≡ map (wrap s A) wide → RunOf s A steps (map (wrap s A) regs) ≡ (narrow, Ok tt)
 low-registers s t A B steps regs wide narrow w h g l e f =
     (low-wide s t A B steps regs w h g l).narrow_is ∙ ap (λ (r : List ℤ). (r, Ok tt)) (sym (f ∙ ap (map (wrap s A)) e))
 
-pub low-ending : (s t : Bool) (A B : ℕ) (steps : List Step) (regs : List ℤ) (ending : Result ⊤ Stop) → WellFormed steps (length regs) → (0 < length regs → 1 ≤ A) → A ≤ B → OnlyLowBits A steps
+pub low-ending : (s t : Bool) (A B : ℕ) (steps : List Step) (regs : List ℤ) (ending : Result ⊤ Stop) → All (StepWithin (length regs)) steps → (0 < length regs → 1 ≤ A) → A ≤ B → All (IsLowBit A) steps
     → ending ≡ (RunOf t B steps regs).1 → ending ≡ Ok tt
 low-ending s t A B steps regs ending w h g l e = e ∙ (low-wide s t A B steps regs w h g l).wide_ends
 

@@ -1,11 +1,12 @@
 -- A quotient times its divisor, a third power, and a negated number as a difference.
 use Rattle.std.specs.Prelude.{◌≡◌, ℕ, ℤ, Bool, pos, negsuc, neg_ℤ, ◌+◌, ◌*◌, ◌/◌, ◌<◌, ◌≤◌, ◌≤ℤ◌, ◌-ℤ◌, ◌*ℤ◌}
+use Rattle.std.specs.Int.{int_pow}
 use Rattle.std.proofs.Common.{refl, sym, ap, ◌∙◌, arith, div-add-mod', mod-lt, mul-le-mul}
 use Rattle.std.proofs.Math.IntN.{*ℤ_comm}
 use Rattle.std.proofs.lemmas.Int.{ints}
 use Rattle.arbitrary_base.specs.Residue.{wrap}
 use Rattle.arbitrary_base.specs.Operation.{wrapped_difference}
-use Rattle.arbitrary_base.specs.Power.{power}
+use Rattle.arbitrary_base.proofs.integers.Powers.{power-suc}
 use Rattle.arbitrary_base.proofs.operations.Definition.{difference-is}
 use Rattle.arbitrary_base.proofs.operations.PowerAndQuotient.{power-twice}
 
@@ -15,23 +16,22 @@ quotient-times a b g =
     let l = mod-lt a g in
     (refl, omega arith, omega arith)
 
-cube : (x : ℤ) → power x 3 ≡ x *ℤ x *ℤ x
-unfolding power
-cube x = ap (λ (z : ℤ). x *ℤ z) (power-twice x) ∙ *ℤ_comm x (x *ℤ x)
+cube : (x : ℤ) → int_pow x 3 ≡ x *ℤ x *ℤ x
+cube x = power-suc x 2 ∙ ap (λ (z : ℤ). x *ℤ z) (power-twice x) ∙ *ℤ_comm x (x *ℤ x)
 
 below : (n m : ℕ) → n ≤ m → n * n * n ≤ m * m * m
 below n m h = mul-le-mul (mul-le-mul h h) h
 
-between : (m : ℕ) (x : ℤ) → pos 0 ≤ℤ x → x ≤ℤ pos m → (pos 0 ≤ℤ power x 3) × (power x 3 ≤ℤ pos (m * m * m))
+between : (m : ℕ) (x : ℤ) → pos 0 ≤ℤ x → x ≤ℤ pos m → (pos 0 ≤ℤ int_pow x 3) × (int_pow x 3 ≤ℤ pos (m * m * m))
 between m (negsuc n) f g = absurd (omega (arith, ints))
 between m (pos n) f g =
-    let e : power (pos n) 3 ≡ pos (n * n * n) = cube (pos n) in
+    let e : int_pow (pos n) 3 ≡ pos (n * n * n) = cube (pos n) in
     let b = below n m (omega (arith, ints)) in
     (omega (arith, ints), omega (arith, ints))
 
 -- a third power, and what it is at most for a number of so many bits
-pub power-thrice : (x : ℤ) → (power x 3 ≡ x *ℤ x *ℤ x) × (pos 0 ≤ℤ x → x ≤ℤ pos 15 → (pos 0 ≤ℤ power x 3) × (power x 3 ≤ℤ pos 3375))
-    × (pos 0 ≤ℤ x → x ≤ℤ pos 255 → (pos 0 ≤ℤ power x 3) × (power x 3 ≤ℤ pos 16581375))
+pub power-thrice : (x : ℤ) → (int_pow x 3 ≡ x *ℤ x *ℤ x) × (pos 0 ≤ℤ x → x ≤ℤ pos 15 → (pos 0 ≤ℤ int_pow x 3) × (int_pow x 3 ≤ℤ pos 3375))
+    × (pos 0 ≤ℤ x → x ≤ℤ pos 255 → (pos 0 ≤ℤ int_pow x 3) × (int_pow x 3 ≤ℤ pos 16581375))
 power-thrice x = (cube x, λ f g. between 15 x f g, λ f g. between 255 x f g)
 
 pub negated-is_difference : (s : Bool) (B : ℕ) (x : ℤ) → wrap s B (neg_ℤ x) ≡ wrapped_difference s B (pos 0) x

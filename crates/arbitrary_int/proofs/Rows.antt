@@ -1,13 +1,14 @@
 -- Steps within a range, and numbers in a row.
-use Rattle.std.specs.Prelude.{◌≡◌, ℕ, zero, suc, ℤ, pos, negsuc, ◌+ℤ◌, ◌-ℤ◌, ◌≤ℤ◌, ◌<ℤ◌, ◌≤◌, Bool, true, false, List, [], ◌∷◌, ◌++◌}
+use Rattle.std.specs.Prelude.{◌≡◌, ℕ, zero, suc, ℤ, pos, negsuc, ◌+ℤ◌, ◌-ℤ◌, ◌≤ℤ◌, ◌<ℤ◌, ◌≤◌, Bool, true, false, List, [], ◌∷◌, ◌++◌, map, ◌+◌}
 use Rattle.std.proofs.Common.{refl, ap, sym, subst, ◌∙◌, arith, lit≤}
 use Rattle.std.proofs.lemmas.Int.{ints}
 use Rattle.std.specs.Int.{int_gap}
+use Rattle.std.specs.List.{range_with_len}
 use Rattle.arbitrary_base.specs.Range.{InRange}
 use Rattle.arbitrary_base.specs.Residue.{Congruent, wrap}
 use Rattle.arbitrary_base.proofs.modular.Congruence.{Congruent-add, Congruent-sub, Congruent-refl, span, pow_le}
 use Rattle.arbitrary_base.proofs.modular.Residue.{wrap-congruent, wrap-same, wrap-of_in_range}
-use Rattle.arbitrary_int.specs.Row.{row, numbers, left}
+use Rattle.arbitrary_int.specs.Row.{numbers, left}
 
 -- a wrapped sum or difference with the truncation of a number
 pub moved_up : (s : Bool) (B : ℕ) (x y m z : ℤ) → 1 ≤ B → InRange s B (x +ℤ y) → m ≡ wrap s B y → z ≡ wrap s B (x +ℤ m) → z ≡ x +ℤ y
@@ -36,7 +37,25 @@ pub ruleset distances = (apart_by)
 
 -- ---- rows
 
+-- n numbers, from x on
+row : ℤ → ℕ → List ℤ
+row x zero = []
+row x (suc n) = x ∷ row (x +ℤ pos 1) n
+
+row-places : (x : ℤ) (m n : ℕ) → map (λ k. x +ℤ pos k) (range_with_len m n) ≡ row (x +ℤ pos m) n
+unfolding row
+row-places x m zero = refl
+row-places x m (suc n) =
+    let e : x +ℤ pos (m + 1) ≡ x +ℤ pos m +ℤ pos 1 = omega (arith, ints) in
+    ap (λ (l : List ℤ). (x +ℤ pos m) ∷ l) (row-places x (m + 1) n ∙ ap (λ (y : ℤ). row y n) e)
+
+numbers-row : (a b : ℤ) → numbers a b ≡ row a (int_gap a (b +ℤ pos 1))
+numbers-row a b =
+    let e : a +ℤ pos 0 ≡ a = omega (arith, ints) in
+    row-places a 0 (int_gap a (b +ℤ pos 1)) ∙ ap (λ (y : ℤ). row y (int_gap a (b +ℤ pos 1))) e
+
 row-last : (x : ℤ) (n : ℕ) → row x (suc n) ≡ row x n ++ (x +ℤ pos n) ∷ []
+unfolding row
 row-last x zero = let e : x ≡ x +ℤ pos 0 = omega (arith, ints) in ap (λ (w : ℤ). w ∷ []) e
 row-last x (suc n) =
     let e : x +ℤ pos 1 +ℤ pos n ≡ x +ℤ pos (suc n) = omega (arith, ints) in
@@ -56,7 +75,8 @@ gap-none (negsuc a) (negsuc b) h = omega (arith, ints)
 
 -- none where the first is greater
 pub numbers-none : (a b : ℤ) → b <ℤ a → numbers a b ≡ []
-numbers-none a b h = ap (row a) (gap-none a (b +ℤ pos 1) (omega (arith, ints)))
+unfolding row
+numbers-none a b h = numbers-row a b ∙ ap (row a) (gap-none a (b +ℤ pos 1) (omega (arith, ints)))
 
 counted : (a b : ℤ) → a ≤ℤ b → int_gap a (b +ℤ pos 1) ≡ suc (int_gap a b)
 counted a b h =
@@ -66,11 +86,12 @@ counted a b h =
 
 -- the first, and those after it
 pub numbers-first : (a b c : ℤ) → a ≤ℤ b → c ≡ a +ℤ pos 1 → numbers a b ≡ a ∷ numbers c b
+unfolding row
 numbers-first a b c h e =
     let f = gap-some a b h in
     let g = gap-some c (b +ℤ pos 1) (omega (arith, ints)) in
     let k : int_gap a b ≡ int_gap c (b +ℤ pos 1) = omega (arith, ints) in
-    ap (row a) (counted a b h) ∙ (λ i. a ∷ row (sym e i) (k i))
+    numbers-row a b ∙ ap (row a) (counted a b h) ∙ (λ i. a ∷ row (sym e i) (k i)) ∙ ap (λ (l : List ℤ). a ∷ l) (sym (numbers-row c b))
 
 -- the last, and those before it
 pub numbers-last : (a b c : ℤ) → a ≤ℤ b → c ≡ b -ℤ pos 1 → numbers a b ≡ numbers a c ++ b ∷ []
@@ -78,7 +99,8 @@ numbers-last a b c h e =
     let f : b ≡ c +ℤ pos 1 = omega (arith, ints) in
     let g = gap-some a b h in
     let k : a +ℤ pos (int_gap a b) ≡ b = omega (arith, ints) in
-    ap (row a) (counted a b h) ∙ row-last a (int_gap a b) ∙ (λ i. row a (int_gap a (f i)) ++ k i ∷ [])
+    numbers-row a b ∙ ap (row a) (counted a b h) ∙ row-last a (int_gap a b) ∙ (λ i. row a (int_gap a (f i)) ++ k i ∷ [])
+    ∙ ap (λ (l : List ℤ). l ++ b ∷ []) (sym (numbers-row a c))
 
 -- one number alone
 pub numbers-one : (a b : ℤ) → a ≡ b → numbers a b ≡ a ∷ []

@@ -1,18 +1,18 @@
 -- Why a step is right: from the contract of each call to the meaning of its operation.
-use Rattle.std.specs.Prelude.{◌≡◌, ◌≢◌, ◌↔◌, ℕ, ℤ, Bool, true, false, pos, ◌<◌, ◌≤◌, List, length, map, get_or, set, Option, Some, None, Result, Ok, Err, ok_or, int_div, nat_eq, nat_lt, MatchResult, IsNone, IfSome}
+use Rattle.std.specs.Prelude.{◌≡◌, ◌≢◌, ◌↔◌, ℕ, ℤ, Bool, true, false, pos, ◌<◌, ◌≤◌, List, length, map, get_or, set, Option, Some, None, Result, Ok, Err, ok_or, int_div, nat_eq, nat_lt, MatchResult, IsNone, IfSome, if◌then◌else◌, SomeIff, option_map}
+use Rattle.std.specs.Bool.{then_some}
 use Rattle.std.specs.Ordering.{int_eq}
 use Rattle.std.specs.Result.{result_map_both}
 use Rattle.std.proofs.Common.{arith, refl, ap, sym, ◌∙◌, subst, lit≤, lit<}
 use Rattle.std.proofs.lemmas.Int.{ints}
 use Rattle.std.proofs.lemmas.List.{get_or-map, map-set}
-use Rattle.arbitrary_base.specs.Range.{InRange}
+use Rattle.arbitrary_base.specs.Range.{InRange, in_range}
 use Rattle.arbitrary_base.specs.Residue.{residue, Congruent}
-use Rattle.arbitrary_base.specs.Exact.{number_of_type, ExactOrNone, QuotientOrNone}
 use Rattle.arbitrary_base.proofs.modular.Residue.{congruent-same, residue-congruent}
 use Rattle.arbitrary_base.proofs.modular.Truncation.{InRange-wider, in_range-true, in_range-false}
 use Rattle.arbitrary_base.proofs.storages.Primitive.{residue-pos}
 use Rattle.arbitrary_base.proofs.storages.CheckedSum.{zero-in_range}
-use Rattle.arbitrary_int.specs.Step.{unless_zero, if_below, two_meaning, one_meaning, by_meaning}
+use Rattle.arbitrary_int.specs.Step.{two_meaning, one_meaning, by_meaning}
 use Rattle.arbitrary_int.specs.declared.steps.TwoOp.{TwoOp}
 use Rattle.arbitrary_int.specs.declared.steps.OneOp.{OneOp}
 use Rattle.arbitrary_int.specs.declared.steps.ByOp.{ByOp}
@@ -21,15 +21,15 @@ use Rattle.arbitrary_int.specs.declared.steps.Why.TheVariants.{Refused}
 
 -- ---- results that may be refused
 
-exact-some : (s : Bool) (B : ℕ) (x : ℤ) → InRange s B x → ok_or (number_of_type s B x) Refused ≡ Ok x
+exact-some : (s : Bool) (B : ℕ) (x : ℤ) → InRange s B x → ok_or (then_some (in_range s B x) x) Refused ≡ Ok x
 exact-some s B x f = rw (in_range-true s B x f) refl
 
-exact-none : (s : Bool) (B : ℕ) (x : ℤ) → (InRange s B x → ⊥) → ok_or (number_of_type s B x) Refused ≡ Err Refused
+exact-none : (s : Bool) (B : ℕ) (x : ℤ) → (InRange s B x → ⊥) → ok_or (then_some (in_range s B x) x) Refused ≡ Err Refused
 exact-none s B x f = rw (in_range-false s B x f) refl
 
 pub exact-checks : {T : Type 0} (number : T → ℤ) (s : Bool) (B : ℕ) (x : ℤ) (o : Option T) (r : Result T Why)
-    → ExactOrNone number s B x o → r ≡ ok_or o Refused
-    → MatchResult r (λ v. ok_or (number_of_type s B x) Refused ≡ Ok (number v)) (λ why. ok_or (number_of_type s B x) Refused ≡ Err why)
+    → SomeIff (option_map number o) (InRange s B x) x → r ≡ ok_or o Refused
+    → MatchResult r (λ v. ok_or (then_some (in_range s B x) x) Refused ≡ Ok (number v)) (λ why. ok_or (then_some (in_range s B x) x) Refused ≡ Err why)
 exact-checks number s B x None r h e = rw e (exact-none s B x h)
 exact-checks number s B x (Some y) r h e = rw e (exact-some s B x h.0 ∙ ap Ok (sym h.1))
 
@@ -45,6 +45,10 @@ int_eq-false y n = by_test (int_eq y (pos 0)) refl
     by_test true p = absurd (n (grind (arith, ints)))
     by_test false p = refl
 
+-- the result, unless the divisor is zero
+abbrev pub unless_zero : ℤ → Why → Result ℤ Why → Result ℤ Why
+unless_zero y why result = if int_eq y (pos 0) then Err why else result
+
 pub unless_zero-zero : (y : ℤ) (why : Why) (result : Result ℤ Why) → int_eq y (pos 0) ≡ true → unless_zero y why result ≡ Err why
 unless_zero-zero y why result e = rw e refl
 
@@ -52,15 +56,15 @@ pub unless_zero-other : (y : ℤ) (why : Why) (result : Result ℤ Why) → int_
 unless_zero-other y why result e = rw e refl
 
 pub quotient-checks : {T : Type 0} (number : T → ℤ) (s : Bool) (B : ℕ) (x y : ℤ) (o : Option T) (r : Result T Why)
-    → QuotientOrNone number s B x y o → r ≡ ok_or o Refused
-    → MatchResult r (λ v. unless_zero y Refused (ok_or (number_of_type s B (int_div x y)) Refused) ≡ Ok (number v)) (λ why. unless_zero y Refused (ok_or (number_of_type s B (int_div x y)) Refused) ≡ Err why)
+    → SomeIff (option_map number o) ((y ≢ pos 0) × InRange s B (int_div x y)) (int_div x y) → r ≡ ok_or o Refused
+    → MatchResult r (λ v. unless_zero y Refused (ok_or (then_some (in_range s B (int_div x y)) (int_div x y)) Refused) ≡ Ok (number v)) (λ why. unless_zero y Refused (ok_or (then_some (in_range s B (int_div x y)) (int_div x y)) Refused) ≡ Err why)
 quotient-checks number s B x y (Some q) r h e =
-    rw e (unless_zero-other y Refused (ok_or (number_of_type s B (int_div x y)) Refused) (int_eq-false y h.0) ∙ exact-some s B (int_div x y) h.1 ∙ ap Ok (sym h.2))
+    rw e (unless_zero-other y Refused (ok_or (then_some (in_range s B (int_div x y)) (int_div x y)) Refused) (int_eq-false y h.0.0) ∙ exact-some s B (int_div x y) h.0.1 ∙ ap Ok (sym h.1))
 quotient-checks number s B x y None r h e = rw e (by_test (int_eq y (pos 0)) refl)
   where
-    by_test : (t : Bool) → int_eq y (pos 0) ≡ t → unless_zero y Refused (ok_or (number_of_type s B (int_div x y)) Refused) ≡ Err Refused
-    by_test true p = unless_zero-zero y Refused (ok_or (number_of_type s B (int_div x y)) Refused) p
-    by_test false p = unless_zero-other y Refused (ok_or (number_of_type s B (int_div x y)) Refused) p ∙ exact-none s B (int_div x y) (h (nonzero y p))
+    by_test : (t : Bool) → int_eq y (pos 0) ≡ t → unless_zero y Refused (ok_or (then_some (in_range s B (int_div x y)) (int_div x y)) Refused) ≡ Err Refused
+    by_test true p = unless_zero-zero y Refused (ok_or (then_some (in_range s B (int_div x y)) (int_div x y)) Refused) p
+    by_test false p = unless_zero-other y Refused (ok_or (then_some (in_range s B (int_div x y)) (int_div x y)) Refused) p ∙ exact-none s B (int_div x y) (λ f. h (nonzero y p, f))
 
 -- the residue is 0 exactly where the number is
 pub zero_test : (s : Bool) (B p : ℕ) (x : ℤ) (b : Bool) → (1 ≤ B) × (B ≤ 128) → InRange s B x → p ≡ residue 128 x → b ≡ nat_eq p 0 → b ≡ int_eq x (pos 0)
@@ -75,11 +79,11 @@ zero_test s B p x false h f e t = sym (int_eq-false x (λ z. let m : p ≡ 0 = e
 
 pub below-checks : {T : Type 0} (number : T → ℤ) (B amount : ℕ) (x : ℤ) (o : Option T) (r : Result T Why)
     → (IsNone o ↔ (B ≤ amount)) → IfSome o (λ v. number v ≡ x) → r ≡ ok_or o Refused
-    → MatchResult r (λ v. if_below B amount x ≡ Ok (number v)) (λ why. if_below B amount x ≡ Err why)
+    → MatchResult r (λ v. ok_or (then_some (nat_lt amount B) x) Refused ≡ Ok (number v)) (λ why. ok_or (then_some (nat_lt amount B) x) Refused ≡ Err why)
 below-checks number B amount x None r h g e = rw e (let l : B ≤ amount = h.0 refl in let t : nat_lt amount B ≡ false = grind arith in rw t refl)
 below-checks number B amount x (Some v) r h g e = rw e (by_test (nat_lt amount B) refl)
   where
-    by_test : (t : Bool) → nat_lt amount B ≡ t → if_below B amount x ≡ Ok (number v)
+    by_test : (t : Bool) → nat_lt amount B ≡ t → ok_or (then_some (nat_lt amount B) x) Refused ≡ Ok (number v)
     by_test true p = rw p (ap Ok (sym g))
     by_test false p = let l : B ≤ amount = grind arith in let n = h.1 l in absurd (cc)
 

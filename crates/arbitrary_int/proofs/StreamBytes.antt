@@ -5,22 +5,23 @@ use lib.Pointwise.{bytes_decides, pointwise}
 use Rattle.std.proofs.Common.{refl, sym, ap, ◌∙◌, arith}
 use Rattle.std.proofs.Math.Seq.{take-append_seam}
 use Rattle.std.proofs.lemmas.List.{take_all}
+use Rattle.std.specs.Int.{div_ceil}
 use Rattle.arbitrary_base.specs.Range.{InRange}
 use Rattle.arbitrary_base.specs.Residue.{wrap}
-use Rattle.arbitrary_base.specs.Bytes.{BorshBytes, bytes_number, byte_count}
+use Rattle.arbitrary_base.specs.Bytes.{BorshBytes, bytes_number}
 use Rattle.arbitrary_base.proofs.bytes.NumberOfBytes.{Borsh-canonical, length-Borsh, wrap-Borsh}
 
-pub Borsh-told : (B : ℕ) (x : ℤ) → (BorshBytes B x ≡ BorshBytes B x) × (length (BorshBytes B x) ≡ byte_count B) × (bytes_number (BorshBytes B x) < 2 ^ B)
+pub Borsh-told : (B : ℕ) (x : ℤ) → (BorshBytes B x ≡ BorshBytes B x) × (length (BorshBytes B x) ≡ div_ceil B 8) × (bytes_number (BorshBytes B x) < 2 ^ B)
 Borsh-told B x = (refl, length-Borsh B x, (Borsh-canonical B x).below)
 
 -- the number that the first bytes of a list tell
 unfoldable pub told : Bool → ℕ → List ℕ → ℤ
-told s B l = wrap s B (pos (bytes_number (take (byte_count B) l)))
+told s B l = wrap s B (pos (bytes_number (take (div_ceil B 8) l)))
 
 module _ (s : Bool) (B : ℕ) (x : ℤ) (h : 1 ≤ B) (f : InRange s B x) where
   told-alone : told s B (BorshBytes B x) ≡ x
   unfolding told
-  told-alone = ap (λ (l : List ℕ). wrap s B (pos (bytes_number l))) (take_all (byte_count B) (BorshBytes B x) (omega (arith, length-Borsh B x))) ∙ wrap-Borsh s B x h f
+  told-alone = ap (λ (l : List ℕ). wrap s B (pos (bytes_number l))) (take_all (div_ceil B 8) (BorshBytes B x) (omega (arith, length-Borsh B x))) ∙ wrap-Borsh s B x h f
 
   told-first : (more : List ℕ) → told s B (BorshBytes B x ++ more) ≡ x
   unfolding told

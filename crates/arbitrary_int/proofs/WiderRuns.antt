@@ -1,5 +1,6 @@
 -- Why a run of checked sums, differences, products and quotients is the same at each type that has the range.
-use Rattle.std.specs.Prelude.{◌≡◌, ℕ, ℤ, Bool, true, false, pos, ◌+◌, ◌≤◌, ◌<◌, List, [], ◌∷◌, length, take, drop, get_or, set, Result, Ok, Err, ok_or, ⊤, int_le, int_div, ◌&&◌}
+use Rattle.std.specs.Prelude.{◌≡◌, ℕ, ℤ, Bool, true, false, pos, ◌+◌, ◌≤◌, ◌<◌, List, [], ◌∷◌, length, take, drop, get_or, set, Result, Ok, Err, ok_or, ⊤, int_le, int_div, ◌&&◌, All}
+use Rattle.std.specs.Bool.{then_some}
 use Rattle.std.specs.Ordering.{int_eq}
 use Rattle.std.specs.Result.{result_map_both}
 use Rattle.std.proofs.Common.{arith, refl, ap, sym, ◌∙◌, suc}
@@ -7,12 +8,12 @@ use Rattle.std.proofs.lemmas.Int.{ints}
 use Rattle.std.proofs.lemmas.List.{get_or_default}
 use Rattle.std.proofs.lemmas.List.Elements.{All-head, All-tail}
 use Rattle.arbitrary_base.specs.Range.{lo, hi, in_range}
-use Rattle.arbitrary_base.specs.Exact.{number_of_type}
 use Rattle.arbitrary_base.proofs.modular.Truncation.{in_range-true}
 use Rattle.arbitrary_int.proofs.RunLemmas.{RunOf-ok, RunOf-err, run-stop, run-end}
-use Rattle.arbitrary_int.specs.Step.{unless_zero, result_of, target_of, meaning}
+use Rattle.arbitrary_int.proofs.StepLemmas.{unless_zero}
+use Rattle.arbitrary_int.specs.Step.{result_of, target_of, meaning}
 use Rattle.arbitrary_int.specs.Run.{later, RunOf}
-use Rattle.arbitrary_int.specs.Widths.{IsCheckedArithmetic, OnlyCheckedArithmetic, carried_out, RangeWithin}
+use Rattle.arbitrary_int.specs.Widths.{IsCheckedArithmetic, carried_out, RangeWithin}
 use Rattle.arbitrary_int.specs.declared.steps.TwoOp.TheVariants.{CheckedAdd, CheckedSub, CheckedMul, CheckedDiv}
 use Rattle.arbitrary_int.specs.declared.steps.Step.{Step}
 use Rattle.arbitrary_int.specs.declared.steps.Step.TheVariants.{Two}
@@ -31,20 +32,20 @@ in_range-wider s t A B x c e = by_tests (int_le (lo s A) x) (int_le x (hi s A)) 
     by_tests true false p q r = absurd (cc)
     by_tests false q p r u = absurd (cc)
 
-exact-wider : (s t : Bool) (A B : ℕ) (x y : ℤ) → RangeWithin s A t B → ok_or (number_of_type s A x) Refused ≡ Ok y → ok_or (number_of_type t B x) Refused ≡ Ok y
+exact-wider : (s t : Bool) (A B : ℕ) (x y : ℤ) → RangeWithin s A t B → ok_or (then_some (in_range s A x) x) Refused ≡ Ok y → ok_or (then_some (in_range t B x) x) Refused ≡ Ok y
 exact-wider s t A B x y c e = by_test (in_range s A x) refl
   where
-    by_test : (b : Bool) → in_range s A x ≡ b → ok_or (number_of_type t B x) Refused ≡ Ok y
+    by_test : (b : Bool) → in_range s A x ≡ b → ok_or (then_some (in_range t B x) x) Refused ≡ Ok y
     by_test true p = let q = in_range-wider s t A B x c p in rw q (rw p at e)
     by_test false p = let r : Err Refused ≡ Ok y = rw p at e in absurd (cc)
 
 quotient-wider : (s t : Bool) (A B : ℕ) (x y z : ℤ) → RangeWithin s A t B
-    → unless_zero y Refused (ok_or (number_of_type s A (int_div x y)) Refused) ≡ Ok z → unless_zero y Refused (ok_or (number_of_type t B (int_div x y)) Refused) ≡ Ok z
+    → unless_zero y Refused (ok_or (then_some (in_range s A (int_div x y)) (int_div x y)) Refused) ≡ Ok z → unless_zero y Refused (ok_or (then_some (in_range t B (int_div x y)) (int_div x y)) Refused) ≡ Ok z
 quotient-wider s t A B x y z c e = by_test (int_eq y (pos 0)) refl
   where
-    by_test : (b : Bool) → int_eq y (pos 0) ≡ b → unless_zero y Refused (ok_or (number_of_type t B (int_div x y)) Refused) ≡ Ok z
+    by_test : (b : Bool) → int_eq y (pos 0) ≡ b → unless_zero y Refused (ok_or (then_some (in_range t B (int_div x y)) (int_div x y)) Refused) ≡ Ok z
     by_test true p = let r : Err Refused ≡ Ok z = rw p at e in absurd (cc)
-    by_test false p = let r : ok_or (number_of_type s A (int_div x y)) Refused ≡ Ok z = rw p at e in rw p (exact-wider s t A B (int_div x y) z c r)
+    by_test false p = let r : ok_or (then_some (in_range s A (int_div x y)) (int_div x y)) Refused ≡ Ok z = rw p at e in rw p (exact-wider s t A B (int_div x y) z c r)
 
 result-wider : (s t : Bool) (A B : ℕ) (step : Step) (regs : List ℤ) (x : ℤ) → RangeWithin s A t B → IsCheckedArithmetic step
     → result_of s A step regs ≡ Ok x → result_of t B step regs ≡ Ok x
@@ -83,7 +84,7 @@ wider-turn s t A B step steps regs c i rest (Ok new) p =
 wider-turn s t A B step steps regs c i rest (Err why) p = rw (RunOf-err s A step steps regs why p) refl
 
 -- what a run of exact steps carried out, a wider type carries out alike
-pub wider-run : (s t : Bool) (A B : ℕ) (steps : List Step) (regs : List ℤ) → RangeWithin s A t B → OnlyCheckedArithmetic steps
+pub wider-run : (s t : Bool) (A B : ℕ) (steps : List Step) (regs : List ℤ) → RangeWithin s A t B → All IsCheckedArithmetic steps
     → RunOf t B (carried_out (RunOf s A steps regs).1 steps) regs ≡ ((RunOf s A steps regs).0, Ok tt)
 wider-run s t A B [] regs c l = refl
 wider-run s t A B (step ∷ steps) regs c l =
@@ -91,21 +92,21 @@ wider-run s t A B (step ∷ steps) regs c l =
 
 -- by how a run ended, and what it left
 pub wider-ended : (s t : Bool) (A B : ℕ) (steps : List Step) (regs new : List ℤ) (ending : Result ⊤ Stop)
-    → new ≡ (RunOf s A steps regs).0 → ending ≡ (RunOf s A steps regs).1 → RangeWithin s A t B → OnlyCheckedArithmetic steps
+    → new ≡ (RunOf s A steps regs).0 → ending ≡ (RunOf s A steps regs).1 → RangeWithin s A t B → All IsCheckedArithmetic steps
     → RunOf t B (carried_out ending steps) regs ≡ (new, Ok tt)
 wider-ended s t A B steps regs new ending e f c l = rw (e, f) (wider-run s t A B steps regs c l)
 
 -- at a step that stops, and at the end
 pub wider-stop : (s t : Bool) (A B : ℕ) (steps : List Step) (k : ℕ) (d : Step) (regs now new : List ℤ) (why : Why) → k < length steps
     → RunOf s A steps regs ≡ later k (RunOf s A (drop k steps) now) → meaning s A (get_or steps k d) now ≡ Err why → new ≡ now
-    → RangeWithin s A t B → OnlyCheckedArithmetic steps → RunOf t B (take k steps) regs ≡ (new, Ok tt)
+    → RangeWithin s A t B → All IsCheckedArithmetic steps → RunOf t B (take k steps) regs ≡ (new, Ok tt)
 wider-stop s t A B steps k d regs now new why h rest stops same c l =
     let whole = run-stop s A steps k (get_or steps k d) now why (RunOf s A steps regs) h (get_or_default steps k d (get_or steps k d) h) stops rest in
     wider-ended s t A B steps regs new (Err (record { at = k; why = why })) (same ∙ sym (ap (λ (r : List ℤ × Result ⊤ Stop). r.0) whole)) (sym (ap (λ (r : List ℤ × Result ⊤ Stop). r.1) whole)) c l
 
 pub wider-end : (s t : Bool) (A B : ℕ) (steps : List Step) (k : ℕ) (regs now : List ℤ) → length steps ≤ k
     → RunOf s A steps regs ≡ later k (RunOf s A (drop k steps) now)
-    → RangeWithin s A t B → OnlyCheckedArithmetic steps → RunOf t B steps regs ≡ (now, Ok tt)
+    → RangeWithin s A t B → All IsCheckedArithmetic steps → RunOf t B steps regs ≡ (now, Ok tt)
 wider-end s t A B steps k regs now h rest c l =
     let whole = run-end s A steps k now (RunOf s A steps regs) h rest in
     wider-ended s t A B steps regs now (Ok tt) (sym (ap (λ (r : List ℤ × Result ⊤ Stop). r.0) whole)) (sym (ap (λ (r : List ℤ × Result ⊤ Stop). r.1) whole)) c l

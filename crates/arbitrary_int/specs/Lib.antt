@@ -9,7 +9,6 @@ pub use Rattle.arbitrary_base.specs.Range
 pub use Rattle.arbitrary_base.specs.Residue
 pub use Rattle.arbitrary_base.specs.Field
 pub use Rattle.arbitrary_base.specs.Saturation
-pub use Rattle.arbitrary_base.specs.Exact
 pub use Rattle.arbitrary_base.specs.Power
 pub use Rattle.arbitrary_base.specs.BitList
 pub use Rattle.arbitrary_base.specs.Operation
@@ -17,5 +16,4 @@ pub use Rattle.arbitrary_base.specs.BitField
 pub use Rattle.arbitrary_base.specs.Watching
 pub use Rattle.arbitrary_base.specs.Laws
 pub use Rattle.arbitrary_base.specs.Bytes
-pub use Rattle.arbitrary_base.specs.Totals
 pub use Rattle.arbitrary_base.specs.Stream

@@ -1,12 +1,8 @@
 -- What a list of steps does, by whole numbers and bit lists. No storage comes into it.
-use Rattle.std.specs.Prelude.{ℕ, ℤ, Bool, ◌+◌, List, [], ◌∷◌, All, Result, Ok, Err, ⊤}
-use Rattle.arbitrary_int.specs.Step.{meaning, StepWithin}
+use Rattle.std.specs.Prelude.{ℕ, ℤ, Bool, ◌+◌, List, [], ◌∷◌, Result, Ok, Err, ⊤}
+use Rattle.arbitrary_int.specs.Step.{meaning}
 use Rattle.arbitrary_int.specs.declared.steps.Step.{Step}
 use Rattle.arbitrary_int.specs.declared.steps.Stop.{Stop}
-
--- the register numbers of all steps are below n
-abbrev pub WellFormed : List Step → ℕ → Type 0
-WellFormed steps n = All (StepWithin n) steps
 
 -- the same run, seen from k steps before
 abbrev pub later : ℕ → List ℤ × Result ⊤ Stop → List ℤ × Result ⊤ Stop

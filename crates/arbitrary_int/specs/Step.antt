@@ -1,13 +1,15 @@
 -- What one step does, by whole numbers and bit lists. No storage comes into it.
-use Rattle.std.specs.Prelude.{ℕ, ℤ, Bool, pos, ◌+ℤ◌, ◌-ℤ◌, ◌*ℤ◌, ◌%◌, ◌<◌, List, get_or, set, reverse, Result, Ok, Err, ok_or, if◌then◌else◌, int_div, nat_lt}
+use Rattle.std.specs.Prelude.{ℕ, ℤ, Bool, pos, ◌+ℤ◌, ◌-ℤ◌, ◌*ℤ◌, ◌%◌, ◌<◌, List, get_or, set, reverse, Result, Ok, Err, ok_or, if◌then◌else◌, int_div, nat_lt, map, not}
+use Rattle.arbitrary_base.specs.Range.{in_range}
+use Rattle.std.specs.Bool.{then_some}
+use Rattle.std.specs.Int.{int_pow}
+use Rattle.std.specs.List.{slice_rotate_right}
 use Rattle.std.specs.Ordering.{int_eq}
 use Rattle.std.specs.Result.{result_map_both}
 use Rattle.arbitrary_base.specs.Residue.{wrap}
 use Rattle.arbitrary_base.specs.Saturation.{clamp}
-use Rattle.arbitrary_base.specs.Exact.{number_of_type}
-use Rattle.arbitrary_base.specs.Power.{power}
 use Rattle.arbitrary_base.specs.Operation.{shifted_right}
-use Rattle.arbitrary_base.specs.BitList.{bits, val, bits_and, bits_or, bits_xor, bits_not, shl, rotl, rotr}
+use Rattle.arbitrary_base.specs.BitList.{bits, val, bits_and, bits_or, bits_xor, shl, rotr}
 use Rattle.arbitrary_int.specs.declared.steps.TwoOp.{TwoOp}
 use Rattle.arbitrary_int.specs.declared.steps.TwoOp.TheVariants.{WrappingAdd, WrappingSub, WrappingMul, WrappingDiv, SaturatingAdd, SaturatingSub, SaturatingMul, SaturatingDiv, CheckedAdd, CheckedSub, CheckedMul, CheckedDiv, And, Or, Xor}
 use Rattle.arbitrary_int.specs.declared.steps.OneOp.{OneOp}
@@ -19,35 +21,27 @@ use Rattle.arbitrary_int.specs.declared.steps.Step.TheVariants.{Two, One, By}
 use Rattle.arbitrary_int.specs.declared.steps.Why.{Why}
 use Rattle.arbitrary_int.specs.declared.steps.Why.TheVariants.{Refused, ZeroDivisor}
 
--- the result, unless the divisor is zero
-abbrev pub unless_zero : ℤ → Why → Result ℤ Why → Result ℤ Why
-unless_zero y why result = if int_eq y (pos 0) then Err why else result
-
--- the result, where the amount is below the width
-abbrev pub if_below : ℕ → ℕ → ℤ → Result ℤ Why
-if_below B amount x = if nat_lt amount B then Ok x else Err Refused
-
 -- what an operation makes of the numbers x and y
 abbrev pub two_meaning : Bool → ℕ → TwoOp → ℤ → ℤ → Result ℤ Why
 two_meaning s B WrappingAdd x y = Ok (wrap s B (x +ℤ y))
 two_meaning s B WrappingSub x y = Ok (wrap s B (x -ℤ y))
 two_meaning s B WrappingMul x y = Ok (wrap s B (x *ℤ y))
-two_meaning s B WrappingDiv x y = unless_zero y ZeroDivisor (Ok (wrap s B (int_div x y)))
+two_meaning s B WrappingDiv x y = if int_eq y (pos 0) then Err ZeroDivisor else Ok (wrap s B (int_div x y))
 two_meaning s B SaturatingAdd x y = Ok (clamp s B (x +ℤ y))
 two_meaning s B SaturatingSub x y = Ok (clamp s B (x -ℤ y))
 two_meaning s B SaturatingMul x y = Ok (clamp s B (x *ℤ y))
-two_meaning s B SaturatingDiv x y = unless_zero y ZeroDivisor (Ok (clamp s B (int_div x y)))
-two_meaning s B CheckedAdd x y = ok_or (number_of_type s B (x +ℤ y)) Refused
-two_meaning s B CheckedSub x y = ok_or (number_of_type s B (x -ℤ y)) Refused
-two_meaning s B CheckedMul x y = ok_or (number_of_type s B (x *ℤ y)) Refused
-two_meaning s B CheckedDiv x y = unless_zero y Refused (ok_or (number_of_type s B (int_div x y)) Refused)
+two_meaning s B SaturatingDiv x y = if int_eq y (pos 0) then Err ZeroDivisor else Ok (clamp s B (int_div x y))
+two_meaning s B CheckedAdd x y = ok_or (then_some (in_range s B (x +ℤ y)) (x +ℤ y)) Refused
+two_meaning s B CheckedSub x y = ok_or (then_some (in_range s B (x -ℤ y)) (x -ℤ y)) Refused
+two_meaning s B CheckedMul x y = ok_or (then_some (in_range s B (x *ℤ y)) (x *ℤ y)) Refused
+two_meaning s B CheckedDiv x y = if int_eq y (pos 0) then Err Refused else ok_or (then_some (in_range s B (int_div x y)) (int_div x y)) Refused
 two_meaning s B And x y = Ok (val s (bits_and (bits B x) (bits B y)))
 two_meaning s B Or x y = Ok (val s (bits_or (bits B x) (bits B y)))
 two_meaning s B Xor x y = Ok (val s (bits_xor (bits B x) (bits B y)))
 
 -- what an operation makes of the number x
 abbrev pub one_meaning : Bool → ℕ → OneOp → ℤ → Result ℤ Why
-one_meaning s B Not x = Ok (val s (bits_not (bits B x)))
+one_meaning s B Not x = Ok (val s (map not (bits B x)))
 one_meaning s B ReverseBits x = Ok (val s (reverse (bits B x)))
 one_meaning s B WrappingNeg x = Ok (wrap s B (pos 0 -ℤ x))
 
@@ -55,11 +49,11 @@ one_meaning s B WrappingNeg x = Ok (wrap s B (pos 0 -ℤ x))
 abbrev pub by_meaning : Bool → ℕ → ByOp → ℤ → ℕ → Result ℤ Why
 by_meaning s B WrappingShl x amount = Ok (val s (shl (bits B x) (amount % B)))
 by_meaning s B WrappingShr x amount = Ok (shifted_right s B x (amount % B))
-by_meaning s B CheckedShl x amount = if_below B amount (val s (shl (bits B x) amount))
-by_meaning s B CheckedShr x amount = if_below B amount (shifted_right s B x amount)
-by_meaning s B RotateLeft x amount = Ok (val s (rotl (bits B x) (amount % B)))
+by_meaning s B CheckedShl x amount = ok_or (then_some (nat_lt amount B) (val s (shl (bits B x) amount))) Refused
+by_meaning s B CheckedShr x amount = ok_or (then_some (nat_lt amount B) (shifted_right s B x amount)) Refused
+by_meaning s B RotateLeft x amount = Ok (val s (slice_rotate_right (bits B x) (amount % B)))
 by_meaning s B RotateRight x amount = Ok (val s (rotr (bits B x) (amount % B)))
-by_meaning s B SaturatingPow x amount = Ok (clamp s B (power x amount))
+by_meaning s B SaturatingPow x amount = Ok (clamp s B (int_pow x amount))
 
 -- what the step makes of its sources
 abbrev pub result_of : Bool → ℕ → Step → List ℤ → Result ℤ Why

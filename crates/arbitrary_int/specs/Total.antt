@@ -1,13 +1,13 @@
 -- Sums and products of what an iterator gives.
-use Rattle.std.specs.Prelude.{◌≡◌, ℕ, ℤ, Bool, List, map, Option, MatchOption}
+use Rattle.std.specs.Prelude.{◌≡◌, ℕ, ℤ, Bool, List, ◌∷◌, map, Option, MatchOption}
 use Rattle.std.specs.Iterator.Runs.{SomeRun, WholeRun}
-use Rattle.std.specs.List.{fold}
-use Rattle.arbitrary_base.specs.Totals.{AllInRange, partials}
+use Rattle.std.specs.List.{AllByRecursion, fold, scan}
+use Rattle.arbitrary_base.specs.Range.{InRange}
 
 module _ (s : Bool) (B : ℕ) (op : ℤ → ℤ → ℤ) (first : ℤ) where
   -- the first number and what each item leaves are in range
   abbrev pub PartialsFit : List ℤ → Type 0
-  PartialsFit l = AllInRange s B (partials op first l)
+  PartialsFit l = AllByRecursion (InRange s B) (first ∷ scan op op first l)
 
   module _ {I V : Type 0} (next : I → Option V → I → Type 0) (number : V → ℤ) where
     -- what all items leave, where all partial results fit, and `None` where those of some first items do not

@@ -1,5 +1,5 @@
 -- Runs of the same steps at two widths.
-use Rattle.std.specs.Prelude.{ℕ, Bool, ◌<◌, ◌≤ℤ◌, List, take, All, Result, Ok, Err, ⊤}
+use Rattle.std.specs.Prelude.{ℕ, Bool, ◌<◌, ◌≤ℤ◌, List, take, Result, Ok, Err, ⊤}
 use Rattle.arbitrary_base.specs.Range.{lo, hi}
 use Rattle.arbitrary_int.specs.declared.steps.TwoOp.TheVariants.{WrappingAdd, WrappingSub, WrappingMul, CheckedAdd, CheckedSub, CheckedMul, CheckedDiv, And, Or, Xor}
 use Rattle.arbitrary_int.specs.declared.steps.OneOp.TheVariants.{Not, WrappingNeg}
@@ -21,9 +21,6 @@ IsLowBit B (One WrappingNeg to src) = Unit {0}
 IsLowBit B (By WrappingShl to src amount) = amount < B
 IsLowBit B step = ⊥
 
-abbrev pub OnlyLowBits : ℕ → List Step → Type 0
-OnlyLowBits B steps = All (IsLowBit B) steps
-
 -- the step is a checked sum, difference, product or quotient
 abbrev pub IsCheckedArithmetic : Step → Type 0
 IsCheckedArithmetic (Two CheckedAdd to left right) = Unit {0}
@@ -31,9 +28,6 @@ IsCheckedArithmetic (Two CheckedSub to left right) = Unit {0}
 IsCheckedArithmetic (Two CheckedMul to left right) = Unit {0}
 IsCheckedArithmetic (Two CheckedDiv to left right) = Unit {0}
 IsCheckedArithmetic step = ⊥
-
-abbrev pub OnlyCheckedArithmetic : List Step → Type 0
-OnlyCheckedArithmetic steps = All IsCheckedArithmetic steps
 
 -- the steps that a run carried out: all of them, or those before the one that stopped
 abbrev pub carried_out : Result ⊤ Stop → List Step → List Step

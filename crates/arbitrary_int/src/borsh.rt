@@ -1,9 +1,10 @@
 //! Values in a stream, in the Borsh form.
 
 ghost use Rattle.std.specs.Prelude.{◌≡◌, ◌≤◌, ℕ, List, length, take, drop, IfOk, OnOk, OnErr, MatchOption};
+ghost use Rattle.std.specs.Int.{div_ceil};
 ghost use Rattle.std.specs.Io.KnownBytes.{Appends, Consumes};
 ghost use Rattle.arbitrary_base.specs.Watching.{inner_of, NoFailure, Failure};
-ghost use Rattle.arbitrary_base.specs.Bytes.{BorshBytes, Canonical, byte_count};
+ghost use Rattle.arbitrary_base.specs.Bytes.{BorshBytes, Canonical};
 ghost use Rattle.arbitrary_base.specs.Stream.{AppendsBeginning};
 ghost use Rattle.arbitrary_int.specs.Reading.{Unreadable};
 
@@ -16,7 +17,7 @@ use std::io;
 use std::io::{ErrorKind, Read, Write};
 
 /// What can be written to a stream. `UInt` and `Int` can, at every width: their bytes are the residue modulo
-/// `2 ^ BITS`, the lowest byte first, in `(BITS + 7) / 8` bytes.
+/// `2 ^ BITS`, the lowest byte first, in `BITS.div_ceil(8)` bytes.
 pub trait BorshSerialize {
     // The bytes of a value.
     ghost bytes_of: { Self → List ℕ };
@@ -38,7 +39,7 @@ pub trait BorshSerialize {
 }
 
 /// What can be read from a stream. `UInt` and `Int` can, at every valid width: a list of bytes is canonical where
-/// it has `(BITS + 7) / 8` bytes and spells a number below `2 ^ BITS`.
+/// it has `BITS.div_ceil(8)` bytes and spells a number below `2 ^ BITS`.
 pub trait BorshDeserialize: Sized {
     // Whether the type has values at all.
     ghost readable: { Type 0 };
@@ -73,7 +74,7 @@ fn written<V: FixedWidth>(value: V) -> ([u8; 16], usize)
     ensures bytes { take result.1 result.0 ≡ BorshBytes V.BITS (V.number value) }
 {
     let all = all_bytes(low_bits(value.to_storage(), V::BITS));
-    (all, (V::BITS + 7) / 8)
+    (all, V::BITS.div_ceil(8))
 }
 
 impl<V: FixedWidth> BorshSerialize for V {
@@ -95,7 +96,7 @@ impl<V: FixedWidth> BorshSerialize for V {
 impl<V: FixedWidth> BorshDeserialize for V {
     ghost readable = { V.valid };
 
-    ghost count = { byte_count V.BITS };
+    ghost count = { div_ceil V.BITS 8 };
 
     ghost canonical = { Canonical V.BITS };
 
@@ -103,13 +104,13 @@ impl<V: FixedWidth> BorshDeserialize for V {
 
     fn deserialize_reader<R: Read>(reader: &mut Watched<R>) -> io::Result<V> {
         let mut all = [0; 16];
-        let bytes = &mut all[..(V::BITS + 7) / 8];
+        let bytes = &mut all[..V::BITS.div_ceil(8)];
         read_full(reader, bytes)?;
         V::from_borsh_bytes(bytes).ok_or(io::Error::from(ErrorKind::InvalidData))
     }
 
     fn from_borsh_bytes(bytes: &[u8]) -> Option<V> {
-        if bytes.len() != (V::BITS + 7) / 8 {
+        if bytes.len() != V::BITS.div_ceil(8) {
             return None;
         }
         let pattern = pattern_of(bytes);

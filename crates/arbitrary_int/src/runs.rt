@@ -1,11 +1,11 @@
 //! Lists of steps on registers.
 
-ghost use Rattle.std.specs.Prelude.{◌≡◌, ◌↔◌, ◌<◌, ℕ, Bool, map, length, pos, ◌-ℤ◌, IsTrue, MatchResult, Ok, Err};
+ghost use Rattle.std.specs.Prelude.{◌≡◌, ◌↔◌, ◌<◌, ℕ, Bool, map, length, pos, ◌-ℤ◌, IsTrue, MatchResult, Ok, Err, All};
 ghost use Rattle.std.specs.Ordering.{int_eq};
 ghost use Rattle.arbitrary_base.specs.Residue.{wrap};
 ghost use Rattle.arbitrary_int.specs.Step.{StepWithin, result_of, by_meaning, meaning, one_meaning, target_of, two_meaning};
-ghost use Rattle.arbitrary_int.specs.Run.{RunOf, WellFormed};
-ghost use Rattle.arbitrary_int.specs.Widths.{OnlyCheckedArithmetic, RangeWithin, carried_out};
+ghost use Rattle.arbitrary_int.specs.Run.{RunOf};
+ghost use Rattle.arbitrary_int.specs.Widths.{RangeWithin, carried_out, IsCheckedArithmetic};
 
 use crate::steps::{ByOp, OneOp, Step, Stop, TwoOp, Why};
 use arbitrary_calls::fixed_width::FixedWidth;
@@ -13,7 +13,7 @@ use arbitrary_traits::integer::Integer;
 
 /// Whether each register number of the steps is below `n`.
 pub fn well_formed(steps: &[Step], n: usize) -> bool
-    ensures { IsTrue result ↔ WellFormed steps.now n }
+    ensures { IsTrue result ↔ All (StepWithin n) steps.now }
 {
     steps.iter().all(|step| is_within(step, n))
 }
@@ -192,10 +192,10 @@ fn apply<R: FixedWidth>(step: &Step, registers: &mut [R]) -> Result<(), Why>
 /// give the same numbers, and no stop, at every type whose range has that of `R`.
 #[tactic(auto, using(crate::proofs::RunLemmas::runs))]
 pub fn run<R: FixedWidth>(steps: &[Step], registers: &mut [R]) -> Result<(), Stop>
-    requires { WellFormed steps.now (length registers.old) }
+    requires { All (StepWithin (length registers.old)) steps.now }
     ensures registers { map R.number registers.new ≡ (RunOf R.IS_SIGNED R.BITS steps.now (map R.number registers.old)).0 }
     ensures ending { result ≡ (RunOf R.IS_SIGNED R.BITS steps.now (map R.number registers.old)).1 }
-    ensures wider { OnlyCheckedArithmetic steps.now → (s : Bool) (B : ℕ) → RangeWithin R.IS_SIGNED R.BITS s B
+    ensures wider { All IsCheckedArithmetic steps.now → (s : Bool) (B : ℕ) → RangeWithin R.IS_SIGNED R.BITS s B
         → RunOf s B (carried_out result steps.now) (map R.number registers.old) ≡ (map R.number registers.new, Ok tt) }
 {
     for (at, step) in steps.iter().enumerate() {

@@ -1,8 +1,7 @@
 //! Steps from one value to another.
 
-ghost use Rattle.std.specs.Prelude.{◌≡◌, ◌+ℤ◌, ◌-ℤ◌, ◌≤ℤ◌, ◌<ℤ◌, pos};
+ghost use Rattle.std.specs.Prelude.{◌≡◌, ◌+ℤ◌, ◌-ℤ◌, ◌≤ℤ◌, ◌<ℤ◌, pos, SomeIff, option_map};
 ghost use Rattle.arbitrary_base.specs.Range.{InRange};
-ghost use Rattle.arbitrary_base.specs.Exact.{ExactOrNone};
 ghost use Rattle.arbitrary_int.specs.Row.{StepsBetween};
 
 use arbitrary_base::storage::Storage;
@@ -82,7 +81,9 @@ pub trait Stepping: FixedWidth {
     /// The value `count` steps above, and `None` exactly where the type has none.
     #[tactic(auto, using(crate::proofs::Rows::ends))]
     final fn forward_checked(start: Self, count: usize) -> Option<Self>
-        ensures { ExactOrNone Self.number Self.IS_SIGNED Self.BITS (Self.number start +ℤ pos count) result }
+        ensures { SomeIff (option_map Self.number result)
+            (InRange Self.IS_SIGNED Self.BITS (Self.number start +ℤ pos count))
+            (Self.number start +ℤ pos count) }
     {
         let _known = start.to_u128_bits();
         if count as u128 <= distance(start, Self::max_value()) {
@@ -95,7 +96,9 @@ pub trait Stepping: FixedWidth {
     /// The value `count` steps below, and `None` exactly where the type has none.
     #[tactic(auto, using(crate::proofs::Rows::ends))]
     final fn backward_checked(start: Self, count: usize) -> Option<Self>
-        ensures { ExactOrNone Self.number Self.IS_SIGNED Self.BITS (Self.number start -ℤ pos count) result }
+        ensures { SomeIff (option_map Self.number result)
+            (InRange Self.IS_SIGNED Self.BITS (Self.number start -ℤ pos count))
+            (Self.number start -ℤ pos count) }
     {
         let _known = start.to_u128_bits();
         if count as u128 <= distance(Self::min_value(), start) {

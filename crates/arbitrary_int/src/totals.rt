@@ -1,8 +1,8 @@
 //! Sums and products of many values, from the left.
 
-ghost use Rattle.std.specs.Prelude.{◌+ℤ◌, ◌*ℤ◌, pos};
+ghost use Rattle.std.specs.Prelude.{◌+ℤ◌, ◌*ℤ◌, pos, SomeIff, option_map};
+ghost use Rattle.arbitrary_base.specs.Range.{InRange};
 ghost use Rattle.std.specs.Iterator.{IsFinite};
-ghost use Rattle.arbitrary_base.specs.Exact.{ExactOrNone};
 ghost use Rattle.arbitrary_int.specs.Total.{TotalOrNone};
 
 use arbitrary_calls::fixed_width::FixedWidth;
@@ -29,7 +29,7 @@ pub fn try_sum<V: FixedWidth, I: Iterator<Item = V> + Drop>(iter: I) -> Option<V
 #[tactic(auto, using(crate::proofs::TotalSteps::one_laws))]
 fn one<V: FixedWidth>() -> Option<V>
     requires { V.valid }
-    ensures { ExactOrNone V.number V.IS_SIGNED V.BITS (pos 1) result }
+    ensures { SomeIff (option_map V.number result) (InRange V.IS_SIGNED V.BITS (pos 1)) (pos 1) }
 {
     let signed = V::IS_SIGNED;
     if !signed {

@@ -1,9 +1,10 @@
 //! Lists of steps on wide registers of which the low bits are wanted.
 
-ghost use Rattle.std.specs.Prelude.{◌≡◌, ◌<◌, ◌≤◌, map, length, Ok};
+ghost use Rattle.std.specs.Prelude.{◌≡◌, ◌<◌, ◌≤◌, map, length, Ok, All};
+ghost use Rattle.arbitrary_int.specs.Widths.{IsLowBit};
+ghost use Rattle.arbitrary_int.specs.Step.{StepWithin};
 ghost use Rattle.arbitrary_base.specs.Residue.{wrap};
-ghost use Rattle.arbitrary_int.specs.Run.{RunOf, WellFormed};
-ghost use Rattle.arbitrary_int.specs.Widths.{OnlyLowBits};
+ghost use Rattle.arbitrary_int.specs.Run.{RunOf};
 
 use crate::runs::run;
 use crate::steps::{Step, Stop};
@@ -44,14 +45,14 @@ pub fn run_wide<W: FixedWidth, N: FixedWidth>(
     wide: &mut [W],
     narrow: &mut [N],
 ) -> Result<(), Stop>
-    requires well_formed { WellFormed steps.now (length wide.old) }
+    requires well_formed { All (StepWithin (length wide.old)) steps.now }
     requires same_length { length wide.old ≡ length narrow.old }
     ensures registers { map W.number wide.new ≡ (RunOf W.IS_SIGNED W.BITS steps.now (map W.number wide.old)).0 }
     ensures ending { result ≡ (RunOf W.IS_SIGNED W.BITS steps.now (map W.number wide.old)).1 }
     ensures low { map N.number narrow.new ≡ map (wrap N.IS_SIGNED N.BITS) (map W.number wide.new) }
-    ensures low_run { N.BITS ≤ W.BITS → OnlyLowBits N.BITS steps.now
+    ensures low_run { N.BITS ≤ W.BITS → All (IsLowBit N.BITS) steps.now
         → RunOf N.IS_SIGNED N.BITS steps.now (map (wrap N.IS_SIGNED N.BITS) (map W.number wide.old)) ≡ (map N.number narrow.new, Ok tt) }
-    ensures low_ending { N.BITS ≤ W.BITS → OnlyLowBits N.BITS steps.now → result ≡ Ok tt }
+    ensures low_ending { N.BITS ≤ W.BITS → All (IsLowBit N.BITS) steps.now → result ≡ Ok tt }
 {
     let ending = run(steps, wide);
     narrow_all(wide, narrow);

@@ -1,11 +1,11 @@
 //! The integer traits.
 
-ghost use Rattle.std.specs.Prelude.{◌≡◌, ◌≢◌, ◌≤◌, ◌+ℤ◌, ◌-ℤ◌, ◌*ℤ◌, ℕ, ℤ, Bool, true, false, pos, neg_ℤ, Some, MatchResult, int_div};
+ghost use Rattle.std.specs.Prelude.{◌≡◌, ◌≢◌, ◌≤◌, ◌+ℤ◌, ◌-ℤ◌, ◌*ℤ◌, ℕ, ℤ, Bool, true, false, pos, neg_ℤ, Some, MatchResult, int_div, map, not};
 ghost use Rattle.std.specs.Ordering.{int_cmp, int_eq};
 ghost use Rattle.std.specs.Fmt.{signed_decimal};
 ghost use Rattle.arbitrary_base.specs.Range.{lo, hi, InRange};
 ghost use Rattle.arbitrary_base.specs.Residue.{residue, wrap, Congruent};
-ghost use Rattle.arbitrary_base.specs.BitList.{bits, bits_and, bits_not, bits_or, bits_xor, val};
+ghost use Rattle.arbitrary_base.specs.BitList.{bits, bits_and, bits_or, bits_xor, val};
 ghost use Rattle.arbitrary_traits.specs.Assigned.{IsAssigned};
 
 use arbitrary_base::error::TryNewError;
@@ -359,7 +359,7 @@ pub trait Integer: Copy
     ghost can_not_law: { (a : Self) → Self.can_not a };
 
     ghost not_law: { (a r : Self) → Self.not_gives a r → InRange IS_SIGNED BITS (number a)
-        → number r ≡ val IS_SIGNED (bits_not (bits BITS (number a))) };
+        → number r ≡ val IS_SIGNED (map not (bits BITS (number a))) };
 
     // Each assigning form may be made where its operator may, and gives what that gives.
     ghost assign_law: { IsAssigned Self.can_add Self.can_add_assign Self.add_gives Self.add_assign_gives

@@ -1,10 +1,10 @@
 //! The primitive integers, as integer types, by their calls as storages: every width is valid, and every value is in range.
 
-ghost use Rattle.std.specs.Prelude.{◌≡◌, ◌≢◌, ◌+ℤ◌, ◌-ℤ◌, ◌*ℤ◌, ⊤, pos, Some, int_div};
+ghost use Rattle.std.specs.Prelude.{◌≡◌, ◌≢◌, ◌+ℤ◌, ◌-ℤ◌, ◌*ℤ◌, ⊤, pos, Some, int_div, map, not};
 ghost use Rattle.std.specs.Ordering.{int_eq};
 ghost use Rattle.std.specs.Fmt.{signed_decimal};
 ghost use Rattle.arbitrary_base.specs.Range.{InRange};
-ghost use Rattle.arbitrary_base.specs.BitList.{bits, bits_and, bits_not, bits_or, bits_xor, val};
+ghost use Rattle.arbitrary_base.specs.BitList.{bits, bits_and, bits_or, bits_xor, val};
 ghost use Rattle.arbitrary_traits.specs.Assigned.{IsAssigned};
 
 use crate::integer::Integer;
@@ -93,7 +93,7 @@ pub trait Primitive: BuiltinInteger
     ghost can_not_law: { (a : Self) → Self.can_not a };
 
     ghost not_law: { (a r : Self) → Self.not_gives a r → InRange Self.SIGNED Self.WIDTH (Self.number a)
-        → Self.number r ≡ val Self.SIGNED (bits_not (bits Self.WIDTH (Self.number a))) };
+        → Self.number r ≡ val Self.SIGNED (map not (bits Self.WIDTH (Self.number a))) };
 
     // Each assigning form may be made where its operator may, and gives what that gives.
     ghost assign_law: { IsAssigned Self.can_add Self.can_add_assign Self.add_gives Self.add_assign_gives

@@ -4,7 +4,7 @@ use Rattle.std.proofs.Common.{arith, ap, sym, bit_and, ◌∙◌, take-append-dr
 use Rattle.std.proofs.lemmas.Nat.{and_mask}
 use Rattle.arbitrary_int.specs.Range.{InRange}
 use Rattle.arbitrary_int.specs.Residue.{residue}
-use Rattle.arbitrary_int.specs.BitList.{bits, num, val, items}
+use Rattle.arbitrary_int.specs.BitList.{bits, num, val}
 use Rattle.arbitrary_int.specs.BitField.{field_bits, with_field}
 use Rattle.arbitrary_int.proofs.Truncation.{masked-residue}
 use Rattle.arbitrary_int.proofs.UnsignedNumber.{length-bits, num-bits_small}
@@ -21,18 +21,18 @@ pub put-is : (word start width count p new : ℕ) (x : ℤ) → count ≡ width 
 put-is word start width count p new x c f e = f ∙ ap (λ (n : ℕ). with_field word start (bits n (pos p))) c ∙ ap (with_field word start) (bits-residue width p x e)
 
 -- a list with its own middle put into its middle
-put-back : (start count : ℕ) (l : List Bool) → take start l ++ items start count l ++ drop (start + count) l ≡ l
+put-back : (start count : ℕ) (l : List Bool) → take start l ++ take count (drop start l) ++ drop (start + count) l ≡ l
 put-back start count l =
-    append_assoc (take start l) (items start count l) (drop (start + count) l)
-    ∙ ap (λ (m : List Bool). take start l ++ (items start count l ++ m)) (sym (drop-drop count start l))
+    append_assoc (take start l) (take count (drop start l)) (drop (start + count) l)
+    ∙ ap (λ (m : List Bool). take start l ++ (take count (drop start l) ++ m)) (sym (drop-drop count start l))
     ∙ ap (λ (m : List Bool). take start l ++ m) (take-append-drop count (drop start l))
     ∙ take-append-drop start l
 
 same-field : (word start width : ℕ) → word < 2 ^ 128 → start + width ≤ 128 → with_field word start (field_bits word start width) ≡ word
 unfolding with_field field_bits
 same-field word start width h g =
-    let n : length (items start width (bits 128 (pos word))) ≡ width = let all = length-bits 128 (pos word) in simp (length-drop, length-take) (omega arith) in
-    ap num (ap (λ (k : ℕ). take start (bits 128 (pos word)) ++ items start width (bits 128 (pos word)) ++ drop (start + k) (bits 128 (pos word))) n
+    let n : length (take width (drop start (bits 128 (pos word)))) ≡ width = let all = length-bits 128 (pos word) in simp (length-drop, length-take) (omega arith) in
+    ap num (ap (λ (k : ℕ). take start (bits 128 (pos word)) ++ take width (drop start (bits 128 (pos word))) ++ drop (start + k) (bits 128 (pos word))) n
     ∙ put-back start width (bits 128 (pos word)))
     ∙ num-bits_small 128 word h
 

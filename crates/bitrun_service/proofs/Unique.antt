@@ -5,7 +5,7 @@ use Rattle.std.proofs.lemmas.Bool.{cases_order}
 use Rattle.arbitrary_int.specs.declared.steps.Step.{Step}
 use Rattle.bitrun_text.specs.Text.{has_items}
 use Rattle.bitrun_text.specs.Numeral.{value_named}
-use Rattle.bitrun_text.specs.Kind.{sign_of, width_of, kind_named}
+use Rattle.bitrun_text.specs.Kind.{kind_named, type_row, type_of}
 use Rattle.bitrun_text.specs.Operation.{step_named}
 use Rattle.bitrun_text.specs.Form.{Form, BadLine, IsValue, IsStep}
 use Rattle.bitrun_service.specs.Output.{IsOutput}
@@ -37,7 +37,7 @@ one_form : (input : List ℕ) (k l : Kind) (xs ys : List ℤ) (ss ts : List Step
 one_form input k l xs ys ss ts f g =
     let parts = parts_same f.first f.second g.first g.second f.later g.later (sym f.lines ∙ g.lines) in
     let kinds : k ≡ l = same_some (kind_named f.first) k l f.names_kind (rw parts.0 g.names_kind) in
-    let registers : xs ≡ ys = zip_once (IsValue (sign_of k) (width_of k)) (λ w x y. same_some (value_named (sign_of k) (width_of k) w) x y) f.second xs ys f.holds_registers (rw (kinds, parts.1) g.holds_registers) in
+    let registers : xs ≡ ys = zip_once (IsValue (type_row (type_of k)).1 (type_row (type_of k)).2) (λ w x y. same_some (value_named (type_row (type_of k)).1 (type_row (type_of k)).2 w) x y) f.second xs ys f.holds_registers (rw (kinds, parts.1) g.holds_registers) in
     let steps : ss ≡ ts = zip_once (IsStep (length xs)) (λ w s t. same_some (step_named (length xs) w) s t) (filter has_items f.later) ss ts f.names_steps (rw (registers, parts.2) g.names_steps) in
     (kinds, registers, steps)
 

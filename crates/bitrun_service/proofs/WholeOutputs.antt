@@ -1,15 +1,15 @@
--- The output of the lines is the output to the input, and an input with an output has no bad line.
+-- The output of the lines is the output to the input, and each line of an input with an output has its form.
 use Rattle.std.proofs.Common.{◌≡◌, ℕ, List, ◌∷◌, Some}
 use Rattle.bitrun_text.specs.Text.{word_lines}
-use Rattle.bitrun_text.specs.Kind.{sign_of, width_of, kind_named}
-use Rattle.bitrun_text.specs.Form.{HasNoBadLine}
+use Rattle.bitrun_text.specs.Kind.{kind_named, type_row, type_of}
+use Rattle.bitrun_text.specs.Form.{HasForm}
 use Rattle.bitrun_text.specs.declared.kind.Kind.{Kind}
 use Rattle.bitrun_text.proofs.Forms.{no_first_line, first_line_bad, no_second_line, fault_of_lines, form_is_fine}
 use Rattle.bitrun_service.specs.Output.{IsOutput, IsOutputAt, text_for}
 
 pub output_of_lines : (input : List ℕ) (first : List (List ℕ)) (kind : Kind) → kind_named first ≡ Some kind
     → (second : List (List ℕ)) (later : List (List (List ℕ))) → word_lines input ≡ first ∷ second ∷ later
-    → (text : List ℕ) → IsOutputAt (sign_of kind) (width_of kind) (text_for kind) second later text → IsOutput input text
+    → (text : List ℕ) → IsOutputAt (type_row (type_of kind)).1 (type_row (type_of kind)).2 (text_for kind) second later text → IsOutput input text
 output_of_lines input first kind named second later lines text output = record {
   kind = kind;
   registers = output.registers;
@@ -26,7 +26,7 @@ output_of_lines input first kind named second later lines text output = record {
   written = output.written;
 }
 
-pub output_is_fine : (input text : List ℕ) → IsOutput input text → HasNoBadLine input
+pub output_is_fine : (input text : List ℕ) → IsOutput input text → (i : ℕ) → HasForm (word_lines input) i
 output_is_fine input text output = form_is_fine input output.kind output.registers output.steps output.form
 
 pub ruleset outputs = (no_first_line, first_line_bad, no_second_line, fault_of_lines, output_of_lines)

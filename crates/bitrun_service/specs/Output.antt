@@ -8,9 +8,9 @@ use Rattle.arbitrary_int.specs.declared.steps.Step.{Step}
 use Rattle.arbitrary_int.specs.declared.steps.Stop.{Stop}
 use Rattle.arbitrary_int.specs.declared.steps.Why.{Why}
 use Rattle.arbitrary_int.specs.declared.steps.Why.TheVariants.{Refused, ZeroDivisor}
-use Rattle.bitrun_text.specs.Text.{has_items, lf, space}
+use Rattle.bitrun_text.specs.Text.{has_items}
 use Rattle.bitrun_text.specs.Form.{Form, IsValue, IsStep}
-use Rattle.bitrun_text.specs.Kind.{type_row, types_of, sign_of, width_of}
+use Rattle.bitrun_text.specs.Kind.{type_row, types_of, type_of}
 use Rattle.bitrun_text.specs.declared.kind.Kind.{Kind}
 use Rattle.bitrun_text.specs.declared.kind.Kind.TheVariants as kinds
 
@@ -23,17 +23,13 @@ abbrev pub ending_text : Result ⊤ Stop → List ℕ
 ending_text (Ok u) = codes "done"
 ending_text (Err stop) = codes "stopped at " ++ decimal stop.at ++ codes ": " ++ cause_text stop.why
 
--- the registers with one space between
-abbrev pub registers_text : List ℤ → List ℕ
-registers_text registers = join_with_byte space (map signed_decimal registers)
-
--- the registers, and how the run ended
+-- the registers with one space between, and how the run ended, each on its line
 abbrev pub output_text : List ℤ × Result ⊤ Stop → List ℕ
-output_text run = registers_text run.0 ++ lf ∷ (ending_text run.1 ++ lf ∷ [])
+output_text run = join_with_byte 32 (map signed_decimal run.0) ++ 10 ∷ (ending_text run.1 ++ 10 ∷ [])
 
 -- the registers, the truncation of them at the sign s and the width B, and how the run ended
 abbrev pub wide_output_text : Bool → ℕ → List ℤ × Result ⊤ Stop → List ℕ
-wide_output_text s B run = registers_text run.0 ++ lf ∷ output_text (map (wrap s B) run.0, run.1)
+wide_output_text s B run = join_with_byte 32 (map signed_decimal run.0) ++ 10 ∷ output_text (map (wrap s B) run.0, run.1)
 
 abbrev pub text_for : Kind → List ℤ × Result ⊤ Stop → List ℕ
 text_for (kinds.Run type) = output_text
@@ -44,12 +40,12 @@ pub record IsOutput (input text : List ℕ) : Type 0 where
   pub registers : List ℤ
   pub steps : List Step
   pub form : Form input kind registers steps
-  pub written : text ≡ text_for kind (RunOf (sign_of kind) (width_of kind) steps registers)
+  pub written : text ≡ text_for kind (RunOf (type_row (type_of kind)).1 (type_row (type_of kind)).2 steps registers)
 
 -- ---- what the parts of the writer say
 
 abbrev pub after_space : ℤ → List ℕ
-after_space x = space ∷ signed_decimal x
+after_space x = 32 ∷ signed_decimal x
 
 -- the output of the lines from the second on, where the first names a type of the sign s and the width B, and a way to write a run
 pub record IsOutputAt (s : Bool) (B : ℕ) (write : List ℤ × Result ⊤ Stop → List ℕ) (second : List (List ℕ)) (later : List (List (List ℕ))) (text : List ℕ) : Type 0 where

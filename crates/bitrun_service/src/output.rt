@@ -1,11 +1,11 @@
 //! The output to an input: its lines read, and the steps run at the type that the first one names. `bitrun_text` reads the lines,
 //! `running` runs the steps at one type, and `serving` takes the bytes in and out.
 
-ghost use Rattle.std.specs.Prelude.{◌≡◌, ◌≤◌, length, map, filter, IfOk, IfErr};
+ghost use Rattle.std.specs.Prelude.{◌≡◌, ◌≤◌, length, map, filter, IfOk, IfErr, All};
+ghost use Rattle.bitrun_text.specs.Kind.{type_row, type_of};
+ghost use Rattle.arbitrary_int.specs.Step.{StepWithin};
 ghost use Rattle.std.specs.List.{AllZip};
-ghost use Rattle.arbitrary_int.specs.Run.{WellFormed};
 ghost use Rattle.bitrun_text.specs.Text.{Left, has_items};
-ghost use Rattle.bitrun_text.specs.Kind.{sign_of, width_of};
 ghost use Rattle.bitrun_text.specs.Form.{IsStep, IsValue, LinesFault, FormFault};
 ghost use Rattle.bitrun_service.specs.Output.{output_text, wide_output_text, text_for, IsOutput, IsOutputAt};
 
@@ -44,8 +44,8 @@ fn output_with<'a, A: Allocator>(
     lines: &mut Cursor,
 ) -> Result<Vec<u8, &'a A>, Fault>
     requires { length lines.old.later ≤ 65536 }
-    ensures found { IfOk result (λ text. IsOutputAt (sign_of kind) (width_of kind) (text_for kind) lines.old.words lines.old.later text.items) }
-    ensures fault { IfErr result (LinesFault (sign_of kind) (width_of kind) lines.old.words lines.old.later) }
+    ensures found { IfOk result (λ text. IsOutputAt (type_row (type_of kind)).1 (type_row (type_of kind)).2 (text_for kind) lines.old.words lines.old.later text.items) }
+    ensures fault { IfErr result (LinesFault (type_row (type_of kind)).1 (type_row (type_of kind)).2 lines.old.words lines.old.later) }
 {
     match kind {
         Kind::Run(RegisterType::U1) => output_at::<u1, A>(alloc, lines),
@@ -105,7 +105,7 @@ fn registers_and_steps<'a, R: FixedWidth, A: Allocator>(
     requires short { length lines.old.later ≤ 65536 }
     ensures registers { IfOk result (λ read. AllZip (IsValue R.IS_SIGNED R.BITS) lines.old.words (map R.number read.0.items)) }
     ensures steps { IfOk result (λ read. AllZip (IsStep (length read.0.items)) (filter has_items lines.old.later) read.1.items) }
-    ensures within { IfOk result (λ read. WellFormed read.1.items (length read.0.items)) }
+    ensures within { IfOk result (λ read. All (StepWithin (length read.0.items)) read.1.items) }
     ensures fault { IfErr result (LinesFault R.IS_SIGNED R.BITS lines.old.words lines.old.later) }
 {
     let Some(registers) = registers::<R, A>(alloc, lines)? else {

@@ -3,7 +3,7 @@
 ghost use Rattle.std.specs.Prelude.{◌≡◌, ◌≤◌, ◌<◌, ◌^◌, ◌∷◌, ◌++◌, [], map, unsigned_abs, OnOk};
 ghost use Rattle.std.specs.List.{flat_map, join_with_byte};
 ghost use Rattle.std.specs.Fmt.{signed_decimal};
-ghost use Rattle.bitrun_service.specs.Output.{after_space, cause_text, ending_text, registers_text, output_text};
+ghost use Rattle.bitrun_service.specs.Output.{after_space, cause_text, ending_text, output_text};
 
 use crate::decimal::push_decimal;
 use arbitrary_int::traits::{FixedWidth, Integer};
@@ -19,7 +19,7 @@ pub(crate) fn push_wide_output<W: FixedWidth, N: FixedWidth, B: Allocator>(
 ) -> Result<(), AllocError>
     requires wide_fits { W.BITS ≤ 120 }
     requires narrow_fits { N.BITS ≤ 120 }
-    ensures { OnOk result (text.new.items ≡ text.old.items ++ (registers_text (map W.number wide.now) ++ 10 ∷ output_text (map N.number narrow.now, ending))) }
+    ensures { OnOk result (text.new.items ≡ text.old.items ++ (join_with_byte 32 (map signed_decimal (map W.number wide.now)) ++ 10 ∷ output_text (map N.number narrow.now, ending))) }
 {
     push_registers(text, wide)?;
     text.push(b'\n')?;

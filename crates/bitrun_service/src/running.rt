@@ -1,7 +1,8 @@
 //! A run of the steps, and the text of what it leaves.
 
-ghost use Rattle.std.specs.Prelude.{◌≡◌, ◌≤◌, length, map, IfOk};
-ghost use Rattle.arbitrary_int.specs.Run.{RunOf, WellFormed};
+ghost use Rattle.std.specs.Prelude.{◌≡◌, ◌≤◌, length, map, IfOk, All};
+ghost use Rattle.arbitrary_int.specs.Step.{StepWithin};
+ghost use Rattle.arbitrary_int.specs.Run.{RunOf};
 ghost use Rattle.bitrun_service.specs.Output.{output_text, wide_output_text};
 
 use crate::printing::{push_output, push_wide_output};
@@ -15,7 +16,7 @@ pub(crate) fn run_text<'a, R: FixedWidth, A: Allocator>(
     steps: &[Step],
     registers: &mut [R],
 ) -> Result<Vec<u8, &'a A>, AllocError>
-    requires within { WellFormed steps.now (length registers.old) }
+    requires within { All (StepWithin (length registers.old)) steps.now }
     requires narrow { R.BITS ≤ 120 }
     ensures { IfOk result (λ text. text.items ≡ output_text (RunOf R.IS_SIGNED R.BITS steps.now (map R.number registers.old))) }
 {
@@ -31,7 +32,7 @@ pub(crate) fn wide_run_text<'a, W: FixedWidth, N: FixedWidth, A: Allocator>(
     steps: &[Step],
     wide: &mut [W],
 ) -> Result<Vec<u8, &'a A>, AllocError>
-    requires within { WellFormed steps.now (length wide.old) }
+    requires within { All (StepWithin (length wide.old)) steps.now }
     requires wide_fits { W.BITS ≤ 120 }
     requires narrow_width { N.valid }
     requires narrow_fits { N.BITS ≤ 120 }

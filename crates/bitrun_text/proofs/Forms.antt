@@ -7,9 +7,9 @@ use Rattle.std.proofs.lemmas.List.Splits.{slice_split-cons_no, slice_split-cons_
 use Rattle.arbitrary_int.specs.declared.steps.Step.{Step}
 use Rattle.bitrun_text.specs.Text.{has_items, ends_line, without_empty_last, lines_of, words_of, word_lines}
 use Rattle.bitrun_text.specs.Numeral.{value_named}
-use Rattle.bitrun_text.specs.Kind.{sign_of, width_of, kind_named}
+use Rattle.bitrun_text.specs.Kind.{kind_named, type_row, type_of}
 use Rattle.bitrun_text.specs.Operation.{step_named}
-use Rattle.bitrun_text.specs.Form.{Form, BadLine, HasNoBadLine, HasForm, HasRegistersForm, HasStepForm, FirstBad, IsValue, IsStep, StepsFault, LinesFault, FormFault}
+use Rattle.bitrun_text.specs.Form.{Form, BadLine, HasForm, HasRegistersForm, HasStepForm, FirstBad, IsValue, IsStep, StepsFault, LinesFault, FormFault}
 use Rattle.bitrun_text.specs.declared.fault.Fault.{Fault}
 use Rattle.bitrun_text.specs.declared.fault.Fault.TheVariants as faults
 use Rattle.bitrun_text.specs.declared.kind.Kind.{Kind}
@@ -73,7 +73,7 @@ module _ (input : List ℕ) (first : List (List ℕ)) (kind : Kind) (named : kin
 
   module _ (second : List (List ℕ)) (later : List (List (List ℕ))) (lines : word_lines input ≡ first ∷ second ∷ later) where
     -- the second line is bad
-    second_line_bad : (HasRegistersForm (sign_of kind) (width_of kind) second → ⊥) → BadLine input 2
+    second_line_bad : (HasRegistersForm (type_row (type_of kind)).1 (type_row (type_of kind)).2 second → ⊥) → BadLine input 2
     second_line_bad bad = line_bad input (first ∷ second ∷ later) 1 lines other least
       where
         other : HasForm (first ∷ second ∷ later) 1 → ⊥
@@ -84,7 +84,7 @@ module _ (input : List ℕ) (first : List (List ℕ)) (kind : Kind) (named : kin
         least (suc i) lt = absurd (omega arith)
 
     -- a later line is bad
-    later_line_bad : HasRegistersForm (sign_of kind) (width_of kind) second → (i : ℕ) → FirstBad (HasStepForm (length second)) later i → BadLine input (i + 3)
+    later_line_bad : HasRegistersForm (type_row (type_of kind)).1 (type_row (type_of kind)).2 second → (i : ℕ) → FirstBad (HasStepForm (length second)) later i → BadLine input (i + 3)
     later_line_bad fine i bad =
         let place : i + 3 ≡ suc (suc (suc i)) = omega arith in
         rw place (line_bad input (first ∷ second ∷ later) (suc (suc i)) lines (at_first (HasStepForm (length second)) later i bad) least)
@@ -95,7 +95,7 @@ module _ (input : List ℕ) (first : List (List ℕ)) (kind : Kind) (named : kin
         least (suc (suc j)) lt = before_first_bad (HasStepForm (length second)) later i j bad (omega arith)
 
     -- a fault of the lines from the second on is one of the input
-    pub fault_of_lines : (fault : Fault) → LinesFault (sign_of kind) (width_of kind) second later fault → FormFault input fault
+    pub fault_of_lines : (fault : Fault) → LinesFault (type_row (type_of kind)).1 (type_row (type_of kind)).2 second later fault → FormFault input fault
     fault_of_lines (faults.Line k) (inl h) = rw h.0 (second_line_bad h.1)
     fault_of_lines (faults.Line k) (inr h) = rw h.1.1 (later_line_bad h.0 h.1.0 h.1.2)
     fault_of_lines faults.Memory h = tt
@@ -113,13 +113,13 @@ steps_fine count ((word ∷ words) ∷ later) [] i h = absurd h
 steps_fine count ((word ∷ words) ∷ later) (step ∷ steps) zero h = some_from (step_named count (word ∷ words)) step h.0
 steps_fine count ((word ∷ words) ∷ later) (step ∷ steps) (suc i) h = steps_fine count later steps i h.1
 
-pub form_is_fine : (input : List ℕ) (kind : Kind) (registers : List ℤ) (steps : List Step) → Form input kind registers steps → HasNoBadLine input
-form_is_fine input kind registers steps form = record { none = λ line bad. bad.bad (rw form.lines (fine bad.before)) }
+pub form_is_fine : (input : List ℕ) (kind : Kind) (registers : List ℤ) (steps : List Step) → Form input kind registers steps → (i : ℕ) → HasForm (word_lines input) i
+form_is_fine input kind registers steps form i = rw form.lines (fine i)
   where
     fine : (i : ℕ) → HasForm (form.first ∷ form.second ∷ form.later) i
     fine zero = some_from (kind_named form.first) kind form.names_kind
-    fine (suc zero) = (kind, form.names_kind, values_are (sign_of kind) (width_of kind) form.second registers form.holds_registers)
-    fine (suc (suc i)) = rw (as_long (IsValue (sign_of kind) (width_of kind)) form.second registers form.holds_registers) (steps_fine (length registers) form.later steps i form.names_steps)
+    fine (suc zero) = (kind, form.names_kind, values_are (type_row (type_of kind)).1 (type_row (type_of kind)).2 form.second registers form.holds_registers)
+    fine (suc (suc i)) = rw (as_long (IsValue (type_row (type_of kind)).1 (type_row (type_of kind)).2) form.second registers form.holds_registers) (steps_fine (length registers) form.later steps i form.names_steps)
 
 -- ---- there are no more lines than bytes
 

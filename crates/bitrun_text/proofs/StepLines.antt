@@ -1,9 +1,9 @@
 -- One more of the lines after the second.
 use Rattle.std.proofs.Common.{◌≡◌, ◌≤◌, ◌+◌, ◌-◌, ℕ, suc, List, [], ◌∷◌, ◌++◌, length, filter, Some, None, is_some, true, sym, refl, ap, arith, append_assoc}
+use Rattle.std.specs.Prelude.{All}
 use Rattle.std.specs.List.{AllZip}
 use Rattle.std.proofs.lemmas.List.Elements.{All-push}
 use Rattle.arbitrary_int.specs.declared.steps.Step.{Step}
-use Rattle.arbitrary_int.specs.Run.{WellFormed}
 use Rattle.arbitrary_int.specs.Step.{StepWithin}
 use Rattle.bitrun_text.specs.Text.{has_items}
 use Rattle.bitrun_text.specs.Operation.{step_named}
@@ -13,7 +13,7 @@ use Rattle.bitrun_text.specs.Form.{IsStep, HasStepForm, FirstBad}
 pub record ReadSoFar (count : ℕ) (all : List (List (List ℕ))) (steps : List Step) (number : ℕ) (left : List (List (List ℕ))) : Type 0 where
   pub found : (others : List Step) → AllZip (IsStep count) (filter has_items left) others → AllZip (IsStep count) (filter has_items all) (steps ++ others)
   pub fault : (i : ℕ) → FirstBad (HasStepForm count) left i → FirstBad (HasStepForm count) all (number - 2 + i)
-  pub within : WellFormed steps count
+  pub within : All (StepWithin count) steps
   pub counted : number + length left ≡ 2 + length all
   pub start : 2 ≤ number
 

@@ -1,5 +1,6 @@
 -- The numbers of a step, taken off its words one by one.
-use Rattle.std.proofs.Common.{◌≡◌, ℕ, ◌^◌, ◌==◌, false, List, [], ◌∷◌, length, Option, Some, None, option_map, refl, arith}
+use Rattle.std.proofs.Common.{◌≡◌, ℕ, ◌^◌, ◌==◌, false, List, [], ◌∷◌, length, Option, Some, None, option_map, option_and_then, refl, arith}
+use Rattle.std.specs.Option.{option_zip}
 use Rattle.std.proofs.lemmas.Bool.{ne_eqb}
 use Rattle.arbitrary_int.specs.declared.steps.Step.{Step}
 use Rattle.arbitrary_int.specs.declared.steps.Step.TheVariants as steps
@@ -7,8 +8,12 @@ use Rattle.arbitrary_int.specs.declared.steps.TwoOp.{TwoOp}
 use Rattle.arbitrary_int.specs.declared.steps.OneOp.{OneOp}
 use Rattle.arbitrary_int.specs.declared.steps.ByOp.{ByOp}
 use Rattle.bitrun_text.specs.Numeral.{number_below, first_number}
-use Rattle.bitrun_text.specs.Operation.{◌>>=◌, at_end, step_with}
+use Rattle.bitrun_text.specs.Operation.{at_end, step_with}
 use Rattle.bitrun_text.specs.declared.operation.Operation.TheVariants as operations
+
+infixl 10 ◌>>=◌
+abbrev ◌>>=◌ : {A B : Type 0} → Option A → (A → Option B) → Option B
+o >>= f = option_and_then f o
 
 more : (word : List ℕ) (words : List (List ℕ)) → (length (word ∷ words) == 0) ≡ false
 more word words = ne_eqb (length (word ∷ words)) 0 (omega arith)
@@ -16,10 +21,8 @@ more word words = ne_eqb (length (word ∷ words)) 0 (omega arith)
 -- ---- three numbers, of which the last has a limit of its own
 
 abbrev three : ℕ → ℕ → (ℕ → ℕ → ℕ → Step) → List (List ℕ) → Option Step
-three count limit step (first ∷ second ∷ third ∷ []) = do
-  to ← number_below count first
-  left ← number_below count second
-  option_map (step to left) (number_below limit third)
+three count limit step (first ∷ second ∷ third ∷ []) = option_map (λ n. step n.0 n.1.0 n.1.1)
+    (option_zip (number_below count first) (option_zip (number_below count second) (number_below limit third)))
 three count limit step words = None
 
 abbrev three_by_one : ℕ → ℕ → (ℕ → ℕ → ℕ → Step) → List (List ℕ) → Option Step

@@ -1,13 +1,13 @@
 -- The number that a word writes, with a minus sign or without one, and whether a type has it.
 use Rattle.std.proofs.Common.{◌≡◌, ◌≢◌, ℕ, zero, suc, ◌<◌, ◌≤◌, ◌^◌, ◌-◌, Bool, true, false, cond, List, [], ◌∷◌, ◌++◌, ltb, Option, Some, None, option_map, option_and_then, MatchOption, ℤ, pos, neg_ℤ, unsigned_abs, refl, sym, ap, ◌∙◌, subst, inl, inr, arith, Bor}
+use Rattle.std.specs.Bool.{then_some}
 use Rattle.std.proofs.lemmas.Bool.{cases_eq, ne_eqb, ltb-false}
 use Rattle.std.proofs.lemmas.Int.{ints}
 use Rattle.std.proofs.Math.Pow.{pow_mono}
-use Rattle.arbitrary_int.specs.Range.{InRange}
+use Rattle.arbitrary_int.specs.Range.{InRange, in_range}
 use Rattle.arbitrary_int.specs.Residue.{residue, wrap}
 use Rattle.arbitrary_int.proofs.Truncation.{in_range-true, in_range-false}
 use Rattle.arbitrary_int.proofs.Residue.{residue-congruent, wrap-in_range, wrap-of_in_range, wrap-same}
-use Rattle.arbitrary_int.specs.Exact.{number_of_type}
 use Rattle.bitrun_text.specs.Numeral.{number_in, integer_in, number_below, value_named, IsFar}
 
 pub plain : (word : List ℕ) → ((rest : List ℕ) → word ≢ 45 ∷ rest) → integer_in word ≡ option_map pos (number_in word)
@@ -92,15 +92,15 @@ module _ (s : Bool) (B : ℕ) (some : 1 ≤ B) (narrow : B ≤ 120) where
     unchanged : wrap true 128 y ≡ y
     unchanged = rw masked (wrap-of_in_range true 128 (wrap s B x) (omega arith) (in_wide (wrap s B x) (wrap-in_range s B x some)).1)
 
-    pub value_kept : wrap true 128 y ≡ x → number_of_type s B x ≡ Some y
+    pub value_kept : wrap true 128 y ≡ x → then_some (in_range s B x) x ≡ Some y
     value_kept e =
         let same : y ≡ x = sym unchanged ∙ e in
         rw (in_range-true s B x (subst (InRange s B) (sym masked ∙ same) (wrap-in_range s B x some))) (ap Some (sym same))
 
-    pub value_lost : wrap true 128 y ≢ x → number_of_type s B x ≡ None
+    pub value_lost : wrap true 128 y ≢ x → then_some (in_range s B x) x ≡ None
     value_lost other = rw (in_range-false s B x (λ f. other (unchanged ∙ masked ∙ wrap-of_in_range s B x some f))) refl
 
-  pub far_none : (o : Option ℤ) → IsFar o → option_and_then (number_of_type s B) o ≡ None
+  pub far_none : (o : Option ℤ) → IsFar o → option_and_then (λ x. then_some (in_range s B x) x) o ≡ None
   far_none None h = refl
   far_none (Some x) h = rw (in_range-false s B x (λ f. let near = (in_wide x f).0 in omega (arith, near, h))) refl
 
@@ -108,6 +108,6 @@ module _ (s : Bool) (B : ℕ) (some : 1 ≤ B) (narrow : B ≤ 120) where
   unfolding value_named
   value-far word h = far_none (integer_in word) h
 
-pub value-near : (s : Bool) (B : ℕ) (word : List ℕ) (x : ℤ) → integer_in word ≡ Some x → value_named s B word ≡ number_of_type s B x
+pub value-near : (s : Bool) (B : ℕ) (word : List ℕ) (x : ℤ) → integer_in word ≡ Some x → value_named s B word ≡ then_some (in_range s B x) x
 unfolding value_named
 value-near s B word x e = rw e refl

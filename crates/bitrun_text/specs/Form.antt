@@ -4,7 +4,7 @@ use Rattle.std.specs.List.{AllZip, AllByRecursion}
 use Rattle.arbitrary_int.specs.declared.steps.Step.{Step}
 use Rattle.bitrun_text.specs.Text.{has_items, word_lines}
 use Rattle.bitrun_text.specs.Numeral.{value_named}
-use Rattle.bitrun_text.specs.Kind.{sign_of, width_of, kind_named}
+use Rattle.bitrun_text.specs.Kind.{kind_named, type_row, type_of}
 use Rattle.bitrun_text.specs.Operation.{step_named}
 use Rattle.bitrun_text.specs.declared.fault.Fault.{Fault}
 use Rattle.bitrun_text.specs.declared.fault.Fault.TheVariants as faults
@@ -18,7 +18,7 @@ pub record Form (input : List ℕ) (kind : Kind) (registers : List ℤ) (steps :
   pub later : List (List (List ℕ))
   pub lines : word_lines input ≡ first ∷ second ∷ later
   pub names_kind : kind_named first ≡ Some kind
-  pub holds_registers : AllZip (λ word x. value_named (sign_of kind) (width_of kind) word ≡ Some x) second registers
+  pub holds_registers : AllZip (λ word x. value_named (type_row (type_of kind)).1 (type_row (type_of kind)).2 word ≡ Some x) second registers
   pub names_steps : AllZip (λ words step. step_named (length registers) words ≡ Some step) (filter has_items later) steps
 
 -- the second line
@@ -36,7 +36,7 @@ abbrev pub HasForm : List (List (List ℕ)) → ℕ → Type 0
 HasForm [] i = ⊥
 HasForm (first ∷ lines) zero = IsSome (kind_named first)
 HasForm (first ∷ []) (suc i) = ⊥
-HasForm (first ∷ second ∷ later) (suc zero) = (kind : Kind) × (kind_named first ≡ Some kind) × HasRegistersForm (sign_of kind) (width_of kind) second
+HasForm (first ∷ second ∷ later) (suc zero) = (kind : Kind) × (kind_named first ≡ Some kind) × HasRegistersForm (type_row (type_of kind)).1 (type_row (type_of kind)).2 second
 HasForm (first ∷ second ∷ later) (suc (suc i)) = IfSome (slice_get later i) (HasStepForm (length second))
 
 -- the least line, counted from 1, that is missing or hasn't its form
@@ -45,9 +45,6 @@ pub record BadLine (input : List ℕ) (line : ℕ) : Type 0 where
   pub place : line ≡ suc before
   pub bad : HasForm (word_lines input) before → ⊥
   pub least : (i : ℕ) → i < before → HasForm (word_lines input) i
-
-pub record HasNoBadLine (input : List ℕ) : Type 0 where
-  pub none : (line : ℕ) → BadLine input line → ⊥
 
 -- ---- what the parts of the reader say
 

@@ -31,12 +31,6 @@ abbrev pub type_of : Kind → RegisterType
 type_of (kinds.Run type) = type
 type_of (kinds.Wide pair) = (types_of pair).0
 
-abbrev pub sign_of : Kind → Bool
-sign_of kind = (type_row (type_of kind)).1
-
-abbrev pub width_of : Kind → ℕ
-width_of kind = (type_row (type_of kind)).2
-
 -- the type that a word names
 unfoldable pub type_named : List ℕ → Option RegisterType
 type_named word = find (λ type. bytes_eq word (type_row type).0) (types.U1 ∷ types.I1 ∷ types.U7 ∷ types.I7 ∷ types.U14 ∷ types.I14 ∷ types.U120 ∷ types.I120 ∷ [])

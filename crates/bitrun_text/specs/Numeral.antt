@@ -1,9 +1,10 @@
 -- The numbers that words write.
 use Rattle.std.specs.Prelude.{◌≡◌, ℕ, ◌≤◌, ◌<◌, ◌^◌, ◌&&◌, List, [], ◌∷◌, length, take, get_or, Bool, true, Option, Some, None, option_map, option_and_then, ℤ, pos, neg_ℤ, unsigned_abs, ◌==◌, nat_lt, if◌then◌else◌, ⊤}
+use Rattle.std.specs.Bool.{then_some}
 use Rattle.std.specs.Char.{is_ascii_digit}
 use Rattle.std.specs.Str.{all_ascii_digits}
 use Rattle.std.specs.Str.Parse.{digits_value}
-use Rattle.arbitrary_int.specs.Exact.{number_of_type}
+use Rattle.arbitrary_int.specs.Range.{in_range}
 use Rattle.bitrun_text.specs.Text.{has_items}
 
 -- what one or more decimal digits write
@@ -21,7 +22,7 @@ number_below limit word = option_and_then (λ n. if nat_lt n limit then Some n e
 
 -- the number that a word is a numeral of, if the type has it
 unfoldable pub value_named : Bool → ℕ → List ℕ → Option ℤ
-value_named s B word = option_and_then (number_of_type s B) (integer_in word)
+value_named s B word = option_and_then (λ x. then_some (in_range s B x) x) (integer_in word)
 
 -- ---- what the parts of the reader say
 

@@ -1,5 +1,6 @@
 -- The words of a step.
 use Rattle.std.specs.Prelude.{ℕ, ◌^◌, ◌==◌, List, [], ◌∷◌, length, Option, Some, None, option_map, option_and_then, if◌then◌else◌, codes, bytes_eq}
+use Rattle.std.specs.Option.{option_zip}
 use Rattle.arbitrary_int.specs.declared.steps.Step.{Step}
 use Rattle.arbitrary_int.specs.declared.steps.Step.TheVariants as steps
 use Rattle.arbitrary_int.specs.declared.steps.TwoOp.TheVariants as twos
@@ -38,29 +39,20 @@ operation_named word =
     if bytes_eq word (codes "rotr") then Some (operations.By bys.RotateRight) else (
     if bytes_eq word (codes "spow") then Some (operations.By bys.SaturatingPow) else None))))))))))))))))))))))))
 
-infixl 10 ◌>>=◌
-abbrev pub ◌>>=◌ : {A B : Type 0} → Option A → (A → Option B) → Option B
-o >>= f = option_and_then f o
-
 -- the step of an operation on so many registers, with the words after its name
 unfoldable pub step_with : ℕ → Operation → List (List ℕ) → Option Step
-step_with count (operations.Two op) (first ∷ second ∷ third ∷ []) = do
-  to ← number_below count first
-  left ← number_below count second
-  option_map (steps.Two op to left) (number_below count third)
-step_with count (operations.One op) (first ∷ second ∷ []) = do
-  to ← number_below count first
-  option_map (steps.One op to) (number_below count second)
-step_with count (operations.By op) (first ∷ second ∷ third ∷ []) = do
-  to ← number_below count first
-  src ← number_below count second
-  option_map (steps.By op to src) (number_below (2 ^ 32) third)
+step_with count (operations.Two op) (to ∷ left ∷ right ∷ []) = option_map (λ n. steps.Two op n.0 n.1.0 n.1.1)
+    (option_zip (number_below count to) (option_zip (number_below count left) (number_below count right)))
+step_with count (operations.One op) (to ∷ src ∷ []) = option_map (λ n. steps.One op n.0 n.1)
+    (option_zip (number_below count to) (number_below count src))
+step_with count (operations.By op) (to ∷ src ∷ amount ∷ []) = option_map (λ n. steps.By op n.0 n.1.0 n.1.1)
+    (option_zip (number_below count to) (option_zip (number_below count src) (number_below (2 ^ 32) amount)))
 step_with count operation words = None
 
 -- the step that the words of a line name
 unfoldable pub step_named : ℕ → List (List ℕ) → Option Step
 step_named count [] = None
-step_named count (word ∷ operands) = operation_named word >>= λ operation. step_with count operation operands
+step_named count (word ∷ operands) = option_and_then (λ operation. step_with count operation operands) (operation_named word)
 
 -- ---- what the parts of the reader say
 

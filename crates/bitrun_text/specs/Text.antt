@@ -6,18 +6,13 @@ abbrev pub has_items : {X : Type 0} → List X → Bool
 has_items [] = false
 has_items (x ∷ xs) = true
 
-abbrev pub lf : ℕ
-lf = 10
-
-abbrev pub space : ℕ
-space = 32
-
+-- an LF
 abbrev pub ends_line : ℕ → Bool
-ends_line byte = byte == lf
+ends_line byte = byte == 10
 
 -- a space, a tab or a CR
 abbrev pub is_blank : ℕ → Bool
-is_blank byte = byte == space || (byte == 9 || byte == 13)
+is_blank byte = byte == 32 || (byte == 9 || byte == 13)
 
 abbrev pub without_empty_last : List (List ℕ) → List (List ℕ)
 without_empty_last [] = []

@@ -1,7 +1,8 @@
 //! The numbers that words write.
 
 ghost use Rattle.std.specs.Prelude.{◌≡◌, ◌≤◌, ◌<◌, ◌^◌, pos, neg_ℤ, option_map, MatchOption, IfSome};
-ghost use Rattle.arbitrary_int.specs.Exact.{number_of_type};
+ghost use Rattle.std.specs.Bool.{then_some};
+ghost use Rattle.arbitrary_int.specs.Range.{in_range};
 ghost use Rattle.bitrun_text.specs.Numeral.{number_in, integer_in, number_below, value_named, IsFar};
 
 use arbitrary_int::traits::{FixedWidth, Integer};
@@ -74,7 +75,7 @@ pub fn below_zero(size: u128) -> i128
 pub fn value_of<R: FixedWidth>(number: i128) -> Option<R>
     requires width { R.valid }
     requires narrow { R.BITS ≤ 120 }
-    ensures { option_map R.number result ≡ number_of_type R.IS_SIGNED R.BITS number }
+    ensures { option_map R.number result ≡ then_some (in_range R.IS_SIGNED R.BITS number) number }
 {
     let value = R::masked_new(number);
     if value.as_i128() == number {

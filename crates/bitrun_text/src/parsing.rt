@@ -1,8 +1,8 @@
 //! The registers and the steps from their lines.
 
-ghost use Rattle.std.specs.Prelude.{◌≡◌, ◌≤◌, length, map, filter, IfOk, IfErr, MatchOption};
+ghost use Rattle.std.specs.Prelude.{◌≡◌, ◌≤◌, length, map, filter, IfOk, IfErr, MatchOption, All};
+ghost use Rattle.arbitrary_int.specs.Step.{StepWithin};
 ghost use Rattle.std.specs.List.{AllZip};
-ghost use Rattle.arbitrary_int.specs.Run.{WellFormed};
 ghost use Rattle.bitrun_text.specs.Text.{Left, has_items};
 ghost use Rattle.bitrun_text.specs.Form.{IsValue, IsStep, HasRegistersForm, StepsFault};
 
@@ -58,7 +58,7 @@ pub fn steps<'a, A: Allocator>(
 ) -> Result<Vec<Step, &'a A>, Fault>
     requires { length lines.old.later ≤ 65536 }
     ensures found { IfOk result (λ steps. AllZip (IsStep count) (filter has_items lines.old.later) steps.items) }
-    ensures within { IfOk result (λ steps. WellFormed steps.items count) }
+    ensures within { IfOk result (λ steps. All (StepWithin count) steps.items) }
     ensures fault { IfErr result (StepsFault count lines.old.later) }
 {
     // A cursor of its own, so that the place need not be stored in memory.

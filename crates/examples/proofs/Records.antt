@@ -1,10 +1,11 @@
 -- A log's record, written and read one field after the other.
 use Rattle.std.specs.Prelude.{◌≡◌, ℕ, ℤ, Bool, true, false, List, ◌++◌, ◌≤◌, length, take, drop, Option, None, Some, IsTrue, Result, Ok, Err, OnErr}
+use Rattle.std.specs.Int.{div_ceil}
 use Rattle.std.specs.Io.KnownBytes.{Appends, Consumes}
 use Rattle.std.proofs.Common.{arith, sym, ap, subst, ◌∙◌, lit≤, append_assoc, length-append, inl, inr}
 use Rattle.std.proofs.Math.Seq.{take-append_seam, drop-append_seam}
 use Rattle.arbitrary_int.specs.Range.{InRange}
-use Rattle.arbitrary_int.specs.Bytes.{BorshBytes, Canonical, byte_count}
+use Rattle.arbitrary_int.specs.Bytes.{BorshBytes, Canonical}
 use Rattle.arbitrary_int.specs.Reading.{Unreadable}
 use Rattle.arbitrary_int.specs.Stream.{AppendsBeginning}
 use Rattle.arbitrary_int.proofs.NumberOfBytes.{length-Borsh, Borsh-canonical, Borsh-unique}
@@ -81,32 +82,32 @@ rest-after B x y (Some ys) more k = ap Some (sym (rest-same B y x more ys k))
 held-after : (B : ℕ) (x y : ℤ) (a b : Option (List ℕ)) (more : List ℕ) → a ≡ Some (BorshBytes B y ++ more) → Consumes a b (BorshBytes B x) → b ≡ Some more
 held-after B x y a b more e k = rest-after B x y b more (subst (λ (o : Option (List ℕ)). Consumes o b (BorshBytes B x)) e k)
 
-not-short : {F : Type 0} (B : ℕ) (y : ℤ) (more : List ℕ) (left : Option (List ℕ)) → Unreadable (Canonical B) (Some (BorshBytes B y ++ more)) left F (byte_count B) → F
+not-short : {F : Type 0} (B : ℕ) (y : ℤ) (more : List ℕ) (left : Option (List ℕ)) → Unreadable (Canonical B) (Some (BorshBytes B y ++ more)) left F (div_ceil B 8) → F
 not-short B y more left (inl t) = t
 not-short B y more left (inr (inl h)) = absurd (omega (arith, h, length-append (BorshBytes B y) more, length-Borsh B y))
 not-short B y more left (inr (inr h)) =
     absurd (h.0 (subst (Canonical B) (sym ((λ i. take (sym (length-Borsh B y) i) (BorshBytes B y ++ more)) ∙ take-append_seam (BorshBytes B y) more)) (Borsh-canonical B y)))
 
 -- a value that is there is not refused, unless the reader failed
-only_by_fault : {F : Type 0} (B : ℕ) (y : ℤ) (a left : Option (List ℕ)) (more : List ℕ) → a ≡ Some (BorshBytes B y ++ more) → Unreadable (Canonical B) a left F (byte_count B) → F
-only_by_fault {F} B y a left more e k = not-short B y more left (subst (λ (o : Option (List ℕ)). Unreadable (Canonical B) o left F (byte_count B)) e k)
+only_by_fault : {F : Type 0} (B : ℕ) (y : ℤ) (a left : Option (List ℕ)) (more : List ℕ) → a ≡ Some (BorshBytes B y ++ more) → Unreadable (Canonical B) a left F (div_ceil B 8) → F
+only_by_fault {F} B y a left more e k = not-short B y more left (subst (λ (o : Option (List ℕ)). Unreadable (Canonical B) o left F (div_ceil B 8)) e k)
 
 -- N is what else a failure says
 module _ (N : Type 0) (failed : Bool) where
-  pub first_refused : (a left : Option (List ℕ)) → Unreadable (Canonical 40) a left (IsTrue failed × N) (byte_count 40) → FailedOrNoRecord a failed
+  pub first_refused : (a left : Option (List ℕ)) → Unreadable (Canonical 40) a left (IsTrue failed × N) (div_ceil 40 8) → FailedOrNoRecord a failed
   first_refused a left k = λ time level source reading rest e. (only_by_fault 40 time a left _ (e ∙ ap Some (in_turn time level source reading rest)) k).0
 
-  pub second_refused : (x : ℤ) (a b left : Option (List ℕ)) → Consumes a b (BorshBytes 40 x) → Unreadable (Canonical 3) b left (IsTrue failed × N) (byte_count 3) → FailedOrNoRecord a failed
+  pub second_refused : (x : ℤ) (a b left : Option (List ℕ)) → Consumes a b (BorshBytes 40 x) → Unreadable (Canonical 3) b left (IsTrue failed × N) (div_ceil 3 8) → FailedOrNoRecord a failed
   second_refused x a b left h k =
       λ time level source reading rest e. (only_by_fault 3 level b left _ (held-after 40 x time a b _ (e ∙ ap Some (in_turn time level source reading rest)) h) k).0
 
-  pub third_refused : (x y : ℤ) (a b c left : Option (List ℕ)) → Consumes a b (BorshBytes 40 x) → Consumes b c (BorshBytes 3 y) → Unreadable (Canonical 9) c left (IsTrue failed × N) (byte_count 9) → FailedOrNoRecord a failed
+  pub third_refused : (x y : ℤ) (a b c left : Option (List ℕ)) → Consumes a b (BorshBytes 40 x) → Consumes b c (BorshBytes 3 y) → Unreadable (Canonical 9) c left (IsTrue failed × N) (div_ceil 9 8) → FailedOrNoRecord a failed
   third_refused x y a b c left h g k =
       λ time level source reading rest e.
       (only_by_fault 9 source c left _ (held-after 3 y level b c _ (held-after 40 x time a b _ (e ∙ ap Some (in_turn time level source reading rest)) h) g) k).0
 
   pub fourth_refused : (x y z : ℤ) (a b c d left : Option (List ℕ)) → Consumes a b (BorshBytes 40 x) → Consumes b c (BorshBytes 3 y) → Consumes c d (BorshBytes 9 z)
-      → Unreadable (Canonical 12) d left (IsTrue failed × N) (byte_count 12) → FailedOrNoRecord a failed
+      → Unreadable (Canonical 12) d left (IsTrue failed × N) (div_ceil 12 8) → FailedOrNoRecord a failed
   fourth_refused x y z a b c d left h g f k =
       λ time level source reading rest e.
       (only_by_fault 12 reading d left rest (held-after 9 z source c d _ (held-after 3 y level b c _ (held-after 40 x time a b _ (e ∙ ap Some (in_turn time level source reading rest)) h) g) f) k).0

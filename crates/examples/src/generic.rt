@@ -2,7 +2,8 @@
 //! code that is generic by the traits of `num_traits`.
 
 ghost use Rattle.std.specs.Prelude.{◌≡◌, ◌↔◌, ◌+ℤ◌, ◌%◌, pos, int_div, IsTrue};
-ghost use Rattle.arbitrary_int.specs.BitList.{bits, popcount};
+ghost use Rattle.std.specs.List.{count_by};
+ghost use Rattle.arbitrary_int.specs.BitList.{bits};
 
 use arbitrary_int::prelude::*;
 
@@ -17,7 +18,7 @@ pub fn mean<T: UnsignedInteger>(a: T, b: T) -> T
 
 /// Whether an odd number of the bits are one.
 pub fn parity<V: FixedWidth>(value: V) -> bool
-    ensures { IsTrue result ↔ (popcount (bits V.BITS (V.number value)) % 2 ≡ 1) }
+    ensures { IsTrue result ↔ (count_by (λ b. b) (bits V.BITS (V.number value)) % 2 ≡ 1) }
 {
     value.count_ones() % 2 == 1
 }

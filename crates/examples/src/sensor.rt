@@ -1,8 +1,8 @@
 //! A sensor that measures with 12 bits and a sign.
 
-ghost use Rattle.std.specs.Prelude.{◌≡◌, ◌+ℤ◌, ◌-ℤ◌, ◌*ℤ◌, pos, int_div, true, MatchOption};
+ghost use Rattle.std.specs.Prelude.{◌≡◌, ◌+ℤ◌, ◌-ℤ◌, ◌*ℤ◌, pos, int_div, true, MatchOption, take, drop};
 ghost use Rattle.std.specs.List.{fold};
-ghost use Rattle.arbitrary_int.specs.BitList.{bits, items, val};
+ghost use Rattle.arbitrary_int.specs.BitList.{bits, val};
 ghost use Rattle.arbitrary_int.specs.Residue.{wrap};
 ghost use Rattle.arbitrary_int.specs.Saturation.{clamp};
 ghost use Rattle.arbitrary_int.specs.Total.{PartialsFit};
@@ -19,7 +19,7 @@ pub fn sample(raw: u16) -> i12
 
 /// The sample in bits 12 to 23 of a word that holds two.
 pub fn second_sample(word: u32) -> i12
-    ensures { result ≡ val true (items 12 12 (bits 32 (pos word))) }
+    ensures { result ≡ val true (take 12 (drop 12 (bits 32 (pos word)))) }
 {
     i12::extract_u32(word, 12)
 }

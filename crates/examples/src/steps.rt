@@ -1,7 +1,8 @@
 //! Lists of steps on registers.
 
-ghost use Rattle.std.specs.Prelude.{◌≡◌, ◌↔◌, length, map, IsNone, IfSome};
-ghost use Rattle.arbitrary_int.specs.Run.{RunOf, WellFormed};
+ghost use Rattle.std.specs.Prelude.{◌≡◌, ◌↔◌, length, map, IsNone, IfSome, All};
+ghost use Rattle.arbitrary_int.specs.Step.{StepWithin};
+ghost use Rattle.arbitrary_int.specs.Run.{RunOf};
 
 use arbitrary_int::prelude::*;
 use arbitrary_int::{Step, Stop, run, well_formed};
@@ -9,7 +10,7 @@ use arbitrary_int::{Step, Stop, run, well_formed};
 /// Runs the steps and tells how that ended. Where a step names a register that is not there, nothing is
 /// done, and the result is `None`.
 pub fn run_tested<R: FixedWidth>(steps: &[Step], registers: &mut [R]) -> Option<Result<(), Stop>>
-    ensures none { IsNone result ↔ ¬ (WellFormed steps.now (length registers.old)) }
+    ensures none { IsNone result ↔ ¬ (All (StepWithin (length registers.old)) steps.now) }
     ensures ending { IfSome result (λ ending. ending ≡ (RunOf R.IS_SIGNED R.BITS steps.now (map R.number registers.old)).1) }
     ensures registers { IfSome result (λ _. map R.number registers.new ≡ (RunOf R.IS_SIGNED R.BITS steps.now (map R.number registers.old)).0) }
 {
@@ -27,7 +28,7 @@ pub fn run_in_both<A: FixedWidth, B: FixedWidth>(
     left: &mut [A],
     right: &mut [B],
 ) -> (Result<(), Stop>, Result<(), Stop>)
-    requires within { WellFormed steps.now (length left.old) }
+    requires within { All (StepWithin (length left.old)) steps.now }
     requires sign { A.IS_SIGNED ≡ B.IS_SIGNED }
     requires width { A.BITS ≡ B.BITS }
     requires alike { map A.number left.old ≡ map B.number right.old }

@@ -1,10 +1,11 @@
 //! The same steps at two widths: a wide register of which the low bits are wanted, and a list of checked
 //! steps that is moved to a wider type.
 
-ghost use Rattle.std.specs.Prelude.{◌≡◌, ◌*ℤ◌, true, map, length, Ok};
+ghost use Rattle.std.specs.Prelude.{◌≡◌, ◌*ℤ◌, true, map, length, Ok, All};
+ghost use Rattle.arbitrary_int.specs.Step.{StepWithin};
 ghost use Rattle.arbitrary_int.specs.Residue.{wrap};
-ghost use Rattle.arbitrary_int.specs.Run.{RunOf, WellFormed};
-ghost use Rattle.arbitrary_int.specs.Widths.{OnlyCheckedArithmetic, RangeWithin};
+ghost use Rattle.arbitrary_int.specs.Run.{RunOf};
+ghost use Rattle.arbitrary_int.specs.Widths.{RangeWithin, IsCheckedArithmetic};
 
 use arbitrary_int::prelude::*;
 use arbitrary_int::{Step, Stop, TwoOp, run, run_wide};
@@ -33,8 +34,8 @@ pub fn moved<A: FixedWidth, B: FixedWidth>(
     registers: &mut [A],
     wider: &mut [B],
 ) -> (Result<(), Stop>, Result<(), Stop>)
-    requires within { WellFormed steps.now (length registers.old) }
-    requires arithmetic { OnlyCheckedArithmetic steps.now }
+    requires within { All (StepWithin (length registers.old)) steps.now }
+    requires arithmetic { All IsCheckedArithmetic steps.now }
     requires range { RangeWithin A.IS_SIGNED A.BITS B.IS_SIGNED B.BITS }
     requires alike { map A.number registers.old ≡ map B.number wider.old }
     ensures ending { result.0 ≡ (RunOf A.IS_SIGNED A.BITS steps.now (map A.number registers.old)).1 }

@@ -4,8 +4,10 @@
 //! not weaken it. Counts at their ends stand in `counts`, bytes in `bytes`.
 
 ghost use Rattle.std.specs.Prelude.{◌≡◌, ◌↔◌, ◌/◌, ◌%◌, ◌+ℤ◌, ◌-ℤ◌, ◌*ℤ◌, ◌≤ℤ◌, ◌<ℤ◌, pos, neg_ℤ, unsigned_abs, int_div, false, IsTrue};
+ghost use Rattle.std.specs.Bool.{beq};
+ghost use Rattle.std.specs.List.{count_by, suffix_len};
 ghost use Rattle.std.specs.Int.Bits.{bit_or};
-ghost use Rattle.arbitrary_int.specs.BitList.{bits, popcount, tail};
+ghost use Rattle.arbitrary_int.specs.BitList.{bits};
 ghost use Rattle.arbitrary_int.specs.Field.{field};
 
 use arbitrary_int::prelude::*;
@@ -122,13 +124,13 @@ pub fn reversed_twice(x: u12) -> u12
 }
 
 pub fn count_fits(x: u12) -> u4
-    ensures { result ≡ pos (popcount (bits 12 x)) }
+    ensures { result ≡ pos (count_by (λ b. b) (bits 12 x)) }
 {
     u4::new(x.count_ones() as u8)
 }
 
 pub fn zeros_fit(x: u12) -> u4
-    ensures { result ≡ pos (tail false (bits 12 x)) }
+    ensures { result ≡ pos (suffix_len (beq false) (bits 12 x)) }
 {
     u4::new(x.leading_zeros() as u8)
 }

@@ -1,5 +1,8 @@
 -- What the code computes on a pattern, as an operation on its bits.
 use Rattle.std.proofs.Common.{◌≡◌, ℕ, ◌+◌, ◌-◌, ◌*◌, ◌/◌, ◌%◌, ◌^◌, ◌<◌, ◌≤◌, min, true, false, ◌++◌, reverse, length, replicate, pos, refl, sym, ap, ap₂, ◌∙◌, subst, arith, mod-lt, mod-eq_of_lt, length-append, lt_of_lt_of_le, div-one}
+use Rattle.std.specs.Bool.{beq}
+use Rattle.std.specs.List.{slice_rotate_right, count_by, prefix_len, suffix_len}
+use Rattle.std.specs.Prelude.{map, not}
 use Rattle.std.proofs.Math.Nat.{mul-one, div-eq_of_lt, mul-mod_left, mul-div_cancel_left}
 use Rattle.std.proofs.Math.Pow.{pow_pos, mod-mod-pow, pow_mono}
 use Rattle.std.proofs.lemmas.Nat.{shr_below, shr_split}
@@ -7,7 +10,7 @@ use Rattle.std.proofs.lemmas.List.{length-replicate, length-reverse, reverse-app
 use Rattle.std.specs.Int.{reverse_bits_onto}
 use Rattle.std.specs.Int.Bits.{bit_and, bit_or, bit_xor, and_mask, or_shifted, or_shifted_r, xor_add_and}
 use Rattle.std.specs.Int.Count.{ones as count_ones, count_trailing_zeros, count_leading_zeros}
-use Rattle.arbitrary_base.specs.BitList.{bits, num, bits_and, bits_or, bits_xor, bits_not, rotl, rotr, popcount, front, tail}
+use Rattle.arbitrary_base.specs.BitList.{bits, num, bits_and, bits_or, bits_xor, rotr}
 use Rattle.arbitrary_base.proofs.bit_lists.UnsignedNumber.{length-bits, same_length, length-not, num-bits_small, bits-num_of, num-lt_of, same_num, num-not, num-and, num-or, num-xor, num-append, num-zeros}
 use Rattle.arbitrary_base.proofs.bit_lists.Movement.{num-reverse_onto, num-reverse_zeros, num-rotl, num-rotr, shl-mod}
 use Rattle.arbitrary_base.proofs.bit_lists.Count.{popcount-num, trailing-num, leading-num, leading-wide, front-append, front-not, tail-not}
@@ -36,37 +39,37 @@ pub xor_pattern : (w p q : ℕ) → p < 2 ^ w → q < 2 ^ w → bit_xor p q ≡ 
 xor_pattern w p q h k =
     sym (num-xor (bits w (pos p)) (bits w (pos q)) (same_length w (pos p) (pos q)) ∙ ap₂ bit_xor (num-bits_small w p h) (num-bits_small w q k))
 
-num-not_of : (w p : ℕ) → p < 2 ^ w → num (bits_not (bits w (pos p))) ≡ 2 ^ w - 1 - p
+num-not_of : (w p : ℕ) → p < 2 ^ w → num (map not (bits w (pos p))) ≡ 2 ^ w - 1 - p
 num-not_of w p h =
     omega (arith, num-not (bits w (pos p)), num-bits_small w p h, ap (λ (n : ℕ). 2 ^ n) (length-bits w (pos p)))
 
-pub not_pattern : (w p m : ℕ) → p < 2 ^ w → m + 1 ≡ 2 ^ w → bit_xor p m ≡ num (bits_not (bits w (pos p)))
+pub not_pattern : (w p m : ℕ) → p < 2 ^ w → m + 1 ≡ 2 ^ w → bit_xor p m ≡ num (map not (bits w (pos p)))
 not_pattern w p m h e =
     let a : bit_and p m ≡ p = and-low_mask w p m e ∙ mod-eq_of_lt h in
     rw (num-not_of w p h) (omega (arith, xor_add_and p m))
 
-length-not_of : (w p : ℕ) → length (bits_not (bits w (pos p))) ≡ w
+length-not_of : (w p : ℕ) → length (map not (bits w (pos p))) ≡ w
 length-not_of w p = length-not (bits w (pos p)) ∙ length-bits w (pos p)
 
-not_bits : (w p q : ℕ) → q ≡ num (bits_not (bits w (pos p))) → bits w (pos q) ≡ bits_not (bits w (pos p))
-not_bits w p q e = rw e (bits-num_of w (bits_not (bits w (pos p))) (length-not_of w p))
+not_bits : (w p q : ℕ) → q ≡ num (map not (bits w (pos p))) → bits w (pos q) ≡ map not (bits w (pos p))
+not_bits w p q e = rw e (bits-num_of w (map not (bits w (pos p))) (length-not_of w p))
 
-pub not_fits : (w p q : ℕ) → q ≡ num (bits_not (bits w (pos p))) → q < 2 ^ w
-not_fits w p q e = rw e (num-lt_of w (bits_not (bits w (pos p))) (length-not_of w p))
+pub not_fits : (w p q : ℕ) → q ≡ num (map not (bits w (pos p))) → q < 2 ^ w
+not_fits w p q e = rw e (num-lt_of w (map not (bits w (pos p))) (length-not_of w p))
 
 -- ---- rotations
 
-rotl_at : (w p k : ℕ) → p < 2 ^ w → k ≤ w → num (rotl (bits w (pos p)) k) ≡ p / 2 ^ (w - k) + p * 2 ^ k % 2 ^ w
+rotl_at : (w p k : ℕ) → p < 2 ^ w → k ≤ w → num (slice_rotate_right (bits w (pos p)) k) ≡ p / 2 ^ (w - k) + p * 2 ^ k % 2 ^ w
 rotl_at w p k h l =
     num-rotl (bits w (pos p)) k (omega (arith, length-bits w (pos p))) ∙ rw (num-bits_small w p h, length-bits w (pos p)) refl
 
-pub rotl_pattern_zero : (w p k : ℕ) → p < 2 ^ w → k ≡ 0 → p ≡ num (rotl (bits w (pos p)) k)
+pub rotl_pattern_zero : (w p k : ℕ) → p < 2 ^ w → k ≡ 0 → p ≡ num (slice_rotate_right (bits w (pos p)) k)
 rotl_pattern_zero w p k h e =
     rw (e, rotl_at w p 0 h (omega arith), let z : w - 0 ≡ w = omega arith in z, div-eq_of_lt h, mul-one p, mod-eq_of_lt h) (omega arith)
 
 -- the two parts of a rotation share no bit
 pub rotl_pattern : (w p k m : ℕ) → w ≤ 128 → p < 2 ^ w → k < w → m + 1 ≡ 2 ^ w
-    → bit_or (bit_and (p * 2 ^ k % 2 ^ 128) m) (p / 2 ^ (w - k)) ≡ num (rotl (bits w (pos p)) k)
+    → bit_or (bit_and (p * 2 ^ k % 2 ^ 128) m) (p / 2 ^ (w - k)) ≡ num (slice_rotate_right (bits w (pos p)) k)
 rotl_pattern w p k m b h l e =
     let small : p / 2 ^ (w - k) < 2 ^ k = shr_below p k (w - k) (subst (λ (x : ℕ). p < 2 ^ x) (let d : w ≡ k + (w - k) = omega arith in d) h) in
     rw (shifted w p k m b (omega arith) e, rotl_at w p k h (omega arith), shl-mod p k w (omega arith), or_shifted (p % 2 ^ (w - k)) k (p / 2 ^ (w - k)) small) (omega arith)
@@ -134,26 +137,26 @@ reverse_pattern v w p r b h e =
 
 -- ---- counts
 
-pub ones_pattern : (w p : ℕ) → p < 2 ^ w → count_ones p ≡ popcount (bits w (pos p))
+pub ones_pattern : (w p : ℕ) → p < 2 ^ w → count_ones p ≡ count_by (λ b. b) (bits w (pos p))
 ones_pattern w p h = ap count_ones (sym (num-bits_small w p h)) ∙ popcount-num (bits w (pos p))
 
-pub trailing_pattern : (w p : ℕ) → w ≤ 128 → p < 2 ^ w → min (count_trailing_zeros 128 p) w ≡ front false (bits w (pos p))
+pub trailing_pattern : (w p : ℕ) → w ≤ 128 → p < 2 ^ w → min (count_trailing_zeros 128 p) w ≡ prefix_len (beq false) (bits w (pos p))
 trailing_pattern w p b h =
-    let t : count_trailing_zeros 128 p ≡ front false (bits 128 (pos p)) =
+    let t : count_trailing_zeros 128 p ≡ prefix_len (beq false) (bits 128 (pos p)) =
     ap₂ count_trailing_zeros (sym (length-bits 128 (pos p))) (sym (num-bits_small 128 p (wider w 128 p b h))) ∙ trailing-num (bits 128 (pos p)) in
     rw (t, wide_bits w 128 p b h)
     (omega (arith, front-append (bits w (pos p)) (replicate (128 - w) false), length-bits w (pos p)))
 
-pub leading_pattern : (w p : ℕ) → w ≤ 128 → p < 2 ^ w → count_leading_zeros 128 p ≡ (128 - w) + tail false (bits w (pos p))
+pub leading_pattern : (w p : ℕ) → w ≤ 128 → p < 2 ^ w → count_leading_zeros 128 p ≡ (128 - w) + suffix_len (beq false) (bits w (pos p))
 leading_pattern w p b h =
-    let t : count_leading_zeros w p ≡ tail false (bits w (pos p)) =
+    let t : count_leading_zeros w p ≡ suffix_len (beq false) (bits w (pos p)) =
     ap₂ count_leading_zeros (sym (length-bits w (pos p))) (sym (num-bits_small w p h)) ∙ leading-num (bits w (pos p)) in
     ap (λ (n : ℕ). count_leading_zeros n p) (let e : 128 ≡ (128 - w) + w = omega arith in e)
     ∙ leading-wide (128 - w) w p h ∙ ap (λ (n : ℕ). (128 - w) + n) t
 
 -- the counts of ones go by the pattern turned over
-pub trailing_ones_pattern : (w p q r : ℕ) → q ≡ num (bits_not (bits w (pos p))) → r ≡ front false (bits w (pos q)) → r ≡ front true (bits w (pos p))
-trailing_ones_pattern w p q r e h = h ∙ ap (front false) (not_bits w p q e) ∙ sym (front-not (bits w (pos p)))
+pub trailing_ones_pattern : (w p q r : ℕ) → q ≡ num (map not (bits w (pos p))) → r ≡ prefix_len (beq false) (bits w (pos q)) → r ≡ prefix_len (beq true) (bits w (pos p))
+trailing_ones_pattern w p q r e h = h ∙ ap (prefix_len (beq false)) (not_bits w p q e) ∙ sym (front-not (bits w (pos p)))
 
-pub leading_ones_pattern : (w p q r : ℕ) → q ≡ num (bits_not (bits w (pos p))) → r ≡ tail false (bits w (pos q)) → r ≡ tail true (bits w (pos p))
-leading_ones_pattern w p q r e h = h ∙ ap (tail false) (not_bits w p q e) ∙ sym (tail-not (bits w (pos p)))
+pub leading_ones_pattern : (w p q r : ℕ) → q ≡ num (map not (bits w (pos p))) → r ≡ suffix_len (beq false) (bits w (pos q)) → r ≡ suffix_len (beq true) (bits w (pos p))
+leading_ones_pattern w p q r e h = h ∙ ap (suffix_len (beq false)) (not_bits w p q e) ∙ sym (tail-not (bits w (pos p)))

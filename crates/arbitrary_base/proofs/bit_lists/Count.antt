@@ -1,27 +1,29 @@
 -- Counts of bit lists, against std's counts of a number's digits.
 use Rattle.std.proofs.Common.{◌≡◌, ℕ, zero, suc, ℤ, ◌+◌, ◌*◌, ◌^◌, ◌<◌, ◌≤◌, min, Bool, true, false, not, List, [], ◌∷◌, ◌++◌, reverse, length, refl, sym, ap, ◌∙◌, subst, arith, lt_of_lt_of_le}
+use Rattle.std.specs.Prelude.{map}
+use Rattle.std.specs.List.{count_by, suffix_len, prefix_len}
 use Rattle.std.proofs.lemmas.List.{length-reverse, reverse-reverse, map-append}
 use Rattle.std.proofs.lemmas.List.Sums.{sum_by-cons, prefix_len-le-length}
 use Rattle.std.proofs.Math.Pow.{pow_mono}
 use Rattle.std.proofs.Math.Nat.{pow-suc}
 use Rattle.std.specs.Bool.{beq}
 use Rattle.std.specs.Int.Count.{ones as set_digits, ones_step, count_leading_zeros, count_trailing_zeros, leading_of_zero, leading_length, leading_unique}
-use Rattle.arbitrary_base.specs.BitList.{bits, digit, num, bits_not, popcount, front, tail}
-use Rattle.arbitrary_base.proofs.bit_lists.UnsignedNumber.{length-bits, num-lt_of, num-append, cons-mod, cons-div}
+use Rattle.arbitrary_base.specs.BitList.{bits, num}
+use Rattle.arbitrary_base.proofs.bit_lists.UnsignedNumber.{digit, length-bits, num-lt_of, num-append, cons-mod, cons-div}
 use Rattle.arbitrary_base.proofs.bit_lists.Movement.{reverse-cons}
 
-pub popcount-cons : (b : Bool) (l : List Bool) → popcount (b ∷ l) ≡ digit b + popcount l
+pub popcount-cons : (b : Bool) (l : List Bool) → count_by (λ b. b) (b ∷ l) ≡ digit b + count_by (λ b. b) l
 popcount-cons b l = sum_by-cons digit b l
 
-pub popcount-num : (l : List Bool) → set_digits (num l) ≡ popcount l
+pub popcount-num : (l : List Bool) → set_digits (num l) ≡ count_by (λ b. b) l
 unfolding set_digits
 popcount-num [] = refl
 popcount-num (b ∷ l) = ones_step (num (b ∷ l)) ∙ rw (cons-mod b (num l), cons-div b (num l), popcount-num l) (sym (popcount-cons b l))
 
-pub popcount-not : (l : List Bool) → popcount l + popcount (bits_not l) ≡ length l
+pub popcount-not : (l : List Bool) → count_by (λ b. b) l + count_by (λ b. b) (map not l) ≡ length l
 popcount-not [] = refl
 popcount-not (b ∷ l) =
-    let turned : popcount (bits_not (b ∷ l)) ≡ digit (not b) + popcount (bits_not l) = popcount-cons (not b) (bits_not l) in
+    let turned : count_by (λ b. b) (map not (b ∷ l)) ≡ digit (not b) + count_by (λ b. b) (map not l) = popcount-cons (not b) (map not l) in
     let one : digit b + digit (not b) ≡ 1 = one-of b in
     omega (arith, popcount-cons b l, turned, one, popcount-not l)
   where
@@ -29,34 +31,34 @@ popcount-not (b ∷ l) =
     one-of true = refl
     one-of false = refl
 
-pub tail-le : (b : Bool) (l : List Bool) → tail b l ≤ length l
+pub tail-le : (b : Bool) (l : List Bool) → suffix_len (beq b) l ≤ length l
 tail-le b l = omega (arith, prefix_len-le-length (beq b) (reverse l), length-reverse l)
 
 -- ---- ones, by the zeros of what is turned over
 
-pub front-not : (l : List Bool) → front true l ≡ front false (bits_not l)
+pub front-not : (l : List Bool) → prefix_len (beq true) l ≡ prefix_len (beq false) (map not l)
 front-not [] = refl
 front-not (true ∷ l) = ap (λ (n : ℕ). 1 + n) (front-not l)
 front-not (false ∷ l) = refl
 
-reverse-not : (l : List Bool) → reverse (bits_not l) ≡ bits_not (reverse l)
+reverse-not : (l : List Bool) → reverse (map not l) ≡ map not (reverse l)
 reverse-not [] = refl
 reverse-not (b ∷ l) =
-    reverse-cons (not b) (bits_not l) ∙ rw (reverse-not l, reverse-cons b l, map-append not (reverse l) (b ∷ [])) refl
+    reverse-cons (not b) (map not l) ∙ rw (reverse-not l, reverse-cons b l, map-append not (reverse l) (b ∷ [])) refl
 
-pub tail-not : (l : List Bool) → tail true l ≡ tail false (bits_not l)
-tail-not l = front-not (reverse l) ∙ ap (front false) (sym (reverse-not l))
+pub tail-not : (l : List Bool) → suffix_len (beq true) l ≡ suffix_len (beq false) (map not l)
+tail-not l = front-not (reverse l) ∙ ap (prefix_len (beq false)) (sym (reverse-not l))
 
 -- ---- trailing zeros
 
-pub trailing-num : (l : List Bool) → count_trailing_zeros (length l) (num l) ≡ front false l
+pub trailing-num : (l : List Bool) → count_trailing_zeros (length l) (num l) ≡ prefix_len (beq false) l
 unfolding count_trailing_zeros
 trailing-num [] = refl
 trailing-num (true ∷ l) = rw (cons-mod true (num l)) refl
 trailing-num (false ∷ l) = rw (cons-mod false (num l), cons-div false (num l), trailing-num l) (omega arith)
 
 -- a run that the list bounds
-pub front-append : (l m : List Bool) → min (front false (l ++ m)) (length l) ≡ front false l
+pub front-append : (l m : List Bool) → min (prefix_len (beq false) (l ++ m)) (length l) ≡ prefix_len (beq false) l
 front-append [] m = omega arith
 front-append (true ∷ l) m = omega arith
 front-append (false ∷ l) m = omega (arith, front-append l m)
@@ -78,7 +80,7 @@ num-reverse_cons b r = rw (reverse-cons b r, num-append (reverse r) (b ∷ []), 
 num-reverse_lt : (r : List Bool) → num (reverse r) < 2 ^ length r
 num-reverse_lt r = num-lt_of (length r) (reverse r) (length-reverse r)
 
-leading-reverse : (r : List Bool) → count_leading_zeros (length r) (num (reverse r)) ≡ front false r
+leading-reverse : (r : List Bool) → count_leading_zeros (length r) (num (reverse r)) ≡ prefix_len (beq false) r
 leading-reverse [] = leading_of_zero 0
 leading-reverse (true ∷ r) =
     leading-none (length r) (num (reverse (true ∷ r))) (omega (arith, num-reverse_cons true r)) (num-reverse_lt (true ∷ r))
@@ -86,10 +88,10 @@ leading-reverse (false ∷ r) =
     ap (count_leading_zeros (suc (length r))) (let e : num (reverse (false ∷ r)) ≡ num (reverse r) = omega (arith, num-reverse_cons false r) in e)
     ∙ leading-more (length r) (num (reverse r)) (num-reverse_lt r) ∙ ap suc (leading-reverse r) ∙ omega arith
 
-pub leading-num : (l : List Bool) → count_leading_zeros (length l) (num l) ≡ tail false l
+pub leading-num : (l : List Bool) → count_leading_zeros (length l) (num l) ≡ suffix_len (beq false) l
 leading-num l =
     ap (λ (n : ℕ). count_leading_zeros n (num l)) (sym (length-reverse l))
-    ∙ subst (λ (m : List Bool). count_leading_zeros (length (reverse l)) (num m) ≡ tail false l) (reverse-reverse l) (leading-reverse (reverse l))
+    ∙ subst (λ (m : List Bool). count_leading_zeros (length (reverse l)) (num m) ≡ suffix_len (beq false) l) (reverse-reverse l) (leading-reverse (reverse l))
 
 -- the zeros above, in a wider pattern
 pub leading-wide : (d k n : ℕ) → n < 2 ^ k → count_leading_zeros (d + k) n ≡ d + count_leading_zeros k n
@@ -101,11 +103,11 @@ leading-wide (suc d) k n h =
 
 -- ---- at most as many as there are bits
 
-pub popcount-fit : (B : ℕ) (x : ℤ) → popcount (bits B x) ≤ B
+pub popcount-fit : (B : ℕ) (x : ℤ) → count_by (λ b. b) (bits B x) ≤ B
 popcount-fit B x = let e = popcount-not (bits B x) in let n = length-bits B x in omega arith
 
-pub front-fits : (b : Bool) (B : ℕ) (x : ℤ) → front b (bits B x) ≤ B
+pub front-fits : (b : Bool) (B : ℕ) (x : ℤ) → prefix_len (beq b) (bits B x) ≤ B
 front-fits b B x = let e = prefix_len-le-length (beq b) (bits B x) in let n = length-bits B x in omega arith
 
-pub tail-fits : (b : Bool) (B : ℕ) (x : ℤ) → tail b (bits B x) ≤ B
+pub tail-fits : (b : Bool) (B : ℕ) (x : ℤ) → suffix_len (beq b) (bits B x) ≤ B
 tail-fits b B x = let e = tail-le b (bits B x) in let n = length-bits B x in omega arith

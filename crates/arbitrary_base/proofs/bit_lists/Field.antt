@@ -1,16 +1,21 @@
 -- Why a put sets its field and nothing else, and why the order of puts to disjoint fields doesn't matter.
 use Rattle.std.proofs.Common.{◌≡◌, ℕ, zero, suc, ◌+◌, ◌-◌, ◌≤◌, ◌<◌, ◌^◌, ◌⊎◌, inl, inr, Bool, false, List, [], ◌∷◌, ◌++◌, length, take, drop, get_or, pos, refl, sym, ap, ◌∙◌, subst, arith, length-append, length-take, length-drop, append_assoc}
+use Rattle.std.specs.List.{replace_range}
 use Rattle.std.specs.Prelude.{All, AllPairs, Any, Contains, IsPermutation}
 use Rattle.std.proofs.lemmas.List.{get_or_append_left, get_or-append_right, get_or-take, get_or-drop, same_lists, take_at, drop_at, get_or_default}
 use Rattle.std.proofs.lemmas.List.Elements.{All-nil, All-cons, All-head, All-tail, All-get_or}
 use Rattle.std.proofs.lemmas.List.Sorted.{All-permutation, Contains-permutation}
 use Rattle.std.proofs.lemmas.Bool.{cases_lt, cases_order}
-use Rattle.arbitrary_base.specs.BitList.{bits, num, items}
-use Rattle.arbitrary_base.specs.BitField.{field_bits, placed, with_field, bit_of, IsInField, Put, IsInBounds, Covers, AreApart, after_puts}
+use Rattle.arbitrary_base.specs.BitList.{bits, num}
+use Rattle.arbitrary_base.specs.BitField.{field_bits, with_field, bit_of, IsInField, AreDisjoint, Put, IsInBounds, after_puts}
 use Rattle.arbitrary_base.proofs.bit_lists.UnsignedNumber.{length-bits, bits-num_of, num-lt_of, num-bits_small}
 use Rattle.arbitrary_base.proofs.bit_lists.Movement.{length-items, items-items}
 
 -- ---- a list in the middle of another
+
+-- what std calls `replace_range`, where as many go as come
+abbrev placed : ℕ → List Bool → List Bool → List Bool
+placed start l whole = replace_range whole start (start + length l) l
 
 module _ (start : ℕ) (l whole : List Bool) (fits : start + length l ≤ length whole) where
   front_length : length (take start whole) ≡ start
@@ -45,27 +50,27 @@ module _ (start : ℕ) (l whole : List Bool) (fits : start + length l ≤ length
   drop-placed : drop (start + length l) (placed start l whole) ≡ drop (start + length l) whole
   drop-placed = drop_at (take start whole ++ l) (drop (start + length l) whole) (start + length l) two_length
 
-  items-placed : items start (length l) (placed start l whole) ≡ l
+  items-placed : take (length l) (drop start (placed start l whole)) ≡ l
   items-placed =
       ap (take (length l)) (ap (drop start) (append_assoc (take start whole) l (drop (start + length l) whole)) ∙ drop_at (take start whole) (l ++ drop (start + length l) whole) start front_length)
       ∙ take_at l (drop (start + length l) whole) (length l) refl
 
-  items-placed_below : (other width : ℕ) → other + width ≤ start → items other width (placed start l whole) ≡ items other width whole
+  items-placed_below : (other width : ℕ) → other + width ≤ start → take width (drop other (placed start l whole)) ≡ take width (drop other whole)
   items-placed_below other width h =
-      ap (λ (n : ℕ). items n width (placed start l whole)) front
-      ∙ sym (items-items 0 other width start (placed start l whole) h) ∙ ap (items other width) take-placed ∙ items-items 0 other width start whole h
-      ∙ sym (ap (λ (n : ℕ). items n width whole) front)
+      ap (λ (n : ℕ). take width (drop n (placed start l whole))) front
+      ∙ sym (items-items 0 other width start (placed start l whole) h) ∙ ap (λ (m : List Bool). take width (drop other m)) take-placed ∙ items-items 0 other width start whole h
+      ∙ sym (ap (λ (n : ℕ). take width (drop n whole)) front)
     where
       front : other ≡ 0 + other
       front = omega arith
 
-  items-placed_above : (other width : ℕ) → start + length l ≤ other → items other width (placed start l whole) ≡ items other width whole
+  items-placed_above : (other width : ℕ) → start + length l ≤ other → take width (drop other (placed start l whole)) ≡ take width (drop other whole)
   items-placed_above other width h =
       let at : ℕ = other - (start + length l) in
       let e : other ≡ start + length l + at = omega arith in
       let room : at + width ≤ at + width = omega arith in
       rw e (sym (items-items (start + length l) at width (at + width) (placed start l whole) room)
-      ∙ ap (λ (m : List Bool). items at width (take (at + width) m)) drop-placed
+      ∙ ap (λ (m : List Bool). take width (drop at (take (at + width) m))) drop-placed
       ∙ items-items (start + length l) at width (at + width) whole room)
 
 -- ---- one put
@@ -116,7 +121,7 @@ pub field-put : (word start : ℕ) (l : List Bool) → start + length l ≤ 128 
 unfolding field_bits
 field-put word start l h =
     let n = length-bits 128 (pos word) in
-    ap (items start (length l)) (bits-with_field word start l h) ∙ items-placed start l (bits 128 (pos word)) (omega arith)
+    ap (λ (m : List Bool). take (length l) (drop start m)) (bits-with_field word start l h) ∙ items-placed start l (bits 128 (pos word)) (omega arith)
 
 -- a field below, and one above, reads as before
 pub field-put_above : (word start : ℕ) (l : List Bool) (other width : ℕ) → start + length l ≤ 128 → other + width ≤ start
@@ -124,16 +129,22 @@ pub field-put_above : (word start : ℕ) (l : List Bool) (other width : ℕ) →
 unfolding field_bits
 field-put_above word start l other width h g =
     let n = length-bits 128 (pos word) in
-    ap (items other width) (bits-with_field word start l h) ∙ items-placed_below start l (bits 128 (pos word)) (omega arith) other width g
+    ap (λ (m : List Bool). take width (drop other m)) (bits-with_field word start l h) ∙ items-placed_below start l (bits 128 (pos word)) (omega arith) other width g
 
 pub field-put_below : (word start : ℕ) (l : List Bool) (other width : ℕ) → start + length l ≤ 128 → start + length l ≤ other
     → field_bits (with_field word start l) other width ≡ field_bits word other width
 unfolding field_bits
 field-put_below word start l other width h g =
     let n = length-bits 128 (pos word) in
-    ap (items other width) (bits-with_field word start l h) ∙ items-placed_above start l (bits 128 (pos word)) (omega arith) other width g
+    ap (λ (m : List Bool). take width (drop other m)) (bits-with_field word start l h) ∙ items-placed_above start l (bits 128 (pos word)) (omega arith) other width g
 
 -- ---- lists of puts
+
+abbrev Covers : ℕ → Put → Type 0
+Covers i put = IsInField put.start (length put.bits) i
+
+abbrev AreApart : Put → Put → Type 0
+AreApart p q = AreDisjoint p.start (length p.bits) q.start (length q.bits)
 
 pub puts-keep : (word : ℕ) (puts : List Put) (i : ℕ) → All IsInBounds puts → All (λ put. ¬ (Covers i put)) puts → bit_of (after_puts word puts) i ≡ bit_of word i
 puts-keep word [] i f n = refl

@@ -1,11 +1,13 @@
 -- Shifts, rotations, reversal and parts of bit lists.
 use Rattle.std.proofs.Common.{◌≡◌, ℕ, zero, suc, ◌+◌, ◌-◌, ◌*◌, ◌/◌, ◌%◌, ◌^◌, ◌≤◌, Bool, false, not, List, [], ◌∷◌, ◌++◌, reverse, length, take, drop, replicate, refl, sym, ap, ap₂, ◌∙◌, arith, length-append, length-drop, length-take, take-append-drop, drop-drop, take-take}
+use Rattle.std.specs.Prelude.{map}
+use Rattle.std.specs.List.{slice_rotate_right}
 use Rattle.std.proofs.Math.Nat.{pow-suc, mul-mod_left}
 use Rattle.std.proofs.Math.Pow.{mod-pow-add, shl-shr}
 use Rattle.std.proofs.lemmas.List.{length-replicate, length-reverse, reverse-append, take_at, drop_at, drop-take, map-append, drop-map}
 use Rattle.std.specs.Int.{reverse_bits_onto}
-use Rattle.arbitrary_base.specs.BitList.{digit, num, bits_not, shl, shr, rotl, rotr, items}
-use Rattle.arbitrary_base.proofs.bit_lists.UnsignedNumber.{num-append, num-zeros, num-take, num-drop, cons-mod, cons-div}
+use Rattle.arbitrary_base.specs.BitList.{num, shl, shr, rotr}
+use Rattle.arbitrary_base.proofs.bit_lists.UnsignedNumber.{digit, num-append, num-zeros, num-take, num-drop, cons-mod, cons-div}
 
 -- ---- lengths
 
@@ -15,34 +17,34 @@ length-shl l k h = simp (length-append, length-replicate, length-take) (omega ar
 pub length-shr : (l : List Bool) (k : ℕ) (f : Bool) → k ≤ length l → length (shr l k f) ≡ length l
 length-shr l k f h = simp (length-append, length-replicate, length-drop) (omega arith)
 
-pub length-rotl : (l : List Bool) (k : ℕ) → length (rotl l k) ≡ length l
+pub length-rotl : (l : List Bool) (k : ℕ) → length (slice_rotate_right l k) ≡ length l
 length-rotl l k = simp (length-append, length-drop, length-take) (omega arith)
 
 pub length-rotr : (l : List Bool) (k : ℕ) → length (rotr l k) ≡ length l
 length-rotr l k = simp (length-append, length-drop, length-take) (omega arith)
 
-pub length-items : (s k : ℕ) (l : List Bool) → s + k ≤ length l → length (items s k l) ≡ k
+pub length-items : (s k : ℕ) (l : List Bool) → s + k ≤ length l → length (take k (drop s l)) ≡ k
 length-items s k l h = simp (length-drop, length-take) (omega arith)
 
 -- ---- laws
 
-pub rotr-rotl : (l : List Bool) (k : ℕ) → k ≤ length l → rotr (rotl l k) k ≡ l
+pub rotr-rotl : (l : List Bool) (k : ℕ) → k ≤ length l → rotr (slice_rotate_right l k) k ≡ l
 rotr-rotl l k h =
     let e : length (drop (length l - k) l) ≡ k = simp length-drop (omega arith) in
     rw (drop_at (drop (length l - k) l) (take (length l - k) l) k e, take_at (drop (length l - k) l) (take (length l - k) l) k e)
     (take-append-drop (length l - k) l)
 
-pub items-items : (s t A B : ℕ) (l : List Bool) → t + A ≤ B → items t A (items s B l) ≡ items (s + t) A l
+pub items-items : (s t A B : ℕ) (l : List Bool) → t + A ≤ B → take A (drop t (take B (drop s l))) ≡ take A (drop (s + t) l)
 items-items s t A B l h =
     ap (λ (n : ℕ). take A (drop t (take n (drop s l)))) (let e : B ≡ t + (B - t) = omega arith in e)
     ∙ ap (take A) (drop-take t (B - t) (drop s l) ∙ ap (take (B - t)) (drop-drop t s l))
     ∙ take-take A (B - t) (drop (s + t) l) (omega arith)
 
-pub replicate-not : (k : ℕ) (f : Bool) → bits_not (replicate k f) ≡ replicate k (not f)
+pub replicate-not : (k : ℕ) (f : Bool) → map not (replicate k f) ≡ replicate k (not f)
 replicate-not zero f = refl
 replicate-not (suc k) f = ap (λ (l : List Bool). not f ∷ l) (replicate-not k f)
 
-pub shr-not : (l : List Bool) (k : ℕ) (f : Bool) → shr (bits_not l) k (not f) ≡ bits_not (shr l k f)
+pub shr-not : (l : List Bool) (k : ℕ) (f : Bool) → shr (map not l) k (not f) ≡ map not (shr l k f)
 shr-not l k f =
     sym (map-append not (drop k l) (replicate k f) ∙ ap₂ (λ (x y : List Bool). x ++ y) (sym (drop-map not k l)) (replicate-not k f))
 
@@ -62,7 +64,7 @@ num-shl l k h =
 pub num-shr : (l : List Bool) (k : ℕ) → num (shr l k false) ≡ num l / 2 ^ k
 num-shr l k = num-append (drop k l) (replicate k false) ∙ rw (num-zeros k, num-drop k l) (omega arith)
 
-pub num-rotl : (l : List Bool) (k : ℕ) → k ≤ length l → num (rotl l k) ≡ num l / 2 ^ (length l - k) + (num l * 2 ^ k) % 2 ^ length l
+pub num-rotl : (l : List Bool) (k : ℕ) → k ≤ length l → num (slice_rotate_right l k) ≡ num l / 2 ^ (length l - k) + (num l * 2 ^ k) % 2 ^ length l
 num-rotl l k h =
     num-append (drop (length l - k) l) (take (length l - k) l)
     ∙ rw (num-drop (length l - k) l, length-drop (length l - k) l, num-take (length l - k) l, shl-mod (num l) k (length l) h)

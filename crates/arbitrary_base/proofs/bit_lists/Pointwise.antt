@@ -1,10 +1,10 @@
 -- Bit lists taken together item by item, whatever is done to two items, and the laws of `and`, `or`, `xor` and `not` on them.
 use Rattle.std.specs.Prelude.{◌≡◌, ℕ, zero, suc, ◌-◌, ◌≤◌, Bool, true, false, not, ◌&&◌, ◌||◌, List, [], ◌∷◌, ◌++◌, map, reverse, length, take, drop, replicate}
 use Rattle.std.specs.Bool.{beq}
-use Rattle.std.specs.List.{zip}
+use Rattle.std.specs.List.{zip, slice_rotate_right}
 use Rattle.std.proofs.Common.{refl, sym, ap, ap₂, ◌∙◌, arith, length-take, length-drop}
 use Rattle.std.proofs.lemmas.List.{length-replicate, length-reverse, map-append, take-map, drop-map}
-use Rattle.arbitrary_base.specs.BitList.{bits_and, bits_or, bits_xor, bits_not, shl, shr, rotl, rotr}
+use Rattle.arbitrary_base.specs.BitList.{bits_and, bits_or, bits_xor, shl, shr, rotr}
 use Rattle.arbitrary_base.proofs.bit_lists.UnsignedNumber.{length-not}
 use Rattle.arbitrary_base.proofs.bit_lists.Movement.{reverse-cons}
 
@@ -69,11 +69,11 @@ rotr-pointwise f k l m e =
     ∙ sym (append-pointwise f (drop k l) (take k l) (drop k m) (take k m) h)
 
 pub rotl-pointwise : (f : Bool → Bool → Bool) (k : ℕ) (l m : List Bool) → length l ≡ length m
-    → rotl (pointwise f l m) k ≡ pointwise f (rotl l k) (rotl m k)
+    → slice_rotate_right (pointwise f l m) k ≡ pointwise f (slice_rotate_right l k) (slice_rotate_right m k)
 rotl-pointwise f k l m e =
     ap (λ (i : ℕ). rotr (pointwise f l m) (i - k)) (length-pointwise f l m e)
     ∙ rotr-pointwise f (length l - k) l m e
-    ∙ ap (λ (i : ℕ). pointwise f (rotl l k) (rotr m (i - k))) e
+    ∙ ap (λ (i : ℕ). pointwise f (slice_rotate_right l k) (rotr m (i - k))) e
 
 pub reverse-pointwise : (f : Bool → Bool → Bool) (l m : List Bool) → length l ≡ length m
     → reverse (pointwise f l m) ≡ pointwise f (reverse l) (reverse m)
@@ -88,18 +88,18 @@ reverse-pointwise f (a ∷ l) (b ∷ m) e =
     ∙ sym (append-pointwise f (reverse l) (a ∷ []) (reverse m) (b ∷ []) h)
     ∙ ap₂ (pointwise f) (sym (reverse-cons a l)) (sym (reverse-cons b m))
 
-pub not-rotr : (k : ℕ) (l : List Bool) → rotr (bits_not l) k ≡ bits_not (rotr l k)
+pub not-rotr : (k : ℕ) (l : List Bool) → rotr (map not l) k ≡ map not (rotr l k)
 not-rotr k l =
     ap₂ (λ (p q : List Bool). p ++ q) (drop-map not k l) (take-map not k l) ∙ sym (map-append not (drop k l) (take k l))
 
-pub not-rotl : (k : ℕ) (l : List Bool) → rotl (bits_not l) k ≡ bits_not (rotl l k)
-not-rotl k l = ap (λ (i : ℕ). rotr (bits_not l) (i - k)) (length-not l) ∙ not-rotr (length l - k) l
+pub not-rotl : (k : ℕ) (l : List Bool) → slice_rotate_right (map not l) k ≡ map not (slice_rotate_right l k)
+not-rotl k l = ap (λ (i : ℕ). rotr (map not l) (i - k)) (length-not l) ∙ not-rotr (length l - k) l
 
-pub not-reverse : (l : List Bool) → reverse (bits_not l) ≡ bits_not (reverse l)
+pub not-reverse : (l : List Bool) → reverse (map not l) ≡ map not (reverse l)
 not-reverse [] = refl
 not-reverse (a ∷ l) =
-    reverse-cons (not a) (bits_not l) ∙ ap (λ (r : List Bool). r ++ not a ∷ []) (not-reverse l)
-    ∙ sym (map-append not (reverse l) (a ∷ [])) ∙ ap bits_not (sym (reverse-cons a l))
+    reverse-cons (not a) (map not l) ∙ ap (λ (r : List Bool). r ++ not a ∷ []) (not-reverse l)
+    ∙ sym (map-append not (reverse l) (a ∷ [])) ∙ ap (map not) (sym (reverse-cons a l))
 
 -- ---- one operation
 
@@ -238,7 +238,7 @@ xor-comm (a ∷ l) (b ∷ m) = cons (item a b) (xor-comm l m)
     item false true = refl
     item false false = refl
 
-pub not-and : (l m : List Bool) → bits_not (bits_and l m) ≡ bits_or (bits_not l) (bits_not m)
+pub not-and : (l m : List Bool) → map not (bits_and l m) ≡ bits_or (map not l) (map not m)
 not-and [] m = refl
 not-and (a ∷ l) [] = refl
 not-and (a ∷ l) (b ∷ m) = cons (item a b) (not-and l m)
@@ -249,7 +249,7 @@ not-and (a ∷ l) (b ∷ m) = cons (item a b) (not-and l m)
     item false true = refl
     item false false = refl
 
-pub not-or : (l m : List Bool) → bits_not (bits_or l m) ≡ bits_and (bits_not l) (bits_not m)
+pub not-or : (l m : List Bool) → map not (bits_or l m) ≡ bits_and (map not l) (map not m)
 not-or [] m = refl
 not-or (a ∷ l) [] = refl
 not-or (a ∷ l) (b ∷ m) = cons (item a b) (not-or l m)
@@ -260,7 +260,7 @@ not-or (a ∷ l) (b ∷ m) = cons (item a b) (not-or l m)
     item false true = refl
     item false false = refl
 
-pub not-xor : (l m : List Bool) → bits_not (bits_xor l m) ≡ bits_xor (bits_not l) m
+pub not-xor : (l m : List Bool) → map not (bits_xor l m) ≡ bits_xor (map not l) m
 not-xor [] m = refl
 not-xor (a ∷ l) [] = refl
 not-xor (a ∷ l) (b ∷ m) = cons (item a b) (not-xor l m)
@@ -271,7 +271,7 @@ not-xor (a ∷ l) (b ∷ m) = cons (item a b) (not-xor l m)
     item false true = refl
     item false false = refl
 
-pub xor-parts : (l m : List Bool) → bits_xor l m ≡ bits_and (bits_or l m) (bits_not (bits_and l m))
+pub xor-parts : (l m : List Bool) → bits_xor l m ≡ bits_and (bits_or l m) (map not (bits_and l m))
 xor-parts [] m = refl
 xor-parts (a ∷ l) [] = refl
 xor-parts (a ∷ l) (b ∷ m) = cons (item a b) (xor-parts l m)
@@ -320,7 +320,7 @@ or-same (a ∷ l) = cons (item a) (or-same l)
     item true = refl
     item false = refl
 
-pub and-not : (l : List Bool) → bits_and l (bits_not l) ≡ replicate (length l) false
+pub and-not : (l : List Bool) → bits_and l (map not l) ≡ replicate (length l) false
 and-not [] = refl
 and-not (a ∷ l) = cons (item a) (and-not l)
   where
@@ -328,7 +328,7 @@ and-not (a ∷ l) = cons (item a) (and-not l)
     item true = refl
     item false = refl
 
-pub or-not : (l : List Bool) → bits_or l (bits_not l) ≡ replicate (length l) true
+pub or-not : (l : List Bool) → bits_or l (map not l) ≡ replicate (length l) true
 or-not [] = refl
 or-not (a ∷ l) = cons (item a) (or-not l)
   where
@@ -344,7 +344,7 @@ xor-none (a ∷ l) = cons (item a) (xor-none l)
     item true = refl
     item false = refl
 
-pub not-not : (l : List Bool) → bits_not (bits_not l) ≡ l
+pub not-not : (l : List Bool) → map not (map not l) ≡ l
 not-not [] = refl
 not-not (a ∷ l) = cons (item a) (not-not l)
   where
@@ -392,7 +392,7 @@ or-ones (a ∷ l) = cons (item a) (or-ones l)
     item true = refl
     item false = refl
 
-pub xor-ones : (l : List Bool) → bits_xor l (replicate (length l) true) ≡ bits_not l
+pub xor-ones : (l : List Bool) → bits_xor l (replicate (length l) true) ≡ map not l
 xor-ones [] = refl
 xor-ones (a ∷ l) = cons (item a) (xor-ones l)
   where

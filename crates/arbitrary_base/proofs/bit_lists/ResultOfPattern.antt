@@ -1,9 +1,10 @@
 -- From the pattern that the code computes to the number that it gives.
-use Rattle.std.specs.Prelude.{◌≡◌, ℕ, ℤ, Bool, List, pos, length, reverse, take, drop, replicate, ◌+◌, ◌/◌, ◌%◌, ◌^◌, ◌≤◌, ◌<◌}
+use Rattle.std.specs.Prelude.{◌≡◌, ℕ, ℤ, Bool, List, pos, length, reverse, take, drop, replicate, ◌+◌, ◌/◌, ◌%◌, ◌^◌, ◌≤◌, ◌<◌, map, not}
+use Rattle.std.specs.List.{slice_rotate_right}
 use Rattle.std.proofs.Common.{arith, refl, ap, sym, ◌∙◌, length-drop}
 use Rattle.std.proofs.lemmas.List.{length-reverse, take-append-le}
 use Rattle.arbitrary_base.specs.Residue.{residue, wrap}
-use Rattle.arbitrary_base.specs.BitList.{bits, num, val, bits_and, bits_or, bits_xor, bits_not, shl, shr, rotl, rotr, items}
+use Rattle.arbitrary_base.specs.BitList.{bits, num, val, bits_and, bits_or, bits_xor, shl, shr, rotr}
 use Rattle.arbitrary_base.proofs.modular.Congruence.{Congruent-sym, Congruent-trans, Congruent-mul_left, Congruent-narrower}
 use Rattle.arbitrary_base.proofs.modular.Residue.{residue-congruent, wrap-same}
 use Rattle.arbitrary_base.proofs.storages.Primitive.{mod-congruent}
@@ -43,17 +44,17 @@ pub xor-value : (s : Bool) (B p r q : ℕ) (x y z : ℤ) → p ≡ residue B x �
     → q ≡ num (bits_xor (bits B (pos p)) (bits B (pos r))) → z ≡ wrap s B (pos q) → z ≡ val s (bits_xor (bits B x) (bits B y))
 xor-value s B p r q x y z = of_two s B p r q x y z bits_xor length-xor
 
-pub not-value : (s : Bool) (B p q : ℕ) (x z : ℤ) → p ≡ residue B x → q ≡ num (bits_not (bits B (pos p)))
-    → z ≡ wrap s B (pos q) → z ≡ val s (bits_not (bits B x))
-not-value s B p q x z = of_one s B p q x z bits_not (length-not (bits B x) ∙ length-bits B x)
+pub not-value : (s : Bool) (B p q : ℕ) (x z : ℤ) → p ≡ residue B x → q ≡ num (map not (bits B (pos p)))
+    → z ≡ wrap s B (pos q) → z ≡ val s (map not (bits B x))
+not-value s B p q x z = of_one s B p q x z (map not) (length-not (bits B x) ∙ length-bits B x)
 
 pub ruleset item_laws = (and-value, or-value, xor-value, not-value)
 
 -- ---- in another order
 
-pub rotl-value : (s : Bool) (B p q k : ℕ) (x z : ℤ) → p ≡ residue B x → q ≡ num (rotl (bits B (pos p)) k)
-    → z ≡ wrap s B (pos q) → z ≡ val s (rotl (bits B x) k)
-rotl-value s B p q k x z = of_one s B p q x z (λ (l : List Bool). rotl l k) (length-rotl (bits B x) k ∙ length-bits B x)
+pub rotl-value : (s : Bool) (B p q k : ℕ) (x z : ℤ) → p ≡ residue B x → q ≡ num (slice_rotate_right (bits B (pos p)) k)
+    → z ≡ wrap s B (pos q) → z ≡ val s (slice_rotate_right (bits B x) k)
+rotl-value s B p q k x z = of_one s B p q x z (λ (l : List Bool). slice_rotate_right l k) (length-rotl (bits B x) k ∙ length-bits B x)
 
 pub rotr-value : (s : Bool) (B p q k : ℕ) (x z : ℤ) → p ≡ residue B x → q ≡ num (rotr (bits B (pos p)) k)
     → z ≡ wrap s B (pos q) → z ≡ val s (rotr (bits B x) k)
@@ -84,23 +85,23 @@ pub ruleset count_laws = (bits-residue, popcount-fit, front-fits, tail-fits)
 -- ---- parts
 
 -- the items have the number that is left of q
-items-of_num : (s : Bool) (B W start q : ℕ) (x z : ℤ) → 1 ≤ B → start + B ≤ W → num (items start B (bits W x)) ≡ q % 2 ^ B
-    → z ≡ wrap s B (pos q) → z ≡ val s (items start B (bits W x))
+items-of_num : (s : Bool) (B W start q : ℕ) (x z : ℤ) → 1 ≤ B → start + B ≤ W → num (take B (drop start (bits W x))) ≡ q % 2 ^ B
+    → z ≡ wrap s B (pos q) → z ≡ val s (take B (drop start (bits W x)))
 items-of_num s B W start q x z h g n o =
-    o ∙ sym (val-num s B (items start B (bits W x)) (length-items start B (bits W x) (omega (arith, length-bits W x)))
+    o ∙ sym (val-num s B (take B (drop start (bits W x))) (length-items start B (bits W x) (omega (arith, length-bits W x)))
     ∙ ap (λ (m : ℕ). wrap s B (pos m)) n ∙ wrap-same s B _ _ h (mod-congruent B q))
 
 pub items-value : (s : Bool) (B W start p q : ℕ) (x z : ℤ) → 1 ≤ B → start + B ≤ W → p ≡ residue W x → q ≡ p / 2 ^ start
-    → z ≡ wrap s B (pos q) → z ≡ val s (items start B (bits W x))
+    → z ≡ wrap s B (pos q) → z ≡ val s (take B (drop start (bits W x)))
 items-value s B W start p q x z h g e f =
     items-of_num s B W start q x z h g (num-take B (drop start (bits W x)) ∙ rw (num-drop start (bits W x), num-bits_residue W x, f, e) refl)
 
 -- from the number y that is x shifted in its own storage, whatever came in above
 pub items-shifted : (s t : Bool) (B W start q : ℕ) (x y z : ℤ) (f : Bool) → 1 ≤ B → start + B ≤ W → y ≡ val t (shr (bits W x) start f)
-    → q ≡ residue W y → z ≡ wrap s B (pos q) → z ≡ val s (items start B (bits W x))
+    → q ≡ residue W y → z ≡ wrap s B (pos q) → z ≡ val s (take B (drop start (bits W x)))
 items-shifted s t B W start q x y z f h g e o =
     let len : length (shr (bits W x) start f) ≡ W = length-shr (bits W x) start f (omega (arith, length-bits W x)) ∙ length-bits W x in
-    let part : take B (shr (bits W x) start f) ≡ items start B (bits W x) =
+    let part : take B (shr (bits W x) start f) ≡ take B (drop start (bits W x)) =
     take-append-le B (drop start (bits W x)) (replicate start f) (omega (arith, length-drop start (bits W x), length-bits W x)) in
     let whole : num (shr (bits W x) start f) ≡ q =
     ap num (sym (bits-val t W (shr (bits W x) start f) len) ∙ ap (bits W) (sym e)) ∙ num-bits_residue W y ∙ sym o in

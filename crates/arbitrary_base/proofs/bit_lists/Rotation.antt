@@ -1,10 +1,11 @@
 -- Shifts, rotations and reversal of bit lists, one after the other. `Movement` has each alone; `operations.RotateAndReverse` and
 -- `operations.Shift` have the same of numbers.
 use Rattle.std.specs.Prelude.{◌≡◌, ℕ, zero, suc, ◌+◌, ◌-◌, ◌%◌, ◌≤◌, ◌<◌, Bool, true, false, ◌&&◌, ◌||◌, List, [], ◌∷◌, ◌++◌, get_or, reverse, length, take, drop, replicate}
+use Rattle.std.specs.List.{slice_rotate_right}
 use Rattle.std.proofs.Common.{refl, sym, ap, ap₂, ◌∙◌, subst, arith, mod-eq_of_lt, length-take, length-drop, take-append-drop, take-take}
 use Rattle.std.proofs.lemmas.List.{append_assoc, append-nil, drop-append-le, drop-drop, drop-replicate, length-replicate, length-reverse, length-take-le, replicate-append-replicate, reverse-append, reverse-reverse, take-append-le, take-replicate}
 use Rattle.std.proofs.Math.Seq.{drop-append-add, drop-append_seam, drop-length, take-add, take-append-add, take-append_seam, take-length}
-use Rattle.arbitrary_base.specs.BitList.{bits_and, bits_or, bits_not, fill, shl, shr, rotl, rotr}
+use Rattle.arbitrary_base.specs.BitList.{bits_and, bits_or, fill, shl, shr, rotr}
 use Rattle.arbitrary_base.proofs.bit_lists.Movement.{length-rotr, length-rotl, length-shl, length-shr, reverse-cons}
 use Rattle.arbitrary_base.proofs.bit_lists.Pointwise.{append-pointwise, and-comm, or-comm, or-zeros, and-zeros, and-ones}
 
@@ -26,7 +27,7 @@ rotr-whole l k e = ap (rotr l) e ∙ ap₂ (λ (p q : List Bool). p ++ q) (drop-
 pub rotr-none : (l : List Bool) → rotr l 0 ≡ l
 rotr-none l = append-nil l
 
-pub rotl-none : (l : List Bool) → rotl l 0 ≡ l
+pub rotl-none : (l : List Bool) → slice_rotate_right l 0 ≡ l
 rotl-none l = rotr-whole l (length l - 0) (omega arith)
 
 -- and past its end
@@ -38,19 +39,19 @@ rotr-long l a b h g e =
     ∙ sym (rotr-short (rotr l a) (length l - a) (a + b - length l) (omega arith))
     ∙ ap (λ (m : List Bool). rotr m (a + b - length l)) (rotr-short l a (length l - a) (omega arith) ∙ rotr-whole l (a + (length l - a)) (omega arith))
 
-pub rotl-short : (l : List Bool) (a b : ℕ) → a + b ≤ length l → rotl (rotl l a) b ≡ rotl l (a + b)
+pub rotl-short : (l : List Bool) (a b : ℕ) → a + b ≤ length l → slice_rotate_right (slice_rotate_right l a) b ≡ slice_rotate_right l (a + b)
 rotl-short l a b h =
-    ap (λ (n : ℕ). rotr (rotl l a) (n - b)) (length-rotl l a)
+    ap (λ (n : ℕ). rotr (slice_rotate_right l a) (n - b)) (length-rotl l a)
     ∙ rotr-long l (length l - a) (length l - b) (omega arith) (omega arith) (omega arith)
     ∙ ap (rotr l) (let e : (length l - a) + (length l - b) - length l ≡ length l - (a + b) = omega arith in e)
 
-pub rotl-long : (l : List Bool) (a b : ℕ) → a ≤ length l → b ≤ length l → length l ≤ a + b → rotl (rotl l a) b ≡ rotl l (a + b - length l)
+pub rotl-long : (l : List Bool) (a b : ℕ) → a ≤ length l → b ≤ length l → length l ≤ a + b → slice_rotate_right (slice_rotate_right l a) b ≡ slice_rotate_right l (a + b - length l)
 rotl-long l a b h g e =
-    ap (λ (n : ℕ). rotr (rotl l a) (n - b)) (length-rotl l a)
+    ap (λ (n : ℕ). rotr (slice_rotate_right l a) (n - b)) (length-rotl l a)
     ∙ rotr-short l (length l - a) (length l - b) (omega arith)
     ∙ ap (rotr l) (let i : (length l - a) + (length l - b) ≡ length l - (a + b - length l) = omega arith in i)
 
-pub rotr-as_rotl : (l : List Bool) (k : ℕ) → k ≤ length l → rotr l k ≡ rotl l (length l - k)
+pub rotr-as_rotl : (l : List Bool) (k : ℕ) → k ≤ length l → rotr l k ≡ slice_rotate_right l (length l - k)
 rotr-as_rotl l k h = ap (rotr l) (let e : k ≡ length l - (length l - k) = omega arith in e)
 
 -- ---- shifts
@@ -87,7 +88,7 @@ shl-past l a b h g e =
 
 -- ---- shifts beside the other operations
 
-pub rotl-shifts : (l : List Bool) (k : ℕ) → k ≤ length l → rotl l k ≡ bits_or (shl l k) (shr l (length l - k) false)
+pub rotl-shifts : (l : List Bool) (k : ℕ) → k ≤ length l → slice_rotate_right l k ≡ bits_or (shl l k) (shr l (length l - k) false)
 rotl-shifts l k h =
     let d : length (drop (length l - k) l) ≡ k = length-drop (length l - k) l ∙ (let e : length l - (length l - k) ≡ k = omega arith in e) in
     let t : length (take (length l - k) l) ≡ length l - k = length-take-le (length l - k) l (omega arith) in
@@ -143,14 +144,14 @@ shl-shr l k h =
 reverse-parts : (l : List Bool) (k : ℕ) → reverse l ≡ reverse (drop k l) ++ reverse (take k l)
 reverse-parts l k = ap reverse (sym (take-append-drop k l)) ∙ reverse-append (take k l) (drop k l)
 
-pub reverse-rotr : (l : List Bool) (k : ℕ) → k ≤ length l → reverse (rotr l k) ≡ rotl (reverse l) k
+pub reverse-rotr : (l : List Bool) (k : ℕ) → k ≤ length l → reverse (rotr l k) ≡ slice_rotate_right (reverse l) k
 reverse-rotr l k h =
     let n : length (reverse (drop k l)) ≡ length (reverse l) - k = length-reverse (drop k l) ∙ length-drop k l ∙ ap (λ (i : ℕ). i - k) (sym (length-reverse l)) in
     reverse-append (drop k l) (take k l)
     ∙ sym (ap (λ (i : ℕ). rotr (reverse l) i) (sym n) ∙ ap (λ (m : List Bool). rotr m (length (reverse (drop k l)))) (reverse-parts l k)
     ∙ ap₂ (λ (p q : List Bool). p ++ q) (drop-append_seam (reverse (drop k l)) (reverse (take k l))) (take-append_seam (reverse (drop k l)) (reverse (take k l))))
 
-pub reverse-rotl : (l : List Bool) (k : ℕ) → k ≤ length l → reverse (rotl l k) ≡ rotr (reverse l) k
+pub reverse-rotl : (l : List Bool) (k : ℕ) → k ≤ length l → reverse (slice_rotate_right l k) ≡ rotr (reverse l) k
 reverse-rotl l k h =
     let n = length-reverse l in
     reverse-rotr l (length l - k) (omega arith)

@@ -1,6 +1,6 @@
 -- The last bit is the sign, and a right shift that copies it is a division that rounds down.
 use Rattle.std.proofs.Common.{◌≡◌, ℕ, zero, suc, ◌-◌, ◌*◌, ◌/◌, ◌%◌, ◌^◌, ◌<◌, ◌≤◌, Bool, true, false, not, List, length, get_or, ℤ, pos, negsuc, refl, sym, ap, ◌∙◌, subst, arith, lt_of_le_of_lt, to_z, of_z, to_z-of_z}
-use Rattle.std.specs.Prelude.{FitsSigned, int_lt}
+use Rattle.std.specs.Prelude.{FitsSigned, int_lt, map}
 use Rattle.std.specs.Int.{Width, int_shl, int_shr}
 use Rattle.std.proofs.Math.Nat.{pow-suc}
 use Rattle.std.proofs.Math.Pow.{shr_le}
@@ -10,7 +10,7 @@ use Rattle.std.proofs.lemmas.List.{get_or-map}
 use mir.Val.{bits as width_of}
 use Rattle.arbitrary_base.specs.Range.{InRange}
 use Rattle.arbitrary_base.specs.Residue.{residue, wrap}
-use Rattle.arbitrary_base.specs.BitList.{bits, val, bits_not, shl, shr, fill}
+use Rattle.arbitrary_base.specs.BitList.{bits, val, shl, shr, fill}
 use Rattle.arbitrary_base.proofs.modular.Congruence.{pow_half}
 use Rattle.arbitrary_base.proofs.modular.Residue.{wrap-same, wrap-of_in_range}
 use Rattle.arbitrary_base.proofs.modular.Truncation.{InRange-wider}
@@ -34,9 +34,9 @@ last-natural w n h l =
     ap (λ (k : ℕ). get_or (bits w (pos n)) (k - 1) false) (length-bits w (pos n))
     ∙ ap (λ (k : ℕ). get_or (bits k (pos n)) (w - 1) false) (let e : w ≡ suc (w - 1) = omega arith in e) ∙ last-small (w - 1) n l
 
-last-not : (l : List Bool) → 1 ≤ length l → last (bits_not l) ≡ not (last l)
+last-not : (l : List Bool) → 1 ≤ length l → last (map not l) ≡ not (last l)
 last-not l h =
-    ap (λ (k : ℕ). get_or (bits_not l) (k - 1) false) (length-not l)
+    ap (λ (k : ℕ). get_or (map not l) (k - 1) false) (length-not l)
     ∙ get_or-map not l (length l - 1) false false (omega arith)
 
 -- the last bit tells whether a number with a sign is below 0

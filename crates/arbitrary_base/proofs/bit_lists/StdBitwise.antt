@@ -1,12 +1,12 @@
 -- The operators that go bit by bit, as std has them on numbers.
-use Rattle.std.specs.Prelude.{◌≡◌, ℕ, ℤ, Bool, List, [], ◌∷◌, true, false, pos, negsuc, neg_ℤ, ◌-◌, ◌^◌, ◌≤◌, ◌<◌, ◌-ℤ◌, ◌≤ℤ◌, unsigned_abs, length}
+use Rattle.std.specs.Prelude.{◌≡◌, ℕ, ℤ, Bool, List, [], ◌∷◌, true, false, pos, negsuc, neg_ℤ, ◌-◌, ◌^◌, ◌≤◌, ◌<◌, ◌-ℤ◌, ◌≤ℤ◌, unsigned_abs, length, map, not}
 use Rattle.std.specs.Int.Bits.{bit_and, bit_or, bit_xor}
 use Rattle.std.proofs.Common.{arith, refl, ap, ap₂, sym, subst, ◌∙◌, lt_of_lt_of_le, lt_of_le_of_lt}
 use Rattle.std.proofs.lemmas.Int.{ints}
 use Rattle.std.proofs.lemmas.Nat.{pow_pos, or_lt, xor_lt}
 use Rattle.arbitrary_base.specs.Range.{InRange}
 use Rattle.arbitrary_base.specs.Residue.{wrap}
-use Rattle.arbitrary_base.specs.BitList.{bits, num, val, bits_and, bits_or, bits_xor, bits_not}
+use Rattle.arbitrary_base.specs.BitList.{bits, num, val, bits_and, bits_or, bits_xor}
 use Rattle.arbitrary_base.proofs.integers.Ring.{pos-unsigned_abs}
 use Rattle.arbitrary_base.proofs.modular.Congruence.{pow_le}
 use Rattle.arbitrary_base.proofs.modular.Residue.{wrap-of_in_range}
@@ -111,19 +111,19 @@ xor-same s B x y z h e i =
     ∙ val-num s B _ (length-xor (bits B x) (bits B x) refl ∙ length-bits B x) ∙ ap (λ (n : ℕ). wrap s B (pos n)) (num-xor_same (bits B x))
     ∙ wrap-zero s B h
 
-pub not-unsigned : (s : Bool) (B : ℕ) (x z : ℤ) → s ≡ false → 1 ≤ B → InRange s B x → z ≡ val s (bits_not (bits B x)) → z ≡ pos (2 ^ B) -ℤ pos 1 -ℤ x
+pub not-unsigned : (s : Bool) (B : ℕ) (x z : ℤ) → s ≡ false → 1 ≤ B → InRange s B x → z ≡ val s (map not (bits B x)) → z ≡ pos (2 ^ B) -ℤ pos 1 -ℤ x
 not-unsigned true B x z d h f e = cc
 not-unsigned false B x z d h f e =
     let p = f.low in
     let l = length-not (bits B x) ∙ length-bits B x in
-    let v : z ≡ pos (num (bits_not (bits B x))) = e ∙ val-plain false B _ (bits_not (bits B x)) h l refl (num-lt_of B (bits_not (bits B x)) l) in
+    let v : z ≡ pos (num (map not (bits B x))) = e ∙ val-plain false B _ (map not (bits B x)) h l refl (num-lt_of B (map not (bits B x)) l) in
     let t = num-not (bits B x) in
     let u = num-plain false B x f p in
     let w : 2 ^ length (bits B x) ≡ 2 ^ B = ap (λ (m : ℕ). 2 ^ m) (length-bits B x) in
     let a = pos-unsigned_abs x p in
     omega (arith, ints)
 
-not-not : (l : List Bool) → bits_not (bits_not l) ≡ l
+not-not : (l : List Bool) → map not (map not l) ≡ l
 not-not [] = refl
 not-not (true ∷ l) = ap (λ (m : List Bool). true ∷ m) (not-not l)
 not-not (false ∷ l) = ap (λ (m : List Bool). false ∷ m) (not-not l)
@@ -131,7 +131,7 @@ not-not (false ∷ l) = ap (λ (m : List Bool). false ∷ m) (not-not l)
 below-zero : (B : ℕ) (x : ℤ) → InRange true B x → InRange true B (neg_ℤ x -ℤ pos 1)
 below-zero B x f = let l = f.low in let t = f.high in record { low = omega (arith, ints); high = omega (arith, ints) }
 
-pub not-signed : (s : Bool) (B : ℕ) (x z : ℤ) → s ≡ true → 1 ≤ B → InRange s B x → z ≡ val s (bits_not (bits B x)) → z ≡ neg_ℤ x -ℤ pos 1
+pub not-signed : (s : Bool) (B : ℕ) (x z : ℤ) → s ≡ true → 1 ≤ B → InRange s B x → z ≡ val s (map not (bits B x)) → z ≡ neg_ℤ x -ℤ pos 1
 not-signed false B x z d h f e = cc
 not-signed true B (pos n) z d h f e =
     let i : neg_ℤ (pos n) -ℤ pos 1 ≡ negsuc n = omega (arith, ints) in
@@ -140,4 +140,4 @@ not-signed true B (pos n) z d h f e =
 not-signed true B (negsuc n) z d h f e =
     let i : neg_ℤ (negsuc n) -ℤ pos 1 ≡ pos n = omega (arith, ints) in
     let r : InRange true B (pos n) = subst (λ (w : ℤ). InRange true B w) i (below-zero B (negsuc n) f) in
-    e ∙ ap (λ (l : List Bool). val true (bits_not l)) (bits-negsuc B n) ∙ ap (val true) (not-not (bits B (pos n))) ∙ val-bits_in_range true B (pos n) h r ∙ sym i
+    e ∙ ap (λ (l : List Bool). val true (map not l)) (bits-negsuc B n) ∙ ap (val true) (not-not (bits B (pos n))) ∙ val-bits_in_range true B (pos n) h r ∙ sym i

@@ -1,9 +1,9 @@
 -- A number's bits and its residue, and the number of a type that has given bits.
 use Rattle.std.proofs.Common.{◌≡◌, ℕ, zero, suc, ◌/◌, ◌%◌, ◌^◌, ◌≤◌, Bool, false, not, eqb, List, ◌∷◌, length, ℤ, pos, negsuc, refl, sym, ap, ap₂, ◌∙◌, arith}
-use Rattle.std.specs.Prelude.{unsigned_abs}
+use Rattle.std.specs.Prelude.{unsigned_abs, map}
 use Rattle.arbitrary_base.specs.Range.{InRange}
 use Rattle.arbitrary_base.specs.Residue.{Congruent, residue, wrap}
-use Rattle.arbitrary_base.specs.BitList.{bits, num, val, bits_not}
+use Rattle.arbitrary_base.specs.BitList.{bits, num, val}
 use Rattle.arbitrary_base.proofs.modular.Congruence.{Congruent-trans, Congruent-sym}
 use Rattle.arbitrary_base.proofs.modular.Residue.{residue-lt, residue-congruent, congruent-same, wrap-same, wrap-congruent, wrap-of_in_range}
 use Rattle.arbitrary_base.proofs.storages.Primitive.{unsigned-in_range}
@@ -14,7 +14,7 @@ odd-after : (n : ℕ) → eqb (suc n % 2) 1 ≡ not (eqb (n % 2) 1)
 odd-after n = grind arith
 
 -- the bits of -(n + 1) are those of n, each turned over
-pub bits-negsuc : (B n : ℕ) → bits B (negsuc n) ≡ bits_not (bits B (pos n))
+pub bits-negsuc : (B n : ℕ) → bits B (negsuc n) ≡ map not (bits B (pos n))
 unfolding bits
 bits-negsuc zero n = refl
 bits-negsuc (suc k) n = ap₂ (λ (b : Bool) (l : List Bool). b ∷ l) (odd-after n) (bits-negsuc k (n / 2))

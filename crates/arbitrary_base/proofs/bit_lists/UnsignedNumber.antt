@@ -1,12 +1,17 @@
 -- The number that a list of bits spells.
-use Rattle.std.proofs.Common.{◌≡◌, ℕ, zero, suc, ◌+◌, ◌*◌, ◌/◌, ◌%◌, ◌^◌, ◌<◌, min, max, Bool, true, false, not, ◌&&◌, ◌||◌, eqb, List, [], ◌∷◌, ◌++◌, length, take, drop, replicate, pos, ℤ, refl, sym, ap, ◌∙◌, subst, arith, add-one, mod-eq_of_lt}
+use Rattle.std.proofs.Common.{◌≡◌, ℕ, zero, suc, ◌+◌, ◌*◌, ◌/◌, ◌%◌, ◌^◌, ◌<◌, min, max, Bool, if◌then◌else◌, true, false, not, ◌&&◌, ◌||◌, eqb, List, [], ◌∷◌, ◌++◌, length, take, drop, replicate, pos, ℤ, refl, sym, ap, ◌∙◌, subst, arith, add-one, mod-eq_of_lt}
+use Rattle.std.specs.Prelude.{map}
 use Rattle.std.proofs.Math.Nat.{mod-one, pow-suc, zero-mod, div-one, zero-div, div-div-eq-div-mul}
 use Rattle.std.proofs.Math.Pow.{mod-pow-add}
 use Rattle.std.proofs.lemmas.List.{length-map}
 use Rattle.std.specs.Bool.{beq}
 use Rattle.std.specs.Int.{int_div_euclid}
 use Rattle.std.specs.Int.Bits.{bit_and, bit_or, bit_xor, and_step, or_step, xor_step, and_zero_r, differ}
-use Rattle.arbitrary_base.specs.BitList.{bits, digit, num, bits_and, bits_or, bits_xor, bits_not}
+use Rattle.arbitrary_base.specs.BitList.{bits, num, bits_and, bits_or, bits_xor}
+
+-- what a bit adds to the number that begins with it
+abbrev pub digit : Bool → ℕ
+digit b = if b then 1 else 0
 
 pub length-bits : (B : ℕ) (x : ℤ) → length (bits B x) ≡ B
 unfolding bits
@@ -88,7 +93,7 @@ num-drop (suc k) (b ∷ l) = num-drop k l ∙ sym (div-suc k (num (b ∷ l)) ∙
 
 -- ---- item by item
 
-pub num-not : (l : List Bool) → num l + num (bits_not l) + 1 ≡ 2 ^ length l
+pub num-not : (l : List Bool) → num l + num (map not l) + 1 ≡ 2 ^ length l
 num-not [] = refl
 num-not (true ∷ l) = omega (arith, num-not l, pow-suc 2 (length l))
 num-not (false ∷ l) = omega (arith, num-not l, pow-suc 2 (length l))
@@ -151,5 +156,5 @@ length-xor [] (b ∷ m) e = refl
 length-xor (a ∷ l) [] e = absurd (omega arith)
 length-xor (a ∷ l) (b ∷ m) e = ap suc (length-xor l m (omega arith))
 
-pub length-not : (l : List Bool) → length (bits_not l) ≡ length l
+pub length-not : (l : List Bool) → length (map not l) ≡ length l
 length-not l = length-map l not

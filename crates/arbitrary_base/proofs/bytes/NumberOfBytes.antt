@@ -5,11 +5,11 @@ use Rattle.std.proofs.Math.Nat.{pow-suc, div-div-eq-div-mul, div-one, mod-one}
 use Rattle.std.proofs.lemmas.Int.{ints}
 use Rattle.std.proofs.lemmas.Nat.{pow-add, pow_pos, mod-pow-add}
 use Rattle.std.proofs.lemmas.List.{get_or-drop, get_or-reverse, length-drop, reverse-reverse}
-use Rattle.std.specs.Int.{w128, byte_at, bytes_low_first, to_le_bytes}
+use Rattle.std.specs.Int.{w128, byte_at, bytes_low_first, div_ceil, to_le_bytes}
 use Rattle.arbitrary_base.specs.Range.{InRange}
 use Rattle.arbitrary_base.specs.Residue.{residue, wrap}
 use Rattle.arbitrary_base.specs.BitList.{bits, num}
-use Rattle.arbitrary_base.specs.Bytes.{eights, bytes, bytes_number, byte_count, BorshBytes, Canonical}
+use Rattle.arbitrary_base.specs.Bytes.{bytes, bytes_number, BorshBytes, Canonical}
 use Rattle.arbitrary_base.proofs.bit_lists.UnsignedNumber.{num-bits}
 use Rattle.arbitrary_base.proofs.bit_lists.TwosComplement.{bits-residue, bits-wrap, num-bits_residue}
 use Rattle.arbitrary_base.proofs.modular.Congruence.{pow_le}
@@ -22,6 +22,11 @@ low_bytes : ℕ → ℕ → List ℕ
 low_bytes zero p = []
 low_bytes (suc n) p = p % 256 ∷ low_bytes n (p / 256)
 
+-- the first 8 * n items, in eights, each as the number that has these bits
+abbrev eights : ℕ → List Bool → List ℕ
+eights zero l = []
+eights (suc n) l = num (take 8 l) ∷ eights n (drop 8 l)
+
 eights-bits : (n m p : ℕ) → m ≡ 8 * n → eights n (bits m (pos p)) ≡ low_bytes n p
 unfolding low_bytes bits
 eights-bits zero m p e = refl
@@ -31,17 +36,6 @@ eights-bits (suc n) m p e =
     let rest : p / 2 / 2 / 2 / 2 / 2 / 2 / 2 / 2 ≡ p / 256 = omega arith in
     rw k (rw (← first) (ap (λ (bs : List ℕ). num (bits 8 (pos p)) ∷ bs) (ap (λ (q : ℕ). eights n (bits (8 * n) (pos q))) rest ∙ eights-bits n (8 * n) (p / 256) refl)))
 
-bytes-pos : (n p : ℕ) → bytes n (pos p) ≡ low_bytes n p
-unfolding bytes
-bytes-pos n p = eights-bits n (8 * n) p refl
-
--- those of any number are those of its residue
-bytes-low : (n : ℕ) (x : ℤ) → bytes n x ≡ low_bytes n (residue (8 * n) x)
-unfolding bytes
-bytes-low n x = ap (eights n) (sym (bits-residue (8 * n) (residue (8 * n) x) x refl)) ∙ eights-bits n (8 * n) (residue (8 * n) x) refl
-
--- ---- the bytes of a pattern in memory
-
 bytes_low_first-low : (i n p : ℕ) → bytes_low_first i n p ≡ low_bytes n (p / 256 ^ i)
 unfolding low_bytes
 bytes_low_first-low i zero p = refl
@@ -50,6 +44,18 @@ bytes_low_first-low zero (suc n) p =
 bytes_low_first-low (suc i) (suc n) p =
     let e : p / 256 ^ suc i / 256 ≡ p / 256 ^ suc (suc i) = div-div-eq-div-mul p (256 ^ suc i) 256 ∙ ap (λ (m : ℕ). p / m) (omega (arith, pow-suc 256 (suc i))) in
     ap (λ (bs : List ℕ). p / 256 ^ suc i % 256 ∷ bs) (bytes_low_first-low (suc (suc i)) n p ∙ ap (low_bytes n) (sym e))
+
+bytes-low : (n : ℕ) (x : ℤ) → bytes n x ≡ low_bytes n (residue (8 * n) x)
+unfolding bytes
+bytes-low n x = bytes_low_first-low 0 n (residue (8 * n) x) ∙ ap (low_bytes n) (div-one (residue (8 * n) x))
+
+-- the bits above them don't matter
+bytes-pos : (n p : ℕ) → bytes n (pos p) ≡ low_bytes n p
+bytes-pos n p =
+    let r : ℕ = residue (8 * n) (pos p) in
+    bytes-low n (pos p) ∙ sym (eights-bits n (8 * n) r refl) ∙ ap (eights n) (bits-residue (8 * n) r (pos p) refl) ∙ eights-bits n (8 * n) p refl
+
+-- ---- the bytes of a pattern in memory
 
 take-bytes_low_first : (i k n x : ℕ) → n ≤ k → take n (bytes_low_first i k x) ≡ bytes_low_first i n x
 take-bytes_low_first i k zero x h = refl
@@ -64,9 +70,12 @@ pub ruleset front_bytes = (take-to_le_bytes)
 
 -- ---- what bytes depend on, and how many they are
 
+residue-wrap_same : (s : Bool) (B : ℕ) (y : ℤ) → residue B (wrap s B y) ≡ residue B y
+residue-wrap_same s B y = sym (num-bits_residue B (wrap s B y)) ∙ ap num (bits-wrap s B y) ∙ num-bits_residue B y
+
 pub bytes-wrap : (s : Bool) (B n : ℕ) (x y : ℤ) → B ≡ 8 * n → y ≡ wrap s B x → bytes n y ≡ bytes n x
 unfolding bytes
-bytes-wrap s B n x y e f = ap (eights n) (rw (← e) (ap (bits B) f ∙ bits-wrap s B x))
+bytes-wrap s B n x y e f = ap (bytes_low_first 0 n) (rw (← e) (ap (residue B) f ∙ residue-wrap_same s B x))
 
 pub bytes-residue : (B n p : ℕ) (x : ℤ) → 1 ≤ B → B ≤ 128 → B ≡ 8 * n → p ≡ residue 128 x → bytes n (pos p) ≡ bytes n x
 bytes-residue B n p x h k e f =
@@ -127,30 +136,27 @@ whole i l p z e = e ∙ ap (λ (k : ℕ). bytes_number (drop k l)) z
 
 -- ---- the bytes of a stream
 
-residue-wrap_same : (s : Bool) (B : ℕ) (y : ℤ) → residue B (wrap s B y) ≡ residue B y
-residue-wrap_same s B y = sym (num-bits_residue B (wrap s B y)) ∙ ap num (bits-wrap s B y) ∙ num-bits_residue B y
-
 wrap-of_residue : (s : Bool) (B : ℕ) (x : ℤ) → 1 ≤ B → wrap s B (pos (residue B x)) ≡ wrap s B x
 wrap-of_residue s B x h = wrap-same s B (pos (residue B x)) x h (residue-congruent B x)
 
-pub length-Borsh : (B : ℕ) (x : ℤ) → length (BorshBytes B x) ≡ byte_count B
+pub length-Borsh : (B : ℕ) (x : ℤ) → length (BorshBytes B x) ≡ div_ceil B 8
 unfolding BorshBytes
-length-Borsh B x = length-bytes (byte_count B) (pos (residue B x))
+length-Borsh B x = length-bytes (div_ceil B 8) (pos (residue B x))
 
 bytes_number-Borsh : (B : ℕ) (x : ℤ) → bytes_number (BorshBytes B x) ≡ residue B x
 unfolding BorshBytes
 bytes_number-Borsh B x =
-    let bound = pow_le B (8 * byte_count B) (omega arith) in
+    let bound = pow_le B (8 * div_ceil B 8) (omega arith) in
     let small = residue-lt B x in
-    bytes_number-bytes (byte_count B) (pos (residue B x)) ∙ residue-pos (8 * byte_count B) (residue B x) (omega arith)
+    bytes_number-bytes (div_ceil B 8) (pos (residue B x)) ∙ residue-pos (8 * div_ceil B 8) (residue B x) (omega arith)
 
 -- what is written of all bytes of a residue
-pub take-Borsh : (B n p : ℕ) (x : ℤ) (all : List ℕ) → p ≡ residue B x → B ≤ 128 → n ≡ byte_count B → ((k : ℕ) → k ≤ 16 → take k all ≡ bytes k (pos p)) → take n all ≡ BorshBytes B x
+pub take-Borsh : (B n p : ℕ) (x : ℤ) (all : List ℕ) → p ≡ residue B x → B ≤ 128 → n ≡ div_ceil B 8 → ((k : ℕ) → k ≤ 16 → take k all ≡ bytes k (pos p)) → take n all ≡ BorshBytes B x
 unfolding BorshBytes
 take-Borsh B n p x all e h f t = t n (omega arith) ∙ (λ i. bytes (f i) (pos (e i)))
 
 -- the value that is read from canonical bytes
-pub Borsh-wrap : (s : Bool) (B p : ℕ) (l : List ℕ) (x : ℤ) → length l ≡ byte_count B → p ≡ bytes_number l → bytes (length l) (pos p) ≡ l → p < 2 ^ B → x ≡ wrap s B (pos p)
+pub Borsh-wrap : (s : Bool) (B p : ℕ) (l : List ℕ) (x : ℤ) → length l ≡ div_ceil B 8 → p ≡ bytes_number l → bytes (length l) (pos p) ≡ l → p < 2 ^ B → x ≡ wrap s B (pos p)
     → Canonical B l × (BorshBytes B x ≡ l)
 unfolding BorshBytes
 Borsh-wrap s B p l x n e b small f =

@@ -6,12 +6,15 @@ use Rattle.std.proofs.lemmas.Int.{ints, by_lt_z}
 use Rattle.std.proofs.lemmas.Nat.{pow_pos}
 use mir.Val.{bits, hbits}
 use Rattle.arbitrary_base.specs.Range.{lo, hi, InRange}
-use Rattle.arbitrary_base.specs.Exact.{turned}
 use Rattle.arbitrary_base.specs.Residue.{wrap}
 use Rattle.arbitrary_base.proofs.modular.Congruence.{pow_half, Congruent-from_apart}
 use Rattle.arbitrary_base.proofs.modular.Residue.{wrap-same, wrap-of_in_range}
 use Rattle.arbitrary_base.proofs.storages.Primitive.{pow_bits, bits_some, signed-from_small}
 use Rattle.arbitrary_base.proofs.storages.CheckedSum.{wrap-above}
+
+-- two numbers below 0 and a number below 0: as their quotient it would have the wrong sign
+abbrev turned : ℤ → ℤ → ℤ → Bool
+turned x y q = int_lt x (pos 0) && (int_lt y (pos 0) && int_lt q (pos 0))
 
 -- a quotient is no further from 0 than the dividend
 pub quot-low : (h : ℕ) (a b : ℤ) → neg_ℤ (pos h) ≤ℤ a → a ≤ℤ pos h → neg_ℤ (pos h) ≤ℤ int_div a b

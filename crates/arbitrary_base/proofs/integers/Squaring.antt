@@ -1,9 +1,11 @@
 -- Why powers by squaring are right, and how many multiplications they take: the loop of the module `power` keeps the record
 -- `Squaring`. The laws of powers themselves stand in `Powers`.
-use Rattle.std.specs.Prelude.{◌≡◌, ℕ, ℤ, Bool, true, false, zero, suc, pos, negsuc, ◌*ℤ◌, ◌≤ℤ◌, ◌<ℤ◌, ◌+◌, ◌-◌, ◌*◌, ◌/◌, ◌%◌, ◌^◌, ◌≤◌, ◌<◌, unsigned_abs, int_lt, Option, Some, None, MatchOption}
+use Rattle.std.specs.Prelude.{◌≡◌, ℕ, ℤ, Bool, true, false, zero, suc, pos, negsuc, ◌*ℤ◌, ◌≤ℤ◌, ◌<ℤ◌, ◌+◌, ◌-◌, ◌*◌, ◌/◌, ◌%◌, ◌^◌, ◌≤◌, ◌<◌, unsigned_abs, int_lt, length, Option, Some, None, MatchOption, SomeIff, option_map}
 use Rattle.std.proofs.Common.{arith, ap, sym, subst, ◌∙◌, ⊎_elim, le_trans}
 use Rattle.std.proofs.lemmas.Int.{ints, unsigned_abs-mul}
 use Rattle.std.proofs.lemmas.Int.Digits.{length-digits_of_step, length-digits_of-le}
+use Rattle.std.specs.Int.{int_pow}
+use Rattle.std.specs.Int.Digits.{digits_of}
 use Rattle.std.specs.Ordering.{int_eq}
 use Rattle.std.proofs.lemmas.Bool.{cases_lt}
 use Rattle.std.proofs.lemmas.Bool.Decides.{Decides-int_eq}
@@ -11,8 +13,6 @@ use Rattle.std.proofs.lemmas.Nat.{pow_pos, mul-le}
 use Rattle.arbitrary_base.specs.Range.{lo, hi, InRange, range_end}
 use Rattle.arbitrary_base.specs.Residue.{wrap}
 use Rattle.arbitrary_base.specs.Saturation.{clamp}
-use Rattle.arbitrary_base.specs.Exact.{ExactOrNone}
-use Rattle.arbitrary_base.specs.Power.{power, binary_digits}
 use Rattle.arbitrary_base.proofs.integers.Ring.{mul_assoc_z}
 use Rattle.arbitrary_base.proofs.modular.Congruence.{pow_half, pow_le}
 use Rattle.arbitrary_base.proofs.modular.Residue.{wrap-of_in_range}
@@ -23,19 +23,17 @@ use Rattle.arbitrary_base.proofs.integers.Powers.{mul_comm_z, one-mul_z, power-z
 -- p is the power so far, to which the power of b to what remains of the exponent is still to come,
 -- at no more than two multiplications for each digit that is left
 pub record Squaring (x : ℤ) (e : ℕ) (p b : ℤ) (left count : ℕ) : Type 0 where
-  pub whole : power x e ≡ p *ℤ power b left
+  pub whole : int_pow x e ≡ p *ℤ int_pow b left
   pub nonzero : 0 < unsigned_abs b → 0 < unsigned_abs p
   pub some : 1 ≤ left
-  pub counted : count + 2 * binary_digits left ≤ 2 * binary_digits e
+  pub counted : count + 2 * length (digits_of 2 left) ≤ 2 * length (digits_of 2 e)
 
 -- ---- binary digits
 
-digits-step : (n : ℕ) → 1 ≤ n → binary_digits n ≡ binary_digits (n / 2) + 1
-unfolding binary_digits
+digits-step : (n : ℕ) → 1 ≤ n → length (digits_of 2 n) ≡ length (digits_of 2 (n / 2)) + 1
 digits-step n h = length-digits_of_step 2 n (omega arith) h
 
-few_digits : (n : ℕ) → n < 2 ^ 32 → binary_digits n ≤ 32
-unfolding binary_digits
+few_digits : (n : ℕ) → n < 2 ^ 32 → length (digits_of 2 n) ≤ 32
 few_digits n h = length-digits_of-le 2 32 n (omega arith) h
 
 -- ---- one, where the squaring begins
@@ -80,26 +78,26 @@ half-product-in true x y f g =
     fits (negsuc n) most = record { low = omega (arith, ints); high = omega (arith, ints) }
 
 pub half-product : {T : Type 0} (number : T → ℤ) (s : Bool) (W : ℕ) (x y : ℤ) (z : T) → W ≡ 128 → InRange s 64 x → InRange s 64 y
-    → number z ≡ wrap s W (x *ℤ y) → ExactOrNone number s W (x *ℤ y) (Some z)
+    → number z ≡ wrap s W (x *ℤ y) → SomeIff (option_map number (Some z)) (InRange s W (x *ℤ y)) (x *ℤ y)
 half-product number s W x y z width f g e =
     let fits : InRange s W (x *ℤ y) = subst (λ (w : ℕ). InRange s w (x *ℤ y)) (sym width) (half-product-in s x y f g) in
     (fits, e ∙ wrap-of_in_range s W (x *ℤ y) (omega arith) fits)
 
 -- ---- the steps
 
-pub power-none : (x p : ℤ) (e : ℕ) → p ≡ pos 1 → e ≡ 0 → p ≡ power x e
-power-none x p e is none = is ∙ sym (power-zero x) ∙ ap (power x) (sym none)
+pub power-none : (x p : ℤ) (e : ℕ) → p ≡ pos 1 → e ≡ 0 → p ≡ int_pow x e
+power-none x p e is none = is ∙ sym (power-zero x) ∙ ap (int_pow x) (sym none)
 
 pub begun : (x p : ℤ) (e : ℕ) → 1 ≤ e → p ≡ pos 1 → Squaring x e p x e 0
 begun x p e h is = record {
-  whole = sym (one-mul_z (power x e)) ∙ ap (λ (z : ℤ). z *ℤ power x e) (sym is);
+  whole = sym (one-mul_z (int_pow x e)) ∙ ap (λ (z : ℤ). z *ℤ int_pow x e) (sym is);
   nonzero = λ k. subst (λ (z : ℤ). 0 < unsigned_abs z) (sym is) (omega arith);
   some = h;
   counted = omega arith;
 }
 
-squared : (b d : ℤ) (left : ℕ) → d ≡ b *ℤ b → power d (left / 2) ≡ power b (left / 2 + left / 2)
-squared b d left is = ap (λ (z : ℤ). power z (left / 2)) is ∙ power-square b (left / 2)
+squared : (b d : ℤ) (left : ℕ) → d ≡ b *ℤ b → int_pow d (left / 2) ≡ int_pow b (left / 2 + left / 2)
+squared b d left is = ap (λ (z : ℤ). int_pow z (left / 2)) is ∙ power-square b (left / 2)
 
 nonzero-mul : (a b : ℤ) → 0 < unsigned_abs a → 0 < unsigned_abs b → 0 < unsigned_abs (a *ℤ b)
 nonzero-mul a b h k = le_trans h (size_grows a b k)
@@ -123,10 +121,10 @@ odd-turn {x} {p} {b} {e} {left} {count} q d c s h o is square add =
     record {
       whole =
           s.whole
-          ∙ ap (λ (n : ℕ). p *ℤ power b n) (let m : left ≡ suc (left / 2 + left / 2) = omega arith in m)
+          ∙ ap (λ (n : ℕ). p *ℤ int_pow b n) (let m : left ≡ suc (left / 2 + left / 2) = omega arith in m)
           ∙ ap (λ (z : ℤ). p *ℤ z) (power-suc b (left / 2 + left / 2))
-          ∙ sym (mul_assoc_z p b (power b (left / 2 + left / 2)))
-          ∙ ap (λ (z : ℤ). z *ℤ power b (left / 2 + left / 2)) (sym is)
+          ∙ sym (mul_assoc_z p b (int_pow b (left / 2 + left / 2)))
+          ∙ ap (λ (z : ℤ). z *ℤ int_pow b (left / 2 + left / 2)) (sym is)
           ∙ ap (λ (z : ℤ). q *ℤ z) (sym (squared b d left square));
       nonzero = λ k. subst (λ (z : ℤ). 0 < unsigned_abs z) (sym is) (nonzero-mul p b (s.nonzero (base k)) (base k));
       some = omega arith;
@@ -140,8 +138,8 @@ even-turn {x} {p} {b} {e} {left} {count} q d c s h o is square add =
     record {
       whole =
           s.whole
-          ∙ ap (λ (n : ℕ). p *ℤ power b n) (let m : left ≡ left / 2 + left / 2 = omega arith in m)
-          ∙ ap (λ (z : ℤ). z *ℤ power b (left / 2 + left / 2)) (sym is)
+          ∙ ap (λ (n : ℕ). p *ℤ int_pow b n) (let m : left ≡ left / 2 + left / 2 = omega arith in m)
+          ∙ ap (λ (z : ℤ). z *ℤ int_pow b (left / 2 + left / 2)) (sym is)
           ∙ ap (λ (z : ℤ). q *ℤ z) (sym (squared b d left square));
       nonzero = λ k. subst (λ (z : ℤ). 0 < unsigned_abs z) (sym is) (s.nonzero (base k));
       some = omega arith;
@@ -149,22 +147,22 @@ even-turn {x} {p} {b} {e} {left} {count} q d c s h o is square add =
     }
 
 -- the last digit is one
-pub last-turn : {x p b : ℤ} {e left count : ℕ} → Squaring x e p b left count → left ≤ 1 → p *ℤ b ≡ power x e
+pub last-turn : {x p b : ℤ} {e left count : ℕ} → Squaring x e p b left count → left ≤ 1 → p *ℤ b ≡ int_pow x e
 last-turn {x} {p} {b} {e} {left} {count} s h =
     let some = s.some in
-    ap (λ (z : ℤ). p *ℤ z) (sym (power-one b)) ∙ ap (λ (n : ℕ). p *ℤ power b n) (let m : 1 ≡ left = omega arith in m) ∙ sym s.whole
+    ap (λ (z : ℤ). p *ℤ z) (sym (power-one b)) ∙ ap (λ (n : ℕ). p *ℤ int_pow b n) (let m : 1 ≡ left = omega arith in m) ∙ sym s.whole
 
-power-steady : (b : ℤ) (n : ℕ) → b *ℤ b ≡ b → power b (suc n) ≡ b
+power-steady : (b : ℤ) (n : ℕ) → b *ℤ b ≡ b → int_pow b (suc n) ≡ b
 power-steady b zero h = power-one b
 power-steady b (suc n) h = power-suc b (suc n) ∙ ap (λ (z : ℤ). b *ℤ z) (power-steady b n h) ∙ h
 
 -- a base that is its own square is each of its powers
-pub steady-turn : {x p b d : ℤ} {e left count : ℕ} → Squaring x e p b left count → d ≡ b *ℤ b → true ≡ int_eq d b → p *ℤ b ≡ power x e
+pub steady-turn : {x p b d : ℤ} {e left count : ℕ} → Squaring x e p b left count → d ≡ b *ℤ b → true ≡ int_eq d b → p *ℤ b ≡ int_pow x e
 steady-turn {x} {p} {b} {d} {e} {left} {count} s square t =
     let some = s.some in
     let same : d ≡ b = (Decides-int_eq d b).0 (sym t) in
     ap (λ (z : ℤ). p *ℤ z) (sym (power-steady b (left - 1) (sym square ∙ same)))
-    ∙ ap (λ (n : ℕ). p *ℤ power b n) (let m : suc (left - 1) ≡ left = omega arith in m) ∙ sym s.whole
+    ∙ ap (λ (n : ℕ). p *ℤ int_pow b n) (let m : suc (left - 1) ≡ left = omega arith in m) ∙ sym s.whole
 
 -- ---- the count
 
@@ -172,11 +170,11 @@ pub room : {x p b : ℤ} {e left count : ℕ} → Squaring x e p b left count �
 room {x} {p} {b} {e} {left} {count} s h =
     let t = digits-step left s.some in let k = s.counted in let f = few_digits e h in omega arith
 
-pub spent : {x p b : ℤ} {e left count : ℕ} → Squaring x e p b left count → count + 1 + 1 ≤ 2 * binary_digits e
+pub spent : {x p b : ℤ} {e left count : ℕ} → Squaring x e p b left count → count + 1 + 1 ≤ 2 * length (digits_of 2 e)
 spent {x} {p} {b} {e} {left} {count} s =
     let t = digits-step left s.some in let k = s.counted in omega arith
 
-pub count-bound : (e count : ℕ) → e < 2 ^ 32 → count ≤ 2 * binary_digits e → count ≤ 64
+pub count-bound : (e count : ℕ) → e < 2 ^ 32 → count ≤ 2 * length (digits_of 2 e) → count ≤ 64
 count-bound e count h k = let f = few_digits e h in omega arith
 
 -- ---- a product that the storage does not have
@@ -216,37 +214,37 @@ grown : (h a b : ℤ) (n : ℕ) → h ≡ pos n → h <ℤ pos (unsigned_abs a) 
 grown h a b n e f g = let k = size_grows a b g in omega (arith, ints)
 
 pub product-beyond : {x p b : ℤ} {e left count : ℕ} (s : Bool) (W : ℕ) → Squaring x e p b left count → InRange s W p → InRange s W b
-    → (InRange s W (p *ℤ b) → ⊥) → hi s W <ℤ pos (unsigned_abs (power x e))
+    → (InRange s W (p *ℤ b) → ⊥) → hi s W <ℤ pos (unsigned_abs (int_pow x e))
 product-beyond {x} {p} {b} {e} {left} {count} s W t f g n =
     let far = out-beyond s W p b f g n in
     let m = hi-natural s W in
     let base = right_nonzero p b (positive-of (p *ℤ b) m.0 (subst (λ (z : ℤ). z <ℤ pos (unsigned_abs (p *ℤ b))) m.1 far)) in
     let some = t.some in
-    let is : p *ℤ b *ℤ power b (left - 1) ≡ power x e =
-    mul_assoc_z p b (power b (left - 1)) ∙ ap (λ (z : ℤ). p *ℤ z) (sym (power-suc b (left - 1)))
-    ∙ ap (λ (n : ℕ). p *ℤ power b n) (let m : suc (left - 1) ≡ left = omega arith in m) ∙ sym t.whole in
+    let is : p *ℤ b *ℤ int_pow b (left - 1) ≡ int_pow x e =
+    mul_assoc_z p b (int_pow b (left - 1)) ∙ ap (λ (z : ℤ). p *ℤ z) (sym (power-suc b (left - 1)))
+    ∙ ap (λ (n : ℕ). p *ℤ int_pow b n) (let m : suc (left - 1) ≡ left = omega arith in m) ∙ sym t.whole in
     subst (λ (z : ℤ). hi s W <ℤ pos (unsigned_abs z)) is
-    (grown (hi s W) (p *ℤ b) (power b (left - 1)) m.0 m.1 far (power-positive b (left - 1) base))
+    (grown (hi s W) (p *ℤ b) (int_pow b (left - 1)) m.0 m.1 far (power-positive b (left - 1) base))
 
 pub square-beyond : {x p b : ℤ} {e left count : ℕ} (s : Bool) (W : ℕ) → Squaring x e p b left count → 1 < left → InRange s W b
-    → (InRange s W (b *ℤ b) → ⊥) → hi s W <ℤ pos (unsigned_abs (power x e))
+    → (InRange s W (b *ℤ b) → ⊥) → hi s W <ℤ pos (unsigned_abs (int_pow x e))
 square-beyond {x} {p} {b} {e} {left} {count} s W t two g n =
     let far = out-beyond s W b b g g n in
     let m = hi-natural s W in
     let base = left_nonzero b b (positive-of (b *ℤ b) m.0 (subst (λ (z : ℤ). z <ℤ pos (unsigned_abs (b *ℤ b))) m.1 far)) in
-    let is : b *ℤ b *ℤ power b (left - 2) *ℤ p ≡ power x e =
-    mul_comm_z (b *ℤ b *ℤ power b (left - 2)) p
-    ∙ ap (λ (z : ℤ). p *ℤ z) (mul_assoc_z b b (power b (left - 2)) ∙ ap (λ (z : ℤ). b *ℤ z) (sym (power-suc b (left - 2))) ∙ sym (power-suc b (suc (left - 2))))
-    ∙ ap (λ (n : ℕ). p *ℤ power b n) (let m : suc (suc (left - 2)) ≡ left = omega arith in m) ∙ sym t.whole in
+    let is : b *ℤ b *ℤ int_pow b (left - 2) *ℤ p ≡ int_pow x e =
+    mul_comm_z (b *ℤ b *ℤ int_pow b (left - 2)) p
+    ∙ ap (λ (z : ℤ). p *ℤ z) (mul_assoc_z b b (int_pow b (left - 2)) ∙ ap (λ (z : ℤ). b *ℤ z) (sym (power-suc b (left - 2))) ∙ sym (power-suc b (suc (left - 2))))
+    ∙ ap (λ (n : ℕ). p *ℤ int_pow b n) (let m : suc (suc (left - 2)) ≡ left = omega arith in m) ∙ sym t.whole in
     subst (λ (z : ℤ). hi s W <ℤ pos (unsigned_abs z)) is
-    (grown (hi s W) (b *ℤ b *ℤ power b (left - 2)) p m.0 m.1
-    (grown (hi s W) (b *ℤ b) (power b (left - 2)) m.0 m.1 far (power-positive b (left - 2) base))
+    (grown (hi s W) (b *ℤ b *ℤ int_pow b (left - 2)) p m.0 m.1
+    (grown (hi s W) (b *ℤ b) (int_pow b (left - 2)) m.0 m.1 far (power-positive b (left - 2) base))
     (t.nonzero base))
 
 -- the last product, where the storage has it
 pub last-product : {T : Type 0} (number : T → ℤ) {x p b : ℤ} {e left count : ℕ} (s : Bool) (W : ℕ) (r : Option T) → Squaring x e p b left count
-    → InRange s W p → InRange s W b → p *ℤ b ≡ power x e → ExactOrNone number s W (p *ℤ b) r
-    → MatchOption r (hi s W <ℤ pos (unsigned_abs (power x e))) (λ y. number y ≡ power x e)
+    → InRange s W p → InRange s W b → p *ℤ b ≡ int_pow x e → SomeIff (option_map number r) (InRange s W (p *ℤ b)) (p *ℤ b)
+    → MatchOption r (hi s W <ℤ pos (unsigned_abs (int_pow x e))) (λ y. number y ≡ int_pow x e)
 last-product number s W None t f g is h = product-beyond s W t f g h
 last-product number s W (Some y) t f g is h = h.1 ∙ is
 

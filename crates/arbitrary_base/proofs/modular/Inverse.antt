@@ -1,13 +1,14 @@
 -- Calls that undo each other: a sum and a difference that wrap, the two rotations, the reversal, the same `xor` twice, and
 -- the two ways between types of one width and other signs.
 use Rattle.std.specs.Prelude.{◌≡◌, ℕ, ℤ, Bool, List, [], ◌∷◌, true, false, not, neg_ℤ, ◌-◌, ◌≤◌, ◌+ℤ◌, ◌-ℤ◌, length, reverse, take, drop}
+use Rattle.std.specs.List.{slice_rotate_right}
 use Rattle.std.specs.Bool.{beq}
 use Rattle.std.proofs.Common.{arith, refl, ap, ap₂, sym, ◌∙◌, length-drop, take-append-drop}
 use Rattle.std.proofs.lemmas.Int.{ints}
 use Rattle.std.proofs.lemmas.List.{length-reverse, reverse-reverse, take_at, drop_at}
 use Rattle.arbitrary_base.specs.Range.{InRange}
 use Rattle.arbitrary_base.specs.Residue.{wrap}
-use Rattle.arbitrary_base.specs.BitList.{bits, val, bits_xor, rotl, rotr}
+use Rattle.arbitrary_base.specs.BitList.{bits, val, bits_xor, rotr}
 use Rattle.arbitrary_base.proofs.modular.Congruence.{Congruent-refl, Congruent-add}
 use Rattle.arbitrary_base.proofs.modular.Residue.{wrap-congruent, wrap-of_in_range, wrap-same}
 use Rattle.arbitrary_base.proofs.bit_lists.UnsignedNumber.{length-bits, same_length, length-xor}
@@ -29,22 +30,22 @@ add-undoes s B x b r y h f e d =
     let j : (y -ℤ b) +ℤ b ≡ y = omega (arith, ints) in
     d ∙ wrap-same s B _ _ h c ∙ ap (wrap s B) j ∙ wrap-of_in_range s B y h f
 
-pub rotr-undoes : (s : Bool) (B k : ℕ) (x z y : ℤ) → 1 ≤ B → k ≤ B → InRange s B y → x ≡ val s (rotl (bits B y) k) → z ≡ val s (rotr (bits B x) k) → z ≡ y
+pub rotr-undoes : (s : Bool) (B k : ℕ) (x z y : ℤ) → 1 ≤ B → k ≤ B → InRange s B y → x ≡ val s (slice_rotate_right (bits B y) k) → z ≡ val s (rotr (bits B x) k) → z ≡ y
 rotr-undoes s B k x z y h g f e d =
-    let l : bits B x ≡ rotl (bits B y) k = ap (bits B) e ∙ bits-val s B (rotl (bits B y) k) (length-rotl (bits B y) k ∙ length-bits B y) in
+    let l : bits B x ≡ slice_rotate_right (bits B y) k = ap (bits B) e ∙ bits-val s B (slice_rotate_right (bits B y) k) (length-rotl (bits B y) k ∙ length-bits B y) in
     let t : k ≤ length (bits B y) = omega (arith, length-bits B y) in
     d ∙ ap (λ (m : List Bool). val s (rotr m k)) l ∙ ap (val s) (rotr-rotl (bits B y) k t) ∙ val-bits_in_range s B y h f
 
-pub rotl-rotr : (l : List Bool) (k : ℕ) → k ≤ length l → rotl (rotr l k) k ≡ l
+pub rotl-rotr : (l : List Bool) (k : ℕ) → k ≤ length l → slice_rotate_right (rotr l k) k ≡ l
 rotl-rotr l k h =
     let n : length (rotr l k) - k ≡ length (drop k l) = omega (arith, length-rotr l k, length-drop k l) in
     rw (n, take_at (drop k l) (take k l) (length (drop k l)) refl, drop_at (drop k l) (take k l) (length (drop k l)) refl) (take-append-drop k l)
 
-pub rotl-undoes : (s : Bool) (B k : ℕ) (x z y : ℤ) → 1 ≤ B → k ≤ B → InRange s B y → x ≡ val s (rotr (bits B y) k) → z ≡ val s (rotl (bits B x) k) → z ≡ y
+pub rotl-undoes : (s : Bool) (B k : ℕ) (x z y : ℤ) → 1 ≤ B → k ≤ B → InRange s B y → x ≡ val s (rotr (bits B y) k) → z ≡ val s (slice_rotate_right (bits B x) k) → z ≡ y
 rotl-undoes s B k x z y h g f e d =
     let l : bits B x ≡ rotr (bits B y) k = ap (bits B) e ∙ bits-val s B (rotr (bits B y) k) (length-rotr (bits B y) k ∙ length-bits B y) in
     let t : k ≤ length (bits B y) = omega (arith, length-bits B y) in
-    d ∙ ap (λ (m : List Bool). val s (rotl m k)) l ∙ ap (val s) (rotl-rotr (bits B y) k t) ∙ val-bits_in_range s B y h f
+    d ∙ ap (λ (m : List Bool). val s (slice_rotate_right m k)) l ∙ ap (val s) (rotl-rotr (bits B y) k t) ∙ val-bits_in_range s B y h f
 
 pub reverse-undoes : (s : Bool) (B : ℕ) (x z y : ℤ) → 1 ≤ B → InRange s B y → x ≡ val s (reverse (bits B y)) → z ≡ val s (reverse (bits B x)) → z ≡ y
 reverse-undoes s B x z y h f e d =

@@ -1,10 +1,11 @@
 -- Why the low bits of a result depend on the low bits of its sources alone.
 use Rattle.std.proofs.Common.{◌≡◌, ℕ, zero, suc, ◌+◌, ◌-◌, ◌%◌, ◌^◌, ◌≤◌, ◌<◌, Bool, false, not, ◌&&◌, ◌||◌, List, [], ◌∷◌, ◌++◌, length, take, replicate, ℤ, pos, ◌+ℤ◌, ◌-ℤ◌, ◌*ℤ◌, refl, sym, ap, ◌∙◌, arith, length-take, take-take}
+use Rattle.std.specs.Prelude.{map}
 use Rattle.std.specs.Bool.{beq}
 use Rattle.std.proofs.lemmas.List.{length-replicate, take-map}
 use Rattle.std.proofs.Math.Seq.{take-append-add}
 use Rattle.arbitrary_base.specs.Residue.{wrap}
-use Rattle.arbitrary_base.specs.BitList.{bits, num, val, bits_and, bits_or, bits_xor, bits_not, shl}
+use Rattle.arbitrary_base.specs.BitList.{bits, num, val, bits_and, bits_or, bits_xor, shl}
 use Rattle.arbitrary_base.proofs.modular.Congruence.{Congruent-add, Congruent-sub, Congruent-mul, Congruent-narrower}
 use Rattle.arbitrary_base.proofs.modular.Residue.{wrap-congruent, congruent-wrap, wrap-same}
 use Rattle.arbitrary_base.proofs.storages.Primitive.{mod-congruent}
@@ -91,8 +92,8 @@ pub low-xor : (s t : Bool) (A B : ℕ) (x y : ℤ) → 1 ≤ A → A ≤ B
 low-xor s t A B x y h g = low-two s t A B x y bits_xor length-xor take-xor h g
 
 pub low-not : (s t : Bool) (A B : ℕ) (x : ℤ) → 1 ≤ A → A ≤ B
-    → wrap s A (val t (bits_not (bits B x))) ≡ val s (bits_not (bits A (wrap s A x)))
-low-not s t A B x h g = low-one s t A B x bits_not length-not (λ k l. take-map not k l) h g
+    → wrap s A (val t (map not (bits B x))) ≡ val s (map not (bits A (wrap s A x)))
+low-not s t A B x h g = low-one s t A B x (map not) length-not (λ k l. take-map not k l) h g
 
 -- the first items of a list that is shifted by less than these
 take-shl : (A k : ℕ) (l : List Bool) → k ≤ A → A ≤ length l → take A (shl l k) ≡ shl (take A l) k

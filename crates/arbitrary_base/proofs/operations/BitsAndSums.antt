@@ -1,13 +1,13 @@
 -- The laws of bits beside sums, differences and order.
 -- Callers have them by the set `mixed` of `arbitrary_int::proofs::BitVector`: a new law goes there too. Complement.antt, Carry.antt and Order.antt
 -- use the lemmas on `num` here. Laws of `!` beside sums go to the first of these, and those of carries to the second.
-use Rattle.std.specs.Prelude.{◌≡◌, ℕ, ℤ, Bool, true, false, not, ◌&&◌, ◌||◌, List, [], ◌∷◌, length, pos, ◌≤◌, ◌+◌, ◌≤ℤ◌}
+use Rattle.std.specs.Prelude.{◌≡◌, ℕ, ℤ, Bool, true, false, not, ◌&&◌, ◌||◌, List, [], ◌∷◌, length, pos, ◌≤◌, ◌+◌, ◌≤ℤ◌, map}
 use Rattle.std.specs.Bool.{beq}
 use Rattle.std.proofs.Common.{refl, sym, ap, subst, ◌∙◌, arith}
 use Rattle.std.proofs.lemmas.Int.{ints}
 use Rattle.arbitrary_base.specs.Range.{InRange}
 use Rattle.arbitrary_base.specs.Residue.{Congruent}
-use Rattle.arbitrary_base.specs.BitList.{bits, num, bits_and, bits_not, bits_or, bits_xor}
+use Rattle.arbitrary_base.specs.BitList.{bits, num, bits_and, bits_or, bits_xor}
 use Rattle.arbitrary_base.specs.Operation.{bitwise_and, bitwise_not, bitwise_or, bitwise_xor, shifted_left, wrapped_difference, wrapped_sum}
 use Rattle.arbitrary_base.proofs.modular.Congruence.{Congruent-sym}
 use Rattle.arbitrary_base.proofs.modular.Residue.{residue-congruent, wrap-in_range}
@@ -38,7 +38,7 @@ num-xor_and (true ∷ l) (false ∷ m) e = let h = num-xor_and l m (omega arith)
 num-xor_and (false ∷ l) (true ∷ m) e = let h = num-xor_and l m (omega arith) in omega arith
 num-xor_and (false ∷ l) (false ∷ m) e = let h = num-xor_and l m (omega arith) in omega arith
 
-pub num-and_not : (l m : List Bool) → length l ≡ length m → num (bits_and l (bits_not m)) + num (bits_and l m) ≡ num l
+pub num-and_not : (l m : List Bool) → length l ≡ length m → num (bits_and l (map not m)) + num (bits_and l m) ≡ num l
 num-and_not [] [] e = refl
 num-and_not [] (b ∷ m) e = absurd (omega arith)
 num-and_not (a ∷ l) [] e = absurd (omega arith)

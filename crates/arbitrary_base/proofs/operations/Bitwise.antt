@@ -1,10 +1,10 @@
 -- The laws of `and`, `or`, `xor` and `not` on the numbers of a type.
-use Rattle.std.specs.Prelude.{◌≡◌, ℕ, ℤ, Bool, true, false, List, length, replicate, pos, negsuc, ◌≤◌, ◌-◌, ◌^◌, ◌-ℤ◌}
+use Rattle.std.specs.Prelude.{◌≡◌, ℕ, ℤ, Bool, true, false, List, length, replicate, pos, negsuc, ◌≤◌, ◌-◌, ◌^◌, ◌-ℤ◌, map, not}
 use Rattle.std.proofs.Common.{sym, ap, ap₂, ◌∙◌, arith}
 use Rattle.std.proofs.lemmas.Int.{ints}
 use Rattle.std.proofs.lemmas.Nat.{pow_pos}
 use Rattle.arbitrary_base.specs.Range.{InRange}
-use Rattle.arbitrary_base.specs.BitList.{bits, bits_and, bits_or, bits_xor, bits_not}
+use Rattle.arbitrary_base.specs.BitList.{bits, bits_and, bits_or, bits_xor}
 use Rattle.arbitrary_base.specs.Operation.{bitwise_and, bitwise_or, bitwise_xor, bitwise_not}
 use Rattle.arbitrary_base.proofs.bit_lists.UnsignedNumber.{length-bits, same_length}
 use Rattle.arbitrary_base.proofs.operations.Definition.{and-is, or-is, xor-is, not-is, bits-and, bits-or, bits-xor, bits-not, by-bits, of-bits, bits-zero, zero-is, bits-minus_one, bits-highest, bits-not_zero, minus_one-in_range}
@@ -78,7 +78,7 @@ bitwise_xor-equal s B x y h f g e =
 
 pub bitwise_not-twice : (s : Bool) (B : ℕ) (x : ℤ) → 1 ≤ B → InRange s B x → bitwise_not s B (bitwise_not s B x) ≡ x
 bitwise_not-twice s B x h f =
-    by-bits _ _ _ _ _ (not-is s B _) (of-bits s B x h f) (ap bits_not (bits-not s B x) ∙ not-not (bits B x))
+    by-bits _ _ _ _ _ (not-is s B _) (of-bits s B x h f) (ap (map not) (bits-not s B x) ∙ not-not (bits B x))
 
 -- ---- a number whose bits are all one: the complement of 0, the greatest number of a type with no sign, -1 of one with a sign
 
@@ -173,19 +173,19 @@ or-absorbs s B x y h f =
 pub not-and_parts : (s : Bool) (B : ℕ) (x y : ℤ) → bitwise_not s B (bitwise_and s B x y) ≡ bitwise_or s B (bitwise_not s B x) (bitwise_not s B y)
 not-and_parts s B x y =
     by-bits _ _ _ _ _ (not-is s B _) (or-is s B _ _)
-    (ap bits_not (bits-and s B x y) ∙ not-and (bits B x) (bits B y) ∙ sym (ap₂ bits_or (bits-not s B x) (bits-not s B y)))
+    (ap (map not) (bits-and s B x y) ∙ not-and (bits B x) (bits B y) ∙ sym (ap₂ bits_or (bits-not s B x) (bits-not s B y)))
 
 pub not-or_parts : (s : Bool) (B : ℕ) (x y : ℤ) → bitwise_not s B (bitwise_or s B x y) ≡ bitwise_and s B (bitwise_not s B x) (bitwise_not s B y)
 not-or_parts s B x y =
     by-bits _ _ _ _ _ (not-is s B _) (and-is s B _ _)
-    (ap bits_not (bits-or s B x y) ∙ not-or (bits B x) (bits B y) ∙ sym (ap₂ bits_and (bits-not s B x) (bits-not s B y)))
+    (ap (map not) (bits-or s B x y) ∙ not-or (bits B x) (bits B y) ∙ sym (ap₂ bits_and (bits-not s B x) (bits-not s B y)))
 
 pub not-xor_left : (s : Bool) (B : ℕ) (x y : ℤ) → bitwise_not s B (bitwise_xor s B x y) ≡ bitwise_xor s B (bitwise_not s B x) y
 not-xor_left s B x y =
     by-bits _ _ _ _ _ (not-is s B _) (xor-is s B _ y)
-    (ap bits_not (bits-xor s B x y) ∙ not-xor (bits B x) (bits B y) ∙ sym (ap (λ (l : List Bool). bits_xor l (bits B y)) (bits-not s B x)))
+    (ap (map not) (bits-xor s B x y) ∙ not-xor (bits B x) (bits B y) ∙ sym (ap (λ (l : List Bool). bits_xor l (bits B y)) (bits-not s B x)))
 
 pub xor-is_and : (s : Bool) (B : ℕ) (x y : ℤ) → bitwise_xor s B x y ≡ bitwise_and s B (bitwise_or s B x y) (bitwise_not s B (bitwise_and s B x y))
 xor-is_and s B x y =
     by-bits _ _ _ _ _ (xor-is s B x y) (and-is s B _ _)
-    (xor-parts (bits B x) (bits B y) ∙ sym (ap₂ bits_and (bits-or s B x y) (bits-not s B _ ∙ ap bits_not (bits-and s B x y))))
+    (xor-parts (bits B x) (bits B y) ∙ sym (ap₂ bits_and (bits-or s B x y) (bits-not s B _ ∙ ap (map not) (bits-and s B x y))))

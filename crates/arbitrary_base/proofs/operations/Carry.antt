@@ -1,9 +1,9 @@
 -- The laws of sums and differences told by the bits that two numbers share, and those that only one of them has: the carries and the borrows.
-use Rattle.std.specs.Prelude.{◌≡◌, ℕ, ℤ, Bool, pos, ◌≤◌, ◌+ℤ◌}
+use Rattle.std.specs.Prelude.{◌≡◌, ℕ, ℤ, Bool, pos, ◌≤◌, ◌+ℤ◌, map, not}
 use Rattle.std.proofs.Common.{ap, subst, ◌∙◌, arith}
 use Rattle.std.proofs.lemmas.Int.{ints}
 use Rattle.arbitrary_base.specs.Residue.{Congruent}
-use Rattle.arbitrary_base.specs.BitList.{bits, num, bits_and, bits_not}
+use Rattle.arbitrary_base.specs.BitList.{bits, num, bits_and}
 use Rattle.arbitrary_base.specs.Operation.{bitwise_and, bitwise_not, bitwise_or, bitwise_xor, wrapped_difference, wrapped_sum}
 use Rattle.arbitrary_base.proofs.bit_lists.Pointwise.{and-comm}
 use Rattle.arbitrary_base.proofs.bit_lists.UnsignedNumber.{same_length}
@@ -19,7 +19,7 @@ shared B x y = pos (num (bits_and (bits B x) (bits B y)))
 
 -- the bits that x has, and y has not
 abbrev only : ℕ → ℤ → ℤ → ℤ
-only B x y = pos (num (bits_and (bits B x) (bits_not (bits B y))))
+only B x y = pos (num (bits_and (bits B x) (map not (bits B y))))
 
 first : (B : ℕ) (x y : ℤ) → Congruent B x (shared B x y +ℤ only B x y)
 first B x y =

@@ -1,10 +1,10 @@
 -- The laws of the complement beside sums and differences: it is what a number lacks to -1.
-use Rattle.std.specs.Prelude.{◌≡◌, ℕ, ℤ, Bool, pos, negsuc, ◌≤◌, ◌+◌, ◌^◌, ◌-ℤ◌}
+use Rattle.std.specs.Prelude.{◌≡◌, ℕ, ℤ, Bool, pos, negsuc, ◌≤◌, ◌+◌, ◌^◌, ◌-ℤ◌, map, not}
 use Rattle.std.proofs.Common.{ap, ◌∙◌, arith}
 use Rattle.std.proofs.lemmas.Int.{ints}
 use Rattle.arbitrary_base.specs.Range.{InRange}
 use Rattle.arbitrary_base.specs.Residue.{Congruent}
-use Rattle.arbitrary_base.specs.BitList.{bits, num, bits_and, bits_not}
+use Rattle.arbitrary_base.specs.BitList.{bits, num, bits_and}
 use Rattle.arbitrary_base.specs.Operation.{bitwise_and, bitwise_not, bitwise_or, wrapped_difference, wrapped_sum}
 use Rattle.arbitrary_base.proofs.bit_lists.UnsignedNumber.{length-bits, num-not, same_length}
 use Rattle.arbitrary_base.proofs.modular.Congruence.{Congruent-refl, Congruent-sub, Congruent-sym, Congruent-trans}
@@ -15,8 +15,8 @@ use Rattle.arbitrary_base.proofs.bit_lists.Pointwise.{and-comm}
 
 not-congruent : (s : Bool) (B : ℕ) (x a : ℤ) → Congruent B x a → Congruent B (bitwise_not s B x) (negsuc 0 -ℤ a)
 not-congruent s B x a c =
-    let e : num (bits B x) + num (bits_not (bits B x)) + 1 ≡ 2 ^ B = num-not (bits B x) ∙ ap (λ (n : ℕ). 2 ^ n) (length-bits B x) in
-    let d : Congruent B (pos (num (bits_not (bits B x)))) (negsuc 0 -ℤ pos (num (bits B x))) = record { times = pos 1; apart = omega (arith, ints) } in
+    let e : num (bits B x) + num (map not (bits B x)) + 1 ≡ 2 ^ B = num-not (bits B x) ∙ ap (λ (n : ℕ). 2 ^ n) (length-bits B x) in
+    let d : Congruent B (pos (num (map not (bits B x)))) (negsuc 0 -ℤ pos (num (bits B x))) = record { times = pos 1; apart = omega (arith, ints) } in
     let f = Congruent-trans B _ x a (Congruent-sym B x _ (natural B x)) c in
     Congruent-trans B _ _ _ (of-list B _ _ (bits-not s B x)) (Congruent-trans B _ _ _ d (Congruent-sub B _ _ _ _ (Congruent-refl B (negsuc 0)) f))
 

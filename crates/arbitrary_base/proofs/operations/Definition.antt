@@ -1,5 +1,6 @@
 -- What each word for an operation is, and the bits of what it gives.
-use Rattle.std.specs.Prelude.{◌≡◌, ℕ, ℤ, zero, suc, Bool, true, false, not, ◌&&◌, ◌||◌, List, ◌∷◌, length, replicate, reverse, pos, negsuc, ◌≤◌, ◌-◌, ◌^◌, ◌+ℤ◌, ◌-ℤ◌, ◌*ℤ◌}
+use Rattle.std.specs.Prelude.{◌≡◌, ℕ, ℤ, zero, suc, Bool, true, false, not, ◌&&◌, ◌||◌, List, ◌∷◌, length, replicate, reverse, pos, negsuc, ◌≤◌, ◌-◌, ◌^◌, ◌+ℤ◌, ◌-ℤ◌, ◌*ℤ◌, map}
+use Rattle.std.specs.List.{slice_rotate_right}
 use Rattle.std.specs.Bool.{beq}
 use Rattle.std.proofs.Common.{refl, sym, ap, subst, ◌∙◌, arith}
 use Rattle.std.proofs.lemmas.Int.{ints}
@@ -7,7 +8,7 @@ use Rattle.std.proofs.lemmas.List.{length-reverse}
 use Rattle.std.proofs.lemmas.Nat.{pow_pos}
 use Rattle.arbitrary_base.specs.Range.{InRange}
 use Rattle.arbitrary_base.specs.Residue.{Congruent, wrap}
-use Rattle.arbitrary_base.specs.BitList.{bits, val, bits_and, bits_or, bits_xor, bits_not, fill, rotl, rotr, shl, shr}
+use Rattle.arbitrary_base.specs.BitList.{bits, val, bits_and, bits_or, bits_xor, fill, rotr, shl, shr}
 use Rattle.arbitrary_base.specs.Operation.{bitwise_and, bitwise_or, bitwise_xor, bitwise_not, reversed, rotated_left, rotated_right, shifted_left, shifted_right, wrapped_difference, wrapped_product, wrapped_sum}
 use Rattle.arbitrary_base.proofs.bit_lists.UnsignedNumber.{length-bits, length-not, same_length}
 use Rattle.arbitrary_base.proofs.bit_lists.Movement.{length-rotl, length-rotr, length-shl, length-shr, replicate-not}
@@ -41,7 +42,7 @@ pub xor-is : (s : Bool) (B : ℕ) (x y : ℤ) → bitwise_xor s B x y ≡ val s 
 unfolding bitwise_xor
 xor-is s B x y = refl
 
-pub not-is : (s : Bool) (B : ℕ) (x : ℤ) → bitwise_not s B x ≡ val s (bits_not (bits B x))
+pub not-is : (s : Bool) (B : ℕ) (x : ℤ) → bitwise_not s B x ≡ val s (map not (bits B x))
 unfolding bitwise_not
 not-is s B x = refl
 
@@ -53,7 +54,7 @@ pub right-is : (s : Bool) (B : ℕ) (x : ℤ) (k : ℕ) → shifted_right s B x 
 unfolding shifted_right
 right-is s B x k = refl
 
-pub rotl-is : (s : Bool) (B : ℕ) (x : ℤ) (k : ℕ) → rotated_left s B x k ≡ val s (rotl (bits B x) k)
+pub rotl-is : (s : Bool) (B : ℕ) (x : ℤ) (k : ℕ) → rotated_left s B x k ≡ val s (slice_rotate_right (bits B x) k)
 unfolding rotated_left
 rotl-is s B x k = refl
 
@@ -79,7 +80,7 @@ bits-or s B x y = ap (bits B) (or-is s B x y) ∙ bits-val s B _ (length-of_two 
 pub bits-xor : (s : Bool) (B : ℕ) (x y : ℤ) → bits B (bitwise_xor s B x y) ≡ bits_xor (bits B x) (bits B y)
 bits-xor s B x y = ap (bits B) (xor-is s B x y) ∙ bits-val s B _ (length-of_two (λ a b. not (beq a b)) B x y)
 
-pub bits-not : (s : Bool) (B : ℕ) (x : ℤ) → bits B (bitwise_not s B x) ≡ bits_not (bits B x)
+pub bits-not : (s : Bool) (B : ℕ) (x : ℤ) → bits B (bitwise_not s B x) ≡ map not (bits B x)
 bits-not s B x = ap (bits B) (not-is s B x) ∙ bits-val s B _ (length-not (bits B x) ∙ length-bits B x)
 
 pub bits-left : (s : Bool) (B : ℕ) (x : ℤ) (k : ℕ) → k ≤ B → bits B (shifted_left s B x k) ≡ shl (bits B x) k
@@ -92,7 +93,7 @@ bits-right s B x k h =
     let l = length-bits B x in
     ap (bits B) (right-is s B x k) ∙ bits-val s B _ (length-shr (bits B x) k (fill s (bits B x)) (omega arith) ∙ l)
 
-pub bits-rotl : (s : Bool) (B : ℕ) (x : ℤ) (k : ℕ) → bits B (rotated_left s B x k) ≡ rotl (bits B x) k
+pub bits-rotl : (s : Bool) (B : ℕ) (x : ℤ) (k : ℕ) → bits B (rotated_left s B x k) ≡ slice_rotate_right (bits B x) k
 bits-rotl s B x k = ap (bits B) (rotl-is s B x k) ∙ bits-val s B _ (length-rotl (bits B x) k ∙ length-bits B x)
 
 pub bits-rotr : (s : Bool) (B : ℕ) (x : ℤ) (k : ℕ) → bits B (rotated_right s B x k) ≡ rotr (bits B x) k
@@ -124,7 +125,7 @@ pub zero-is : (s : Bool) (B : ℕ) → 1 ≤ B → pos 0 ≡ val s (replicate B 
 zero-is s B h = of-bits s B (pos 0) h (zero-in_range s B) ∙ ap (val s) (bits-zero B)
 
 pub bits-minus_one : (B : ℕ) → bits B (negsuc 0) ≡ replicate B true
-bits-minus_one B = bits-negsuc B 0 ∙ ap bits_not (bits-zero B) ∙ replicate-not B false
+bits-minus_one B = bits-negsuc B 0 ∙ ap (map not) (bits-zero B) ∙ replicate-not B false
 
 pub bits-highest : (B : ℕ) → bits B (pos (2 ^ B) -ℤ pos 1) ≡ replicate B true
 bits-highest B =
@@ -132,12 +133,12 @@ bits-highest B =
     bits-congruent B (pos (2 ^ B) -ℤ pos 1) (negsuc 0) c ∙ bits-minus_one B
 
 pub bits-not_zero : (s : Bool) (B : ℕ) → bits B (bitwise_not s B (pos 0)) ≡ replicate B true
-bits-not_zero s B = bits-not s B (pos 0) ∙ ap bits_not (bits-zero B) ∙ replicate-not B false
+bits-not_zero s B = bits-not s B (pos 0) ∙ ap (map not) (bits-zero B) ∙ replicate-not B false
 
 pub minus_one-in_range : (B : ℕ) → InRange true B (negsuc 0)
 minus_one-in_range B = let p = pow_pos (B - 1) in record { low = omega (arith, ints); high = omega (arith, ints) }
 
 pub not-in_range : (s : Bool) (B : ℕ) (x : ℤ) → 1 ≤ B → InRange s B (bitwise_not s B x)
 not-in_range s B x h =
-    let e = val-num s B (bits_not (bits B x)) (length-not (bits B x) ∙ length-bits B x) in
+    let e = val-num s B (map not (bits B x)) (length-not (bits B x) ∙ length-bits B x) in
     subst (InRange s B) (sym (not-is s B x ∙ e)) (wrap-in_range s B _ h)

@@ -10,14 +10,14 @@ use Rattle.std.proofs.lemmas.Nat.Bits.{and_high}
 use Rattle.std.proofs.lemmas.Grind.{bit_length, low_zeros}
 use Rattle.arbitrary_base.specs.Range.{InRange, hi}
 use Rattle.arbitrary_base.specs.Residue.{Congruent}
-use Rattle.arbitrary_base.specs.BitList.{bits, digit, num}
+use Rattle.arbitrary_base.specs.BitList.{bits, num}
 use Rattle.arbitrary_base.specs.Operation.{bitwise_and, bitwise_not, bitwise_or, bitwise_xor}
 use Rattle.arbitrary_base.proofs.modular.Congruence.{Apart-from_congruent, Congruent-from_apart, Congruent-narrower, Congruent-sym, Congruent-trans, pow_half}
 use Rattle.arbitrary_base.proofs.modular.Residue.{congruent-same}
 use Rattle.arbitrary_base.proofs.storages.Primitive.{mod-congruent, unsigned-in_range}
 use Rattle.arbitrary_base.proofs.bit_lists.Pointwise.{pointwise}
 use Rattle.arbitrary_base.proofs.bit_lists.StdBitwise.{not-signed, num-plain, reach, val-plain}
-use Rattle.arbitrary_base.proofs.bit_lists.UnsignedNumber.{length-bits, num-and, num-bits_small, num-lt_of, same_length}
+use Rattle.arbitrary_base.proofs.bit_lists.UnsignedNumber.{digit, length-bits, num-and, num-bits_small, num-lt_of, same_length}
 use Rattle.arbitrary_base.proofs.operations.Bitwise.{bitwise_and-associates, bitwise_and-commutes, bitwise_and-complement, bitwise_and-same, bitwise_and-zero, and-absorbs, bitwise_or-commutes}
 use Rattle.arbitrary_base.proofs.operations.BitsAndSums.{and-in_range, natural, num-or_and, num-xor_and, or-above, or-in_range, plain, xor-in_range}
 use Rattle.arbitrary_base.proofs.operations.Definition.{and-is, bits-and, bits-or, bits-xor, length-of_two, not-is}

@@ -1,11 +1,11 @@
 -- The laws of numbers that are taken apart and put together under a mask, and of one operation in terms of others.
 -- Each is proved of lists, item by item, and carried to numbers by Definition.antt. A law comes to callers by the set `masks` of
 -- `arbitrary_int::proofs::BitVector`, so a new one goes there too. Laws of one operation alone stand in Bitwise.antt.
-use Rattle.std.specs.Prelude.{◌≡◌, ℕ, ℤ, Bool, not, ◌&&◌, ◌||◌, List, [], ◌∷◌, length, ◌≤◌}
+use Rattle.std.specs.Prelude.{◌≡◌, ℕ, ℤ, Bool, not, ◌&&◌, ◌||◌, List, [], ◌∷◌, length, ◌≤◌, map}
 use Rattle.std.specs.Bool.{beq}
 use Rattle.std.proofs.Common.{refl, sym, ap, ap₂, ◌∙◌, arith}
 use Rattle.arbitrary_base.specs.Range.{InRange}
-use Rattle.arbitrary_base.specs.BitList.{bits, bits_and, bits_or, bits_xor, bits_not}
+use Rattle.arbitrary_base.specs.BitList.{bits, bits_and, bits_or, bits_xor}
 use Rattle.arbitrary_base.specs.Operation.{bitwise_and, bitwise_not, bitwise_or, bitwise_xor}
 use Rattle.arbitrary_base.proofs.bit_lists.Pointwise.{cons}
 use Rattle.arbitrary_base.proofs.bit_lists.UnsignedNumber.{same_length}
@@ -13,7 +13,7 @@ use Rattle.arbitrary_base.proofs.operations.Definition.{and-is, or-is, xor-is, b
 
 -- ---- of lists, item by item
 
-or-parts : (l m : List Bool) → length l ≡ length m → bits_or (bits_and l m) (bits_and l (bits_not m)) ≡ l
+or-parts : (l m : List Bool) → length l ≡ length m → bits_or (bits_and l m) (bits_and l (map not m)) ≡ l
 or-parts [] m e = refl
 or-parts (a ∷ l) [] e = absurd (omega arith)
 or-parts (a ∷ l) (b ∷ m) e = cons (item a b) (or-parts l m (omega arith))
@@ -21,7 +21,7 @@ or-parts (a ∷ l) (b ∷ m) e = cons (item a b) (or-parts l m (omega arith))
     item : (a b : Bool) → ((a && b) || (a && not b)) ≡ a
     item a b = grind arith
 
-and-or_not : (l m : List Bool) → bits_and l (bits_or (bits_not l) m) ≡ bits_and l m
+and-or_not : (l m : List Bool) → bits_and l (bits_or (map not l) m) ≡ bits_and l m
 and-or_not [] m = refl
 and-or_not (a ∷ l) [] = refl
 and-or_not (a ∷ l) (b ∷ m) = cons (item a b) (and-or_not l m)
@@ -29,7 +29,7 @@ and-or_not (a ∷ l) (b ∷ m) = cons (item a b) (and-or_not l m)
     item : (a b : Bool) → (a && (not a || b)) ≡ (a && b)
     item a b = grind arith
 
-or-and_not : (l m : List Bool) → bits_or l (bits_and (bits_not l) m) ≡ bits_or l m
+or-and_not : (l m : List Bool) → bits_or l (bits_and (map not l) m) ≡ bits_or l m
 or-and_not [] m = refl
 or-and_not (a ∷ l) [] = refl
 or-and_not (a ∷ l) (b ∷ m) = cons (item a b) (or-and_not l m)
@@ -37,7 +37,7 @@ or-and_not (a ∷ l) (b ∷ m) = cons (item a b) (or-and_not l m)
     item : (a b : Bool) → (a || (not a && b)) ≡ (a || b)
     item a b = grind arith
 
-xor-sides : (l m : List Bool) → bits_xor l m ≡ bits_or (bits_and l (bits_not m)) (bits_and (bits_not l) m)
+xor-sides : (l m : List Bool) → bits_xor l m ≡ bits_or (bits_and l (map not m)) (bits_and (map not l) m)
 xor-sides [] m = refl
 xor-sides (a ∷ l) [] = refl
 xor-sides (a ∷ l) (b ∷ m) = cons (item a b) (xor-sides l m)
@@ -45,7 +45,7 @@ xor-sides (a ∷ l) (b ∷ m) = cons (item a b) (xor-sides l m)
     item : (a b : Bool) → not (beq a b) ≡ ((a && not b) || (not a && b))
     item a b = grind arith
 
-and_not-xor : (l m : List Bool) → bits_and l (bits_not m) ≡ bits_xor l (bits_and l m)
+and_not-xor : (l m : List Bool) → bits_and l (map not m) ≡ bits_xor l (bits_and l m)
 and_not-xor [] m = refl
 and_not-xor (a ∷ l) [] = refl
 and_not-xor (a ∷ l) (b ∷ m) = cons (item a b) (and_not-xor l m)
@@ -61,7 +61,7 @@ or-xors (a ∷ l) (b ∷ m) = cons (item a b) (or-xors l m)
     item : (a b : Bool) → (a || b) ≡ not (beq (not (beq a b)) (a && b))
     item a b = grind arith
 
-choice : (l m n : List Bool) → bits_or (bits_and l n) (bits_and m (bits_not n)) ≡ bits_xor m (bits_and (bits_xor l m) n)
+choice : (l m n : List Bool) → bits_or (bits_and l n) (bits_and m (map not n)) ≡ bits_xor m (bits_and (bits_xor l m) n)
 choice [] [] n = refl
 choice [] (b ∷ m) n = refl
 choice (a ∷ l) [] [] = refl

@@ -1,12 +1,14 @@
 -- What the counts of ones at an end say of the number: they are the zeros of its complement.
 use Rattle.std.specs.Prelude.{◌≡◌, ◌≢◌, ℕ, ℤ, zero, suc, Bool, true, false, ◌∷◌, pos, negsuc, neg_ℤ, ◌+◌, ◌-◌, ◌*◌, ◌%◌, ◌^◌, ◌<◌, ◌≤◌, ◌-ℤ◌, ◌*ℤ◌, ◌<ℤ◌, ◌≤ℤ◌, ◌==◌, unsigned_abs}
+use Rattle.std.specs.Bool.{beq}
+use Rattle.std.specs.List.{suffix_len, prefix_len, count_by}
 use Rattle.std.specs.Int.{int_div_euclid}
 use Rattle.std.proofs.Common.{refl, sym, ap, arith, ◌∙◌}
 use Rattle.std.proofs.lemmas.Int.{ints}
 use Rattle.std.proofs.lemmas.Nat.{pow_pos}
 use Rattle.arbitrary_base.specs.Range.{InRange}
 use Rattle.arbitrary_base.specs.Residue.{Congruent}
-use Rattle.arbitrary_base.specs.BitList.{bits, front, popcount, tail}
+use Rattle.arbitrary_base.specs.BitList.{bits}
 use Rattle.arbitrary_base.specs.Operation.{bitwise_not}
 use Rattle.arbitrary_base.proofs.bit_lists.StdBitwise.{not-signed, not-unsigned}
 use Rattle.arbitrary_base.proofs.modular.Congruence.{pow_half, pow_le}
@@ -28,31 +30,31 @@ not-zero true B x h f d g z =
 -- ---- ones at the high end
 
 -- a number below half of the numbers that have no sign
-upper-none : (B : ℕ) (y : ℤ) → 1 ≤ B → InRange false B y → pos (2 ^ (B - 1)) ≤ℤ y → tail false (bits B y) ≡ 0
+upper-none : (B : ℕ) (y : ℤ) → 1 ≤ B → InRange false B y → pos (2 ^ (B - 1)) ≤ℤ y → suffix_len (beq false) (bits B y) ≡ 0
 upper-none B y h f g =
     let p = pow_pos (B - 1) in
     let l = leading-high false B y h f (omega (arith, ints)) in
-    by-cases (tail false (bits B y)) refl l
+    by-cases (suffix_len (beq false) (bits B y)) refl l
   where
-    by-cases : (t : ℕ) → t ≡ tail false (bits B y) → y <ℤ pos (2 ^ (B - tail false (bits B y))) → tail false (bits B y) ≡ 0
+    by-cases : (t : ℕ) → t ≡ suffix_len (beq false) (bits B y) → y <ℤ pos (2 ^ (B - suffix_len (beq false) (bits B y))) → suffix_len (beq false) (bits B y) ≡ 0
     by-cases zero e l = sym e
     by-cases (suc t) e l =
-        let q = pow_le (B - tail false (bits B y)) (B - 1) (omega arith) in
+        let q = pow_le (B - suffix_len (beq false) (bits B y)) (B - 1) (omega arith) in
         absurd (omega (arith, ints))
 
-lower-some : (s : Bool) (B : ℕ) (y : ℤ) → 1 ≤ B → InRange s B y → pos 0 ≤ℤ y → y <ℤ pos (2 ^ (B - 1)) → 1 ≤ tail false (bits B y)
+lower-some : (s : Bool) (B : ℕ) (y : ℤ) → 1 ≤ B → InRange s B y → pos 0 ≤ℤ y → y <ℤ pos (2 ^ (B - 1)) → 1 ≤ suffix_len (beq false) (bits B y)
 lower-some s B (negsuc n) h f g l = absurd (omega (arith, ints))
 lower-some s B (pos zero) h f g l = let e = leading-none s B (pos zero) h f refl in omega arith
-lower-some s B (pos (suc n)) h f g l = by-cases (tail false (bits B (pos (suc n)))) refl (leading-low s B (pos (suc n)) h f (omega (arith, ints)))
+lower-some s B (pos (suc n)) h f g l = by-cases (suffix_len (beq false) (bits B (pos (suc n)))) refl (leading-low s B (pos (suc n)) h f (omega (arith, ints)))
   where
-    by-cases : (t : ℕ) → t ≡ tail false (bits B (pos (suc n))) → pos (2 ^ (B - 1 - tail false (bits B (pos (suc n))))) ≤ℤ pos (suc n)
-        → 1 ≤ tail false (bits B (pos (suc n)))
+    by-cases : (t : ℕ) → t ≡ suffix_len (beq false) (bits B (pos (suc n))) → pos (2 ^ (B - 1 - suffix_len (beq false) (bits B (pos (suc n))))) ≤ℤ pos (suc n)
+        → 1 ≤ suffix_len (beq false) (bits B (pos (suc n)))
     by-cases zero e k =
-        let w : 2 ^ (B - 1 - tail false (bits B (pos (suc n)))) ≡ 2 ^ (B - 1) = ap (λ (m : ℕ). 2 ^ m) (omega arith) in
+        let w : 2 ^ (B - 1 - suffix_len (beq false) (bits B (pos (suc n)))) ≡ 2 ^ (B - 1) = ap (λ (m : ℕ). 2 ^ m) (omega arith) in
         absurd (omega (arith, ints))
     by-cases (suc t) e k = omega arith
 
-pub leading_ones-none : (s : Bool) (B : ℕ) (x : ℤ) → 1 ≤ B → InRange s B x → pos 0 ≤ℤ x → x <ℤ pos (2 ^ (B - 1)) → tail true (bits B x) ≡ 0
+pub leading_ones-none : (s : Bool) (B : ℕ) (x : ℤ) → 1 ≤ B → InRange s B x → pos 0 ≤ℤ x → x <ℤ pos (2 ^ (B - 1)) → suffix_len (beq true) (bits B x) ≡ 0
 leading_ones-none true B x h f g l =
     let e = not-signed true B x (bitwise_not true B x) refl h f (not-is true B x) in
     sym (tail_zeros-of_not true B x) ∙ leading-negative true B (bitwise_not true B x) h (not-in_range true B x h) (omega (arith, ints))
@@ -61,7 +63,7 @@ leading_ones-none false B x h f g l =
     let p = pow_half B h in
     sym (tail_zeros-of_not false B x) ∙ upper-none B (bitwise_not false B x) h (not-in_range false B x h) (omega (arith, ints))
 
-pub leading_ones-some : (s : Bool) (B : ℕ) (x : ℤ) → 1 ≤ B → InRange s B x → pos (2 ^ (B - 1)) ≤ℤ x → 1 ≤ tail true (bits B x)
+pub leading_ones-some : (s : Bool) (B : ℕ) (x : ℤ) → 1 ≤ B → InRange s B x → pos (2 ^ (B - 1)) ≤ℤ x → 1 ≤ suffix_len (beq true) (bits B x)
 leading_ones-some true B x h f g = let t = f.high in absurd (omega (arith, ints))
 leading_ones-some false B x h f g =
     let e = not-unsigned false B x (bitwise_not false B x) refl h f (not-is false B x) in
@@ -71,7 +73,7 @@ leading_ones-some false B x h f g =
     let m = lower-some false B (bitwise_not false B x) h (not-in_range false B x h) (omega (arith, ints)) (omega (arith, ints)) in
     omega arith
 
-pub leading_ones-negative : (s : Bool) (B : ℕ) (x : ℤ) → 1 ≤ B → InRange s B x → x <ℤ pos 0 → 1 ≤ tail true (bits B x)
+pub leading_ones-negative : (s : Bool) (B : ℕ) (x : ℤ) → 1 ≤ B → InRange s B x → x <ℤ pos 0 → 1 ≤ suffix_len (beq true) (bits B x)
 leading_ones-negative false B x h f g = let l = f.low in absurd (omega (arith, ints))
 leading_ones-negative true B x h f g =
     let e = not-signed true B x (bitwise_not true B x) refl h f (not-is true B x) in
@@ -80,7 +82,7 @@ leading_ones-negative true B x h f g =
     let m = lower-some true B (bitwise_not true B x) h (not-in_range true B x h) (omega (arith, ints)) (omega (arith, ints)) in
     omega arith
 
-pub leading_ones-found : (s : Bool) (B : ℕ) (x : ℤ) → 1 ≤ B → InRange s B x → x ≢ pos (2 ^ B) -ℤ pos 1 → x ≢ neg_ℤ (pos 1) → tail true (bits B x) < B
+pub leading_ones-found : (s : Bool) (B : ℕ) (x : ℤ) → 1 ≤ B → InRange s B x → x ≢ pos (2 ^ B) -ℤ pos 1 → x ≢ neg_ℤ (pos 1) → suffix_len (beq true) (bits B x) < B
 leading_ones-found s B x h f d g =
     let i = tail_zeros-of_not s B x in
     let l = leading-found s B (bitwise_not s B x) h (not-in_range s B x h) (not-zero s B x h f d g) in
@@ -88,7 +90,7 @@ leading_ones-found s B x h f d g =
 
 -- ---- ones at the low end
 
-pub trailing_ones-found : (s : Bool) (B : ℕ) (x : ℤ) → 1 ≤ B → InRange s B x → x ≢ pos (2 ^ B) -ℤ pos 1 → x ≢ neg_ℤ (pos 1) → front true (bits B x) < B
+pub trailing_ones-found : (s : Bool) (B : ℕ) (x : ℤ) → 1 ≤ B → InRange s B x → x ≢ pos (2 ^ B) -ℤ pos 1 → x ≢ neg_ℤ (pos 1) → prefix_len (beq true) (bits B x) < B
 trailing_ones-found s B x h f d g =
     let i = front_zeros-of_not s B x in
     let l = trailing-found s B (bitwise_not s B x) h (not-in_range s B x h) (not-zero s B x h f d g) in
@@ -96,7 +98,7 @@ trailing_ones-found s B x h f d g =
 
 -- ---- how many
 
-pub zeros-some : (s : Bool) (B : ℕ) (x : ℤ) → 1 ≤ B → InRange s B x → x ≢ pos (2 ^ B) -ℤ pos 1 → x ≢ neg_ℤ (pos 1) → 1 ≤ B - popcount (bits B x)
+pub zeros-some : (s : Bool) (B : ℕ) (x : ℤ) → 1 ≤ B → InRange s B x → x ≢ pos (2 ^ B) -ℤ pos 1 → x ≢ neg_ℤ (pos 1) → 1 ≤ B - count_by (λ b. b) (bits B x)
 zeros-some s B x h f d g =
     let i = popcount-of_not s B x in
     let m = popcount-some s B (bitwise_not s B x) h (not-in_range s B x h) (not-zero s B x h f d g) in
@@ -122,36 +124,36 @@ odd-is x c = by-cases x c.times c.apart
     by-cases (pos n) t e = omega (arith, ints)
     by-cases (negsuc n) t e = omega (arith, ints)
 
-pub trailing_ones-even : (B : ℕ) (x : ℤ) → 1 ≤ B → Congruent 1 x (pos 0) → front true (bits B x) ≡ 0
+pub trailing_ones-even : (B : ℕ) (x : ℤ) → 1 ≤ B → Congruent 1 x (pos 0) → prefix_len (beq true) (bits B x) ≡ 0
 trailing_ones-even zero x h c = absurd (omega arith)
-trailing_ones-even (suc k) x h c = ap (front true) (lowest k x) ∙ rw (even-is x c) refl
+trailing_ones-even (suc k) x h c = ap (prefix_len (beq true)) (lowest k x) ∙ rw (even-is x c) refl
 
-pub trailing_ones-odd : (B : ℕ) (x : ℤ) → 1 ≤ B → Congruent 1 x (pos 1) → 1 ≤ front true (bits B x)
+pub trailing_ones-odd : (B : ℕ) (x : ℤ) → 1 ≤ B → Congruent 1 x (pos 1) → 1 ≤ prefix_len (beq true) (bits B x)
 trailing_ones-odd zero x h c = absurd (omega arith)
 trailing_ones-odd (suc k) x h c =
-    let e : front true (bits (suc k) x) ≡ 1 + front true (bits k (int_div_euclid x (pos 2))) = ap (front true) (lowest k x) ∙ rw (odd-is x c) refl in
+    let e : prefix_len (beq true) (bits (suc k) x) ≡ 1 + prefix_len (beq true) (bits k (int_div_euclid x (pos 2))) = ap (prefix_len (beq true)) (lowest k x) ∙ rw (odd-is x c) refl in
     omega arith
 
-pub trailing_zeros-odd : (B : ℕ) (x : ℤ) → 1 ≤ B → Congruent 1 x (pos 1) → front false (bits B x) ≡ 0
+pub trailing_zeros-odd : (B : ℕ) (x : ℤ) → 1 ≤ B → Congruent 1 x (pos 1) → prefix_len (beq false) (bits B x) ≡ 0
 trailing_zeros-odd zero x h c = absurd (omega arith)
-trailing_zeros-odd (suc k) x h c = ap (front false) (lowest k x) ∙ rw (odd-is x c) refl
+trailing_zeros-odd (suc k) x h c = ap (prefix_len (beq false)) (lowest k x) ∙ rw (odd-is x c) refl
 
-pub trailing_zeros-even : (B : ℕ) (x : ℤ) → 1 ≤ B → Congruent 1 x (pos 0) → 1 ≤ front false (bits B x)
+pub trailing_zeros-even : (B : ℕ) (x : ℤ) → 1 ≤ B → Congruent 1 x (pos 0) → 1 ≤ prefix_len (beq false) (bits B x)
 trailing_zeros-even zero x h c = absurd (omega arith)
 trailing_zeros-even (suc k) x h c =
-    let e : front false (bits (suc k) x) ≡ 1 + front false (bits k (int_div_euclid x (pos 2))) = ap (front false) (lowest k x) ∙ rw (even-is x c) refl in
+    let e : prefix_len (beq false) (bits (suc k) x) ≡ 1 + prefix_len (beq false) (bits k (int_div_euclid x (pos 2))) = ap (prefix_len (beq false)) (lowest k x) ∙ rw (even-is x c) refl in
     omega arith
 
 -- ---- -1, whose bits are all one
 
-pub leading_ones-minus_one : (B : ℕ) (x : ℤ) → x ≡ neg_ℤ (pos 1) → tail true (bits B x) ≡ B
-leading_ones-minus_one B x e = ap (λ (z : ℤ). tail true (bits B z)) e ∙ tail-of_minus_one B
+pub leading_ones-minus_one : (B : ℕ) (x : ℤ) → x ≡ neg_ℤ (pos 1) → suffix_len (beq true) (bits B x) ≡ B
+leading_ones-minus_one B x e = ap (λ (z : ℤ). suffix_len (beq true) (bits B z)) e ∙ tail-of_minus_one B
 
-pub trailing_ones-minus_one : (B : ℕ) (x : ℤ) → x ≡ neg_ℤ (pos 1) → front true (bits B x) ≡ B
-trailing_ones-minus_one B x e = ap (λ (z : ℤ). front true (bits B z)) e ∙ front-of_minus_one B
+pub trailing_ones-minus_one : (B : ℕ) (x : ℤ) → x ≡ neg_ℤ (pos 1) → prefix_len (beq true) (bits B x) ≡ B
+trailing_ones-minus_one B x e = ap (λ (z : ℤ). prefix_len (beq true) (bits B z)) e ∙ front-of_minus_one B
 
-pub popcount-minus_one : (B : ℕ) (x : ℤ) → x ≡ neg_ℤ (pos 1) → popcount (bits B x) ≡ B
-popcount-minus_one B x e = ap (λ (z : ℤ). popcount (bits B z)) e ∙ popcount-of_minus_one B
+pub popcount-minus_one : (B : ℕ) (x : ℤ) → x ≡ neg_ℤ (pos 1) → count_by (λ b. b) (bits B x) ≡ B
+popcount-minus_one B x e = ap (λ (z : ℤ). count_by (λ b. b) (bits B z)) e ∙ popcount-of_minus_one B
 
 -- what the calls on counts ensure beside the value
 pub ruleset ones_ends = (popcount-of_highest, popcount-minus_one, zeros-some)

@@ -1,35 +1,25 @@
 -- The laws of powers and quotients at small exponents and equal numbers, and of what is extended to 128 bits.
 use Rattle.std.specs.Prelude.{◌≡◌, ◌≢◌, ℕ, ℤ, Bool, zero, suc, pos, negsuc, ◌+◌, ◌≤◌, ◌*ℤ◌, int_div}
+use Rattle.std.specs.Int.{int_pow}
 use Rattle.std.proofs.Common.{refl, ap, sym, ◌∙◌, arith}
 use Rattle.std.proofs.Math.Nat.{div_self}
 use Rattle.std.proofs.lemmas.Int.{ints}
 use Rattle.arbitrary_base.specs.Range.{InRange}
 use Rattle.arbitrary_base.specs.Residue.{residue, wrap}
-use Rattle.arbitrary_base.specs.Power.{power}
+use Rattle.arbitrary_base.proofs.integers.Powers.{one-mul_z, power-one, power-suc}
 use Rattle.arbitrary_base.proofs.modular.Congruence.{Congruent-narrower}
 use Rattle.arbitrary_base.proofs.modular.Residue.{residue-congruent, wrap-of_in_range, wrap-same}
 
-pub power-none : (x : ℤ) → power x 0 ≡ pos 1
-unfolding power
-power-none x = refl
+pub power-twice : (x : ℤ) → int_pow x 2 ≡ x *ℤ x
+power-twice x = power-suc x 1 ∙ ap (λ (z : ℤ). x *ℤ z) (power-one x)
 
-pub power-one : (x : ℤ) → power x 1 ≡ x
-unfolding power
-power-one x = omega (arith, ints)
-
-pub power-twice : (x : ℤ) → power x 2 ≡ x *ℤ x
-unfolding power
-power-twice x = ap (λ (z : ℤ). x *ℤ z) (power-one x)
-
-pub power-of_one : (n : ℕ) → power (pos 1) n ≡ pos 1
-unfolding power
+pub power-of_one : (n : ℕ) → int_pow (pos 1) n ≡ pos 1
 power-of_one zero = refl
-power-of_one (suc n) = let e = power-of_one n in omega (arith, ints)
+power-of_one (suc n) = power-suc (pos 1) n ∙ one-mul_z (int_pow (pos 1) n) ∙ power-of_one n
 
-pub power-of_zero : (n : ℕ) → 1 ≤ n → power (pos 0) n ≡ pos 0
-unfolding power
+pub power-of_zero : (n : ℕ) → 1 ≤ n → int_pow (pos 0) n ≡ pos 0
 power-of_zero zero h = absurd (omega arith)
-power-of_zero (suc n) h = omega (arith, ints)
+power-of_zero (suc n) h = power-suc (pos 0) n ∙ omega (arith, ints)
 
 pub quotient-self : (x : ℤ) → x ≢ pos 0 → int_div x x ≡ pos 1
 quotient-self (pos zero) h = absurd (h refl)

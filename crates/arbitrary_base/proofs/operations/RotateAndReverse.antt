@@ -1,10 +1,11 @@
 -- The laws of rotations and of the reversal on the numbers of a type.
-use Rattle.std.specs.Prelude.{◌≡◌, ℕ, ℤ, zero, suc, Bool, true, false, not, ◌&&◌, ◌||◌, List, ◌∷◌, ◌++◌, drop, length, replicate, reverse, take, pos, negsuc, ◌≤◌, ◌+◌, ◌-◌, ◌^◌, ◌-ℤ◌}
+use Rattle.std.specs.Prelude.{◌≡◌, ℕ, ℤ, zero, suc, Bool, true, false, not, ◌&&◌, ◌||◌, List, ◌∷◌, ◌++◌, drop, length, replicate, reverse, take, pos, negsuc, ◌≤◌, ◌+◌, ◌-◌, ◌^◌, ◌-ℤ◌, map}
+use Rattle.std.specs.List.{slice_rotate_right}
 use Rattle.std.specs.Bool.{beq}
 use Rattle.std.proofs.Common.{refl, sym, ap, ap₂, ◌∙◌, arith}
 use Rattle.std.proofs.lemmas.List.{drop-replicate, length-replicate, replicate-append-replicate, reverse-reverse, take-replicate}
 use Rattle.arbitrary_base.specs.Range.{InRange}
-use Rattle.arbitrary_base.specs.BitList.{bits, val, bits_and, bits_not, bits_or, bits_xor, rotl, rotr, shl, shr}
+use Rattle.arbitrary_base.specs.BitList.{bits, val, bits_and, bits_or, bits_xor, rotr, shl, shr}
 use Rattle.arbitrary_base.specs.Operation.{bitwise_and, bitwise_not, bitwise_or, bitwise_xor, reversed, rotated_left, rotated_right, shifted_left, shifted_right}
 use Rattle.arbitrary_base.proofs.bit_lists.UnsignedNumber.{length-bits, same_length}
 use Rattle.arbitrary_base.proofs.bit_lists.Pointwise.{not-reverse, not-rotl, not-rotr, pointwise, reverse-pointwise, rotl-pointwise, rotr-pointwise}
@@ -22,14 +23,14 @@ pub rotated_left-twice : (s : Bool) (B : ℕ) (x : ℤ) (a b : ℕ) → a + b �
 rotated_left-twice s B x a b h =
     let n = length-bits B x in
     by-bits _ _ _ _ _ (rotl-is s B _ b) (rotl-is s B x (a + b))
-    (ap (λ (l : List Bool). rotl l b) (bits-rotl s B x a) ∙ rotl-short (bits B x) a b (omega arith))
+    (ap (λ (l : List Bool). slice_rotate_right l b) (bits-rotl s B x a) ∙ rotl-short (bits B x) a b (omega arith))
 
 pub rotated_left-round : (s : Bool) (B : ℕ) (x : ℤ) (a b : ℕ) → a ≤ B → b ≤ B → B ≤ a + b → rotated_left s B (rotated_left s B x a) b ≡ rotated_left s B x (a + b - B)
 rotated_left-round s B x a b h g e =
     let n = length-bits B x in
     by-bits _ _ _ _ _ (rotl-is s B _ b) (rotl-is s B x (a + b - B))
-    (ap (λ (l : List Bool). rotl l b) (bits-rotl s B x a) ∙ rotl-long (bits B x) a b (omega arith) (omega arith) (omega arith)
-    ∙ ap (λ (i : ℕ). rotl (bits B x) (a + b - i)) n)
+    (ap (λ (l : List Bool). slice_rotate_right l b) (bits-rotl s B x a) ∙ rotl-long (bits B x) a b (omega arith) (omega arith) (omega arith)
+    ∙ ap (λ (i : ℕ). slice_rotate_right (bits B x) (a + b - i)) n)
 
 pub rotated_right-none : (s : Bool) (B : ℕ) (x : ℤ) → 1 ≤ B → InRange s B x → rotated_right s B x 0 ≡ x
 rotated_right-none s B x h f = by-bits _ _ _ _ _ (rotr-is s B x 0) (of-bits s B x h f) (rotr-none (bits B x))
@@ -51,7 +52,7 @@ pub rotated_right-as_left : (s : Bool) (B : ℕ) (x : ℤ) (k : ℕ) → k ≤ B
 rotated_right-as_left s B x k h =
     let n = length-bits B x in
     by-bits _ _ _ _ _ (rotr-is s B x k) (rotl-is s B x (B - k))
-    (rotr-as_rotl (bits B x) k (omega arith) ∙ ap (λ (i : ℕ). rotl (bits B x) (i - k)) n)
+    (rotr-as_rotl (bits B x) k (omega arith) ∙ ap (λ (i : ℕ). slice_rotate_right (bits B x) (i - k)) n)
 
 pub right-undoes_left : (s : Bool) (B : ℕ) (x : ℤ) (k : ℕ) → 1 ≤ B → k ≤ B → InRange s B x → rotated_right s B (rotated_left s B x k) k ≡ x
 right-undoes_left s B x k h g f =
@@ -61,7 +62,7 @@ right-undoes_left s B x k h g f =
 pub left-undoes_right : (s : Bool) (B : ℕ) (x : ℤ) (k : ℕ) → 1 ≤ B → k ≤ B → InRange s B x → rotated_left s B (rotated_right s B x k) k ≡ x
 left-undoes_right s B x k h g f =
     let n = length-bits B x in
-    by-bits _ _ _ _ _ (rotl-is s B _ k) (of-bits s B x h f) (ap (λ (l : List Bool). rotl l k) (bits-rotr s B x k) ∙ rotl-rotr (bits B x) k (omega arith))
+    by-bits _ _ _ _ _ (rotl-is s B _ k) (of-bits s B x h f) (ap (λ (l : List Bool). slice_rotate_right l k) (bits-rotr s B x k) ∙ rotl-rotr (bits B x) k (omega arith))
 
 pub rotated_left-as_shifts : (B : ℕ) (x : ℤ) (k : ℕ) → k ≤ B
     → rotated_left false B x k ≡ bitwise_or false B (shifted_left false B x k) (shifted_right false B x (B - k))
@@ -79,13 +80,13 @@ rotr-alike n k b h =
     ap₂ (λ (p q : List Bool). p ++ q) (drop-replicate k n b) (take-replicate k n b h)
     ∙ replicate-append-replicate (n - k) k b ∙ ap (λ (i : ℕ). replicate i b) (let e : (n - k) + k ≡ n = omega arith in e)
 
-rotl-alike : (n k : ℕ) (b : Bool) → rotl (replicate n b) k ≡ replicate n b
+rotl-alike : (n k : ℕ) (b : Bool) → slice_rotate_right (replicate n b) k ≡ replicate n b
 rotl-alike n k b =
     ap (λ (i : ℕ). rotr (replicate n b) (i - k)) (length-replicate n b) ∙ rotr-alike n (n - k) b (omega arith)
 
 left-alike : (s : Bool) (B : ℕ) (x : ℤ) (k : ℕ) (b : Bool) → 1 ≤ B → InRange s B x → bits B x ≡ replicate B b → rotated_left s B x k ≡ x
 left-alike s B x k b h f e =
-    by-bits _ _ _ _ _ (rotl-is s B x k) (of-bits s B x h f) (ap (λ (l : List Bool). rotl l k) e ∙ rotl-alike B k b ∙ sym e)
+    by-bits _ _ _ _ _ (rotl-is s B x k) (of-bits s B x h f) (ap (λ (l : List Bool). slice_rotate_right l k) e ∙ rotl-alike B k b ∙ sym e)
 
 right-alike : (s : Bool) (B : ℕ) (x : ℤ) (k : ℕ) (b : Bool) → 1 ≤ B → k ≤ B → InRange s B x → bits B x ≡ replicate B b → rotated_right s B x k ≡ x
 right-alike s B x k b h g f e =
@@ -136,25 +137,25 @@ reversed-not_zero s B h = turned-alike s B (bitwise_not s B (pos 0)) true h (not
 pub rotated_left-and : (s : Bool) (B : ℕ) (x y : ℤ) (k : ℕ) → rotated_left s B (bitwise_and s B x y) k ≡ bitwise_and s B (rotated_left s B x k) (rotated_left s B y k)
 rotated_left-and s B x y k =
     by-bits _ _ _ _ _ (rotl-is s B _ k) (and-is s B _ _)
-    (ap (λ (l : List Bool). rotl l k) (bits-and s B x y) ∙ rotl-pointwise (λ a b. a && b) k (bits B x) (bits B y) (same_length B x y)
+    (ap (λ (l : List Bool). slice_rotate_right l k) (bits-and s B x y) ∙ rotl-pointwise (λ a b. a && b) k (bits B x) (bits B y) (same_length B x y)
     ∙ sym (ap₂ bits_and (bits-rotl s B x k) (bits-rotl s B y k)))
 
 pub rotated_left-or : (s : Bool) (B : ℕ) (x y : ℤ) (k : ℕ) → rotated_left s B (bitwise_or s B x y) k ≡ bitwise_or s B (rotated_left s B x k) (rotated_left s B y k)
 rotated_left-or s B x y k =
     by-bits _ _ _ _ _ (rotl-is s B _ k) (or-is s B _ _)
-    (ap (λ (l : List Bool). rotl l k) (bits-or s B x y) ∙ rotl-pointwise (λ a b. a || b) k (bits B x) (bits B y) (same_length B x y)
+    (ap (λ (l : List Bool). slice_rotate_right l k) (bits-or s B x y) ∙ rotl-pointwise (λ a b. a || b) k (bits B x) (bits B y) (same_length B x y)
     ∙ sym (ap₂ bits_or (bits-rotl s B x k) (bits-rotl s B y k)))
 
 pub rotated_left-xor : (s : Bool) (B : ℕ) (x y : ℤ) (k : ℕ) → rotated_left s B (bitwise_xor s B x y) k ≡ bitwise_xor s B (rotated_left s B x k) (rotated_left s B y k)
 rotated_left-xor s B x y k =
     by-bits _ _ _ _ _ (rotl-is s B _ k) (xor-is s B _ _)
-    (ap (λ (l : List Bool). rotl l k) (bits-xor s B x y) ∙ rotl-pointwise (λ a b. not (beq a b)) k (bits B x) (bits B y) (same_length B x y)
+    (ap (λ (l : List Bool). slice_rotate_right l k) (bits-xor s B x y) ∙ rotl-pointwise (λ a b. not (beq a b)) k (bits B x) (bits B y) (same_length B x y)
     ∙ sym (ap₂ bits_xor (bits-rotl s B x k) (bits-rotl s B y k)))
 
 pub rotated_left-not : (s : Bool) (B : ℕ) (x : ℤ) (k : ℕ) → rotated_left s B (bitwise_not s B x) k ≡ bitwise_not s B (rotated_left s B x k)
 rotated_left-not s B x k =
     by-bits _ _ _ _ _ (rotl-is s B _ k) (not-is s B _)
-    (ap (λ (l : List Bool). rotl l k) (bits-not s B x) ∙ not-rotl k (bits B x) ∙ sym (ap bits_not (bits-rotl s B x k)))
+    (ap (λ (l : List Bool). slice_rotate_right l k) (bits-not s B x) ∙ not-rotl k (bits B x) ∙ sym (ap (map not) (bits-rotl s B x k)))
 
 pub rotated_right-and : (s : Bool) (B : ℕ) (x y : ℤ) (k : ℕ) → rotated_right s B (bitwise_and s B x y) k ≡ bitwise_and s B (rotated_right s B x k) (rotated_right s B y k)
 rotated_right-and s B x y k =
@@ -177,7 +178,7 @@ rotated_right-xor s B x y k =
 pub rotated_right-not : (s : Bool) (B : ℕ) (x : ℤ) (k : ℕ) → rotated_right s B (bitwise_not s B x) k ≡ bitwise_not s B (rotated_right s B x k)
 rotated_right-not s B x k =
     by-bits _ _ _ _ _ (rotr-is s B _ k) (not-is s B _)
-    (ap (λ (l : List Bool). rotr l k) (bits-not s B x) ∙ not-rotr k (bits B x) ∙ sym (ap bits_not (bits-rotr s B x k)))
+    (ap (λ (l : List Bool). rotr l k) (bits-not s B x) ∙ not-rotr k (bits B x) ∙ sym (ap (map not) (bits-rotr s B x k)))
 
 pub reversed-and : (s : Bool) (B : ℕ) (x y : ℤ) → reversed s B (bitwise_and s B x y) ≡ bitwise_and s B (reversed s B x) (reversed s B y)
 reversed-and s B x y =
@@ -200,7 +201,7 @@ reversed-xor s B x y =
 pub reversed-not : (s : Bool) (B : ℕ) (x : ℤ) → reversed s B (bitwise_not s B x) ≡ bitwise_not s B (reversed s B x)
 reversed-not s B x =
     by-bits _ _ _ _ _ (reversed-is s B _) (not-is s B _)
-    (ap reverse (bits-not s B x) ∙ not-reverse (bits B x) ∙ sym (ap bits_not (bits-reversed s B x)))
+    (ap reverse (bits-not s B x) ∙ not-reverse (bits B x) ∙ sym (ap (map not) (bits-reversed s B x)))
 
 pub reversed-twice : (s : Bool) (B : ℕ) (x : ℤ) → 1 ≤ B → InRange s B x → reversed s B (reversed s B x) ≡ x
 reversed-twice s B x h f =
@@ -216,7 +217,7 @@ pub reversed-rotated_right : (s : Bool) (B : ℕ) (x : ℤ) (k : ℕ) → k ≤ 
 reversed-rotated_right s B x k h =
     let n = length-bits B x in
     by-bits _ _ _ _ _ (reversed-is s B _) (rotl-is s B _ k)
-    (ap reverse (bits-rotr s B x k) ∙ reverse-rotr (bits B x) k (omega arith) ∙ ap (λ (l : List Bool). rotl l k) (sym (bits-reversed s B x)))
+    (ap reverse (bits-rotr s B x k) ∙ reverse-rotr (bits B x) k (omega arith) ∙ ap (λ (l : List Bool). slice_rotate_right l k) (sym (bits-reversed s B x)))
 
 pub reversed-shifted_left : (B : ℕ) (x : ℤ) (k : ℕ) → k ≤ B → reversed false B (shifted_left false B x k) ≡ shifted_right false B (reversed false B x) k
 reversed-shifted_left B x k h =

@@ -1,5 +1,7 @@
 -- What the counts of zeros at an end say of the number.
 use Rattle.std.specs.Prelude.{◌≡◌, ◌≢◌, ℕ, ℤ, Bool, true, false, List, [], ◌∷◌, length, pos, negsuc, ◌+◌, ◌-◌, ◌*◌, ◌%◌, ◌/◌, ◌^◌, ◌<◌, ◌≤◌, ◌+ℤ◌, ◌<ℤ◌, ◌≤ℤ◌}
+use Rattle.std.specs.Bool.{beq}
+use Rattle.std.specs.List.{suffix_len, prefix_len, count_by}
 use Rattle.std.specs.Int.Count.{count_leading_zeros}
 use Rattle.std.proofs.Common.{refl, sym, ap, arith, ◌∙◌, zero, suc, ◌⊎◌, inl, inr}
 use Rattle.std.proofs.Math.Nat.{pow-suc}
@@ -8,7 +10,7 @@ use Rattle.std.proofs.lemmas.Bool.{cases_lt}
 use Rattle.std.proofs.lemmas.Nat.{pow_pos, leading_length}
 use Rattle.arbitrary_base.specs.Range.{InRange}
 use Rattle.arbitrary_base.specs.Residue.{Congruent, residue}
-use Rattle.arbitrary_base.specs.BitList.{bits, num, front, popcount, tail}
+use Rattle.arbitrary_base.specs.BitList.{bits, num}
 use Rattle.arbitrary_base.proofs.bit_lists.Count.{front-fits, leading-num}
 use Rattle.arbitrary_base.proofs.bit_lists.UnsignedNumber.{length-bits}
 use Rattle.arbitrary_base.proofs.bit_lists.TwosComplement.{num-bits_residue}
@@ -57,19 +59,19 @@ residue-some s B (negsuc n) h f d =
 
 module _ (s : Bool) (B : ℕ) (x : ℤ) (h : 1 ≤ B) (f : InRange s B x) where
   -- how many places the residue has
-  places : (m : ℕ) × (tail false (bits B x) + m ≡ B) × (residue B x < 2 ^ m) × (2 ^ m ≤ 2 * residue B x + 1)
+  places : (m : ℕ) × (suffix_len (beq false) (bits B x) + m ≡ B) × (residue B x < 2 ^ m) × (2 ^ m ≤ 2 * residue B x + 1)
   places =
       let n : num (bits B x) ≡ residue B x = num-bits_residue B x in
-      let e : count_leading_zeros B (residue B x) ≡ tail false (bits B x) =
+      let e : count_leading_zeros B (residue B x) ≡ suffix_len (beq false) (bits B x) =
       ap (λ (k : ℕ). count_leading_zeros k (residue B x)) (sym (length-bits B x)) ∙ ap (count_leading_zeros (length (bits B x))) (sym n) ∙ leading-num (bits B x) in
       let l = leading_length B (residue B x) (residue-lt B x) in
       let sum = l.1 in
-      (l.0, (let t : tail false (bits B x) + l.0 ≡ B = omega arith in t), l.2, l.3)
+      (l.0, (let t : suffix_len (beq false) (bits B x) + l.0 ≡ B = omega arith in t), l.2, l.3)
 
-  pub leading-none : x ≡ pos 0 → tail false (bits B x) ≡ B
-  leading-none e = ap (λ (z : ℤ). tail false (bits B z)) e ∙ tail-of_zero B
+  pub leading-none : x ≡ pos 0 → suffix_len (beq false) (bits B x) ≡ B
+  leading-none e = ap (λ (z : ℤ). suffix_len (beq false) (bits B z)) e ∙ tail-of_zero B
 
-  pub leading-found : x ≢ pos 0 → tail false (bits B x) < B
+  pub leading-found : x ≢ pos 0 → suffix_len (beq false) (bits B x) < B
   leading-found d =
       let l = places in
       let sum = l.1 in
@@ -77,20 +79,20 @@ module _ (s : Bool) (B : ℕ) (x : ℤ) (h : 1 ≤ B) (f : InRange s B x) where
       let small = l.2 in
       several l.0 small sum q
     where
-      several : (m : ℕ) → residue B x < 2 ^ m → tail false (bits B x) + m ≡ B → 0 < residue B x → tail false (bits B x) < B
+      several : (m : ℕ) → residue B x < 2 ^ m → suffix_len (beq false) (bits B x) + m ≡ B → 0 < residue B x → suffix_len (beq false) (bits B x) < B
       several zero small sum q = absurd (omega arith)
       several (suc m) small sum q = omega arith
 
-  pub leading-high : pos 0 ≤ℤ x → x <ℤ pos (2 ^ (B - tail false (bits B x)))
+  pub leading-high : pos 0 ≤ℤ x → x <ℤ pos (2 ^ (B - suffix_len (beq false) (bits B x)))
   leading-high g =
       let l = places in
       let sum = l.1 in
       let e = residue-above s B x h f g in
-      let w : 2 ^ l.0 ≡ 2 ^ (B - tail false (bits B x)) = ap (λ (k : ℕ). 2 ^ k) (omega arith) in
+      let w : 2 ^ l.0 ≡ 2 ^ (B - suffix_len (beq false) (bits B x)) = ap (λ (k : ℕ). 2 ^ k) (omega arith) in
       let small = l.2 in
       omega (arith, ints)
 
-  pub leading-low : pos 0 <ℤ x → pos (2 ^ (B - 1 - tail false (bits B x))) ≤ℤ x
+  pub leading-low : pos 0 <ℤ x → pos (2 ^ (B - 1 - suffix_len (beq false) (bits B x))) ≤ℤ x
   leading-low g =
       let l = places in
       let sum = l.1 in
@@ -98,14 +100,14 @@ module _ (s : Bool) (B : ℕ) (x : ℤ) (h : 1 ≤ B) (f : InRange s B x) where
       let some : 0 < residue B x = omega (arith, ints) in
       least l.0 sum l.2 l.3 some e
     where
-      least : (m : ℕ) → tail false (bits B x) + m ≡ B → residue B x < 2 ^ m → 2 ^ m ≤ 2 * residue B x + 1 → 0 < residue B x → pos (residue B x) ≡ x → pos (2 ^ (B - 1 - tail false (bits B x))) ≤ℤ x
+      least : (m : ℕ) → suffix_len (beq false) (bits B x) + m ≡ B → residue B x < 2 ^ m → 2 ^ m ≤ 2 * residue B x + 1 → 0 < residue B x → pos (residue B x) ≡ x → pos (2 ^ (B - 1 - suffix_len (beq false) (bits B x))) ≤ℤ x
       least zero sum small large some e = absurd (omega arith)
       least (suc m) sum small large some e =
-          let w : 2 ^ m ≡ 2 ^ (B - 1 - tail false (bits B x)) = ap (λ (k : ℕ). 2 ^ k) (omega arith) in
+          let w : 2 ^ m ≡ 2 ^ (B - 1 - suffix_len (beq false) (bits B x)) = ap (λ (k : ℕ). 2 ^ k) (omega arith) in
           let p = pow-suc 2 m in
           omega (arith, ints)
 
-  pub leading-negative : x <ℤ pos 0 → tail false (bits B x) ≡ 0
+  pub leading-negative : x <ℤ pos 0 → suffix_len (beq false) (bits B x) ≡ 0
   leading-negative g =
       let l = places in
       let sum = l.1 in
@@ -113,10 +115,10 @@ module _ (s : Bool) (B : ℕ) (x : ℤ) (h : 1 ≤ B) (f : InRange s B x) where
       let small = l.2 in
       whole l.0 sum small (omega (arith, ints))
     where
-      whole : (m : ℕ) → tail false (bits B x) + m ≡ B → residue B x < 2 ^ m → 2 ^ (B - 1) ≤ residue B x → tail false (bits B x) ≡ 0
-      whole m sum small large = by-cases (tail false (bits B x)) refl
+      whole : (m : ℕ) → suffix_len (beq false) (bits B x) + m ≡ B → residue B x < 2 ^ m → 2 ^ (B - 1) ≤ residue B x → suffix_len (beq false) (bits B x) ≡ 0
+      whole m sum small large = by-cases (suffix_len (beq false) (bits B x)) refl
         where
-          by-cases : (t : ℕ) → t ≡ tail false (bits B x) → tail false (bits B x) ≡ 0
+          by-cases : (t : ℕ) → t ≡ suffix_len (beq false) (bits B x) → suffix_len (beq false) (bits B x) ≡ 0
           by-cases zero e = sym e
           by-cases (suc t) e =
               let p = pow_le m (B - 1) (omega arith) in
@@ -125,37 +127,37 @@ module _ (s : Bool) (B : ℕ) (x : ℤ) (h : 1 ≤ B) (f : InRange s B x) where
 -- ---- zeros at the low end
 
 -- an odd number after as many zeros
-odd-after : (l : List Bool) → (q : ℕ) × (num l ≡ q * 2 ^ front false l) × (front false l < length l → q % 2 ≡ 1)
+odd-after : (l : List Bool) → (q : ℕ) × (num l ≡ q * 2 ^ prefix_len (beq false) l) × (prefix_len (beq false) l < length l → q % 2 ≡ 1)
 odd-after [] = (0, refl, λ g. absurd (omega arith))
 odd-after (true ∷ l) = (1 + 2 * num l, (let e : 1 + 2 * num l ≡ (1 + 2 * num l) * 1 = omega arith in e), λ g. omega arith)
 odd-after (false ∷ l) =
     let r = odd-after l in
     let q = r.0 in
     let e = r.1 in
-    let p = pow-suc 2 (front false l) in
+    let p = pow-suc 2 (prefix_len (beq false) l) in
     let start : 0 + 2 * num l ≡ 2 * num l = omega arith in
-    let next : 2 ^ (1 + front false l) ≡ 2 ^ suc (front false l) = ap (λ (n : ℕ). 2 ^ n) (omega arith) in
-    let twice : 0 + 2 * num l ≡ q * 2 ^ (1 + front false l) = start ∙ ap (λ (n : ℕ). 2 * n) e ∙ regroup q (2 ^ front false l) ∙ ap (λ (n : ℕ). q * n) (let t : 2 * 2 ^ front false l ≡ 2 ^ (1 + front false l) = omega arith in t) in
+    let next : 2 ^ (1 + prefix_len (beq false) l) ≡ 2 ^ suc (prefix_len (beq false) l) = ap (λ (n : ℕ). 2 ^ n) (omega arith) in
+    let twice : 0 + 2 * num l ≡ q * 2 ^ (1 + prefix_len (beq false) l) = start ∙ ap (λ (n : ℕ). 2 * n) e ∙ regroup q (2 ^ prefix_len (beq false) l) ∙ ap (λ (n : ℕ). q * n) (let t : 2 * 2 ^ prefix_len (beq false) l ≡ 2 ^ (1 + prefix_len (beq false) l) = omega arith in t) in
     (q, twice, λ g. r.2 (omega arith))
   where
     regroup : (q w : ℕ) → 2 * (q * w) ≡ q * (2 * w)
     regroup q w = grind arith
 
 module _ (s : Bool) (B : ℕ) (x : ℤ) (h : 1 ≤ B) (f : InRange s B x) where
-  parts : (q : ℕ) × (residue B x ≡ q * 2 ^ front false (bits B x)) × (front false (bits B x) < B → q % 2 ≡ 1)
+  parts : (q : ℕ) × (residue B x ≡ q * 2 ^ prefix_len (beq false) (bits B x)) × (prefix_len (beq false) (bits B x) < B → q % 2 ≡ 1)
   parts =
       let r = odd-after (bits B x) in
       let n = length-bits B x in
       (r.0, sym (num-bits_residue B x) ∙ r.1, λ g. r.2 (omega arith))
 
-  pub trailing-none : x ≡ pos 0 → front false (bits B x) ≡ B
-  trailing-none e = ap (λ (z : ℤ). front false (bits B z)) e ∙ front-of_zero B
+  pub trailing-none : x ≡ pos 0 → prefix_len (beq false) (bits B x) ≡ B
+  trailing-none e = ap (λ (z : ℤ). prefix_len (beq false) (bits B z)) e ∙ front-of_zero B
 
-  pub trailing-found : x ≢ pos 0 → front false (bits B x) < B
+  pub trailing-found : x ≢ pos 0 → prefix_len (beq false) (bits B x) < B
   trailing-found d =
       let r = parts in
       let fits = front-fits false B x in
-      less (front false (bits B x)) r.0 (residue B x) fits r.1 (residue-lt B x) (residue-some s B x h f d)
+      less (prefix_len (beq false) (bits B x)) r.0 (residue B x) fits r.1 (residue-lt B x) (residue-some s B x h f d)
     where
       less : (t q p : ℕ) → t ≤ B → p ≡ q * 2 ^ t → p < 2 ^ B → 0 < p → t < B
       less t zero p g e small some = absurd (omega arith)
@@ -169,24 +171,24 @@ module _ (s : Bool) (B : ℕ) (x : ℤ) (h : 1 ≤ B) (f : InRange s B x) where
   low-zeros : (k : ℕ) → k ≤ B → Congruent k (pos (residue B x)) x
   low-zeros k g = Congruent-narrower k B (pos (residue B x)) x g (residue-congruent B x)
 
-  pub trailing-low : Congruent (front false (bits B x)) x (pos 0)
+  pub trailing-low : Congruent (prefix_len (beq false) (bits B x)) x (pos 0)
   trailing-low =
       let r = parts in
-      let k = front false (bits B x) in
+      let k = prefix_len (beq false) (bits B x) in
       let e = r.1 in
-      let c : Congruent (front false (bits B x)) (pos (residue B x)) (pos 0) = record { times = pos r.0; apart = omega (arith, ints) } in
-      Congruent-trans (front false (bits B x)) x (pos (residue B x)) (pos 0) (Congruent-sym (front false (bits B x)) (pos (residue B x)) x (low-zeros (front false (bits B x)) (front-fits false B x))) c
+      let c : Congruent (prefix_len (beq false) (bits B x)) (pos (residue B x)) (pos 0) = record { times = pos r.0; apart = omega (arith, ints) } in
+      Congruent-trans (prefix_len (beq false) (bits B x)) x (pos (residue B x)) (pos 0) (Congruent-sym (prefix_len (beq false) (bits B x)) (pos (residue B x)) x (low-zeros (prefix_len (beq false) (bits B x)) (front-fits false B x))) c
 
-  pub trailing-odd : x ≢ pos 0 → Congruent (front false (bits B x) + 1) x (pos (2 ^ front false (bits B x)))
+  pub trailing-odd : x ≢ pos 0 → Congruent (prefix_len (beq false) (bits B x) + 1) x (pos (2 ^ prefix_len (beq false) (bits B x)))
   trailing-odd d =
       let r = parts in
       let less = trailing-found d in
       let odd = r.2 less in
       let e = r.1 in
-      let p = pow-suc 2 (front false (bits B x)) in
+      let p = pow-suc 2 (prefix_len (beq false) (bits B x)) in
       let half : r.0 ≡ 1 + 2 * (r.0 / 2) = omega arith in
-      let c : Congruent (front false (bits B x) + 1) (pos (residue B x)) (pos (2 ^ front false (bits B x))) = odd-times (front false (bits B x)) r.0 (residue B x) e odd in
-      Congruent-trans (front false (bits B x) + 1) x (pos (residue B x)) (pos (2 ^ front false (bits B x))) (Congruent-sym (front false (bits B x) + 1) (pos (residue B x)) x (low-zeros (front false (bits B x) + 1) (omega arith))) c
+      let c : Congruent (prefix_len (beq false) (bits B x) + 1) (pos (residue B x)) (pos (2 ^ prefix_len (beq false) (bits B x))) = odd-times (prefix_len (beq false) (bits B x)) r.0 (residue B x) e odd in
+      Congruent-trans (prefix_len (beq false) (bits B x) + 1) x (pos (residue B x)) (pos (2 ^ prefix_len (beq false) (bits B x))) (Congruent-sym (prefix_len (beq false) (bits B x) + 1) (pos (residue B x)) x (low-zeros (prefix_len (beq false) (bits B x) + 1) (omega arith))) c
     where
       odd-times : (k q p : ℕ) → p ≡ q * 2 ^ k → q % 2 ≡ 1 → Congruent (k + 1) (pos p) (pos (2 ^ k))
       odd-times k q p e odd =
@@ -200,9 +202,9 @@ module _ (s : Bool) (B : ℕ) (x : ℤ) (h : 1 ≤ B) (f : InRange s B x) where
 
 -- ---- ones
 
-pub popcount-some : (s : Bool) (B : ℕ) (x : ℤ) → 1 ≤ B → InRange s B x → x ≢ pos 0 → 1 ≤ popcount (bits B x)
-popcount-some s B x h f d = elim (cases_lt (popcount (bits B x)) 1) [
-  | inl none ↦ absurd (d (zero-of_no_ones s B x h f (let e : popcount (bits B x) ≡ 0 = omega arith in e)))
+pub popcount-some : (s : Bool) (B : ℕ) (x : ℤ) → 1 ≤ B → InRange s B x → x ≢ pos 0 → 1 ≤ count_by (λ b. b) (bits B x)
+popcount-some s B x h f d = elim (cases_lt (count_by (λ b. b) (bits B x)) 1) [
+  | inl none ↦ absurd (d (zero-of_no_ones s B x h f (let e : count_by (λ b. b) (bits B x) ≡ 0 = omega arith in e)))
   | inr some ↦ some
 ]
 

@@ -1,5 +1,5 @@
 -- Results that stay in range.
-use Rattle.std.specs.Prelude.{◌≡◌, ◌↔◌, ℕ, ℤ, Bool, true, false, not, pos, neg_ℤ, ◌+ℤ◌, ◌-ℤ◌, ◌*ℤ◌, ◌≤ℤ◌, ◌<ℤ◌, ◌+◌, ◌-◌, ◌%◌, ◌^◌, ◌≤◌, int_lt, int_div, IsTrue, Option, Some, None}
+use Rattle.std.specs.Prelude.{◌≡◌, ◌↔◌, ℕ, ℤ, Bool, true, false, not, pos, neg_ℤ, ◌+ℤ◌, ◌-ℤ◌, ◌*ℤ◌, ◌≤ℤ◌, ◌<ℤ◌, ◌+◌, ◌-◌, ◌%◌, ◌^◌, ◌≤◌, int_lt, int_div, IsTrue, Option, Some, None, SomeIff, option_map}
 use Rattle.std.specs.Option.{is_some}
 use mathlib.Core.Bool.{beq}
 use Rattle.std.proofs.Common.{arith, refl, ap, sym, subst, ◌∙◌, ⊎_elim}
@@ -8,7 +8,6 @@ use Rattle.std.proofs.lemmas.Nat.{pow_pos}
 use Rattle.arbitrary_base.specs.Range.{lo, hi, InRange, range_end}
 use Rattle.arbitrary_base.specs.Residue.{Congruent, wrap}
 use Rattle.arbitrary_base.specs.Saturation.{clamp}
-use Rattle.arbitrary_base.specs.Exact.{ExactOrNone}
 use Rattle.arbitrary_base.proofs.modular.Residue.{wrap-of_in_range}
 use Rattle.arbitrary_base.proofs.storages.Primitive.{mod-congruent}
 use Rattle.arbitrary_base.proofs.integers.Ring.{mul-from_zero, mul-both_below, mul-first_below, mul-second_below}
@@ -109,7 +108,7 @@ div-saturates s B x y z h f g n w =
 
 -- the flag is set exactly where the checked result is none
 pub overflows : {T : Type 0} (number : T → ℤ) (s : Bool) (B : ℕ) (x : ℤ) (o : Option T) (b : Bool)
-    → ExactOrNone number s B x o → is_some o ≡ not b → IsTrue b ↔ ¬ (InRange s B x)
+    → SomeIff (option_map number o) (InRange s B x) x → is_some o ≡ not b → IsTrue b ↔ ¬ (InRange s B x)
 overflows number s B x None true h e = ((λ t. h), (λ t. refl))
 overflows number s B x None false h e = cc
 overflows number s B x (Some v) true h e = cc

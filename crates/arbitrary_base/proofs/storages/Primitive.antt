@@ -1,5 +1,5 @@
 -- How each primitive meets the laws: the impls cite these.
-use Rattle.std.specs.Prelude.{◌≡◌, ◌↔◌, ℕ, ℤ, Bool, true, false, suc, pos, negsuc, ◌+ℤ◌, ◌-ℤ◌, ◌*ℤ◌, ◌+◌, ◌*◌, ◌-◌, ◌/◌, ◌%◌, ◌^◌, ◌≤◌, ◌<◌, FitsSigned, IsTrue, Option, Some, None}
+use Rattle.std.specs.Prelude.{◌≡◌, ◌↔◌, ℕ, ℤ, Bool, true, false, suc, pos, negsuc, ◌+ℤ◌, ◌-ℤ◌, ◌*ℤ◌, ◌+◌, ◌*◌, ◌-◌, ◌/◌, ◌%◌, ◌^◌, ◌≤◌, ◌<◌, FitsSigned, IsTrue, Option, Some, None, option_map}
 use Rattle.std.specs.Int.{Width, w8, w16, w32, w64, w128, int_wrap, cast_signed, cast_unsigned, int_wrapping_add, int_wrapping_sub, int_wrapping_mul}
 use Rattle.std.specs.Bool.{FalseIff}
 use Rattle.std.specs.Option.{SomeIff}
@@ -11,7 +11,6 @@ use mir.Val.{bits, hbits, sel}
 use lib.Dec.{ltb}
 use Rattle.arbitrary_base.specs.Range.{InRange}
 use Rattle.arbitrary_base.specs.Residue.{Congruent, residue, wrap}
-use Rattle.arbitrary_base.specs.Exact.{ExactOrNone}
 use Rattle.arbitrary_base.proofs.modular.Congruence.{Congruent-from_apart, Congruent-trans}
 use Rattle.arbitrary_base.proofs.modular.Residue.{residue-lt, residue-congruent, wrap-unique, wrap-same}
 
@@ -125,7 +124,7 @@ signed-from_small w p h = ap (cast_signed w) (sym (mod-eq_of_lt h)) ∙ signed-f
 
 -- ---- checked results
 
-pub signed-checks : (w : Width) (x : ℤ) (r : Option ℤ) → SomeIff r (FitsSigned w x) x → ExactOrNone (λ z. z) true (bits w) x r
+pub signed-checks : (w : Width) (x : ℤ) (r : Option ℤ) → SomeIff r (FitsSigned w x) x → SomeIff r (InRange true (bits w) x) x
 signed-checks w x None h = λ f. h (signed-fits w x f)
 signed-checks w x (Some y) h = (signed-in_range w x h.0, h.1)
 

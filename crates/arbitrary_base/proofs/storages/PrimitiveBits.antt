@@ -1,12 +1,12 @@
 -- How `& | ^ !` of the primitives, as std tells them, work on bit lists: the impls of `arbitrary_traits` cite these.
-use Rattle.std.specs.Prelude.{◌≡◌, ◌^◌, ℕ, ℤ, List, Bool, length, pos, true, false}
+use Rattle.std.specs.Prelude.{◌≡◌, ◌^◌, ℕ, ℤ, List, Bool, length, pos, true, false, map, not}
 use Rattle.std.specs.Int.{Width, bit_not, cast_signed, cast_unsigned, int_bit_and, int_bit_or, int_bit_xor, int_bit_not}
 use Rattle.std.specs.Int.Bits.{bit_and, bit_or, bit_xor}
 use Rattle.std.proofs.Common.{◌∙◌, ap, ap₂, arith, sym}
 use mir.Val.{bits as width}
 use Rattle.arbitrary_base.specs.Range.{InRange}
 use Rattle.arbitrary_base.specs.Residue.{residue}
-use Rattle.arbitrary_base.specs.BitList.{bits, num, val, bits_and, bits_or, bits_xor, bits_not}
+use Rattle.arbitrary_base.specs.BitList.{bits, num, val, bits_and, bits_or, bits_xor}
 use Rattle.arbitrary_base.proofs.storages.Primitive.{bits_some, cast_unsigned-residue, residue-pos, signed-fits, signed-from_small, unsigned-in_range}
 use Rattle.arbitrary_base.proofs.modular.Residue.{wrap-of_in_range}
 use Rattle.arbitrary_base.proofs.bit_lists.UnsignedNumber.{length-and, length-bits, same_length, length-not, length-or, length-xor, num-and, num-lt_of, num-not, num-or, num-xor}
@@ -24,7 +24,7 @@ or-residue B x y = sym (num-or (bits B x) (bits B y) (same_length B x y) ∙ ap�
 xor-residue : (B : ℕ) (x y : ℤ) → bit_xor (residue B x) (residue B y) ≡ num (bits_xor (bits B x) (bits B y))
 xor-residue B x y = sym (num-xor (bits B x) (bits B y) (same_length B x y) ∙ ap₂ bit_xor (num-bits_residue B x) (num-bits_residue B y))
 
-not-residue : (w : Width) (x : ℤ) → bit_not w (residue (width w) x) ≡ num (bits_not (bits (width w) x))
+not-residue : (w : Width) (x : ℤ) → bit_not w (residue (width w) x) ≡ num (map not (bits (width w) x))
 not-residue w x =
     omega (arith, num-not (bits (width w) x), num-bits_residue (width w) x, ap (λ (n : ℕ). 2 ^ n) (length-bits (width w) x))
 
@@ -37,7 +37,7 @@ length-or_of B x y = length-or (bits B x) (bits B y) (same_length B x y) ∙ len
 length-xor_of : (B : ℕ) (x y : ℤ) → length (bits_xor (bits B x) (bits B y)) ≡ B
 length-xor_of B x y = length-xor (bits B x) (bits B y) (same_length B x y) ∙ length-bits B x
 
-length-not_of : (B : ℕ) (x : ℤ) → length (bits_not (bits B x)) ≡ B
+length-not_of : (B : ℕ) (x : ℤ) → length (map not (bits B x)) ≡ B
 length-not_of B x = length-not (bits B x) ∙ length-bits B x
 
 -- ---- unsigned
@@ -70,7 +70,7 @@ bitxor-unsigned w a b r e f g =
     (e ∙ sym (ap₂ bit_xor (residue-unsigned w a f) (residue-unsigned w b g)) ∙ xor-residue (width w) (pos a) (pos b))
 
 pub not-unsigned : (w : Width) (a r : ℕ) → r ≡ bit_not w a → InRange false (width w) (pos a)
-    → pos r ≡ val false (bits_not (bits (width w) (pos a)))
+    → pos r ≡ val false (map not (bits (width w) (pos a)))
 not-unsigned w a r e f =
     value-unsigned w r _ (length-not_of (width w) (pos a))
     (e ∙ sym (ap (bit_not w) (residue-unsigned w a f)) ∙ not-residue w (pos a))
@@ -99,6 +99,6 @@ pub bitxor-signed : (w : Width) (a b r : ℤ) → r ≡ int_bit_xor w a b → In
 bitxor-signed w a b r e f g =
     e ∙ value-signed w _ _ (length-xor_of (width w) a b) (ap₂ bit_xor (residue-signed w a f) (residue-signed w b g) ∙ xor-residue (width w) a b)
 
-pub not-signed : (w : Width) (a r : ℤ) → r ≡ int_bit_not w a → InRange true (width w) a → r ≡ val true (bits_not (bits (width w) a))
+pub not-signed : (w : Width) (a r : ℤ) → r ≡ int_bit_not w a → InRange true (width w) a → r ≡ val true (map not (bits (width w) a))
 not-signed w a r e f =
     e ∙ value-signed w _ _ (length-not_of (width w) a) (ap (bit_not w) (residue-signed w a f) ∙ not-residue w a)

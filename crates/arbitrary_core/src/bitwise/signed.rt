@@ -1,10 +1,10 @@
 //! `& | ^ !` of `Int`, bit by bit.
 
-ghost use Rattle.std.specs.Prelude.{◌≡◌, ◌≤◌, ◌-ℤ◌, ℕ, ℤ, pos, neg_ℤ};
+ghost use Rattle.std.specs.Prelude.{◌≡◌, ◌≤◌, ◌-ℤ◌, ℕ, ℤ, pos, neg_ℤ, map, not};
 ghost use Rattle.std.specs.Int.Bits.{bit_and, bit_or, bit_xor};
 ghost use Rattle.arbitrary_base.specs.Range.{InRange};
 ghost use Rattle.arbitrary_base.specs.Operation.{bitwise_and, bitwise_not, bitwise_or, bitwise_xor};
-ghost use Rattle.arbitrary_base.specs.BitList.{bits, val, bits_and, bits_or, bits_xor, bits_not};
+ghost use Rattle.arbitrary_base.specs.BitList.{bits, val, bits_and, bits_or, bits_xor};
 
 use crate::signed::Int;
 use arbitrary_base::bitwise;
@@ -122,11 +122,11 @@ where
 {
     type Output = Int<T, BITS>;
 
-    ghost not_gives = { λ a r. r ≡ val T.SIGNED (bits_not (bits BITS a)) };
+    ghost not_gives = { λ a r. r ≡ val T.SIGNED (map not (bits BITS a)) };
 
     fn not(self) -> Int<T, BITS>
         ensures operation { result ≡ bitwise_not T.SIGNED BITS self }
-        ensures bits { result ≡ val T.SIGNED (bits_not (bits BITS self)) }
+        ensures bits { result ≡ val T.SIGNED (map not (bits BITS self)) }
         ensures number { result ≡ neg_ℤ self -ℤ pos 1 }
     {
         Int::<T, BITS>::from_bits(bitwise::not(self.to_bits(), BITS))

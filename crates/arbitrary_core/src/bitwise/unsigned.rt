@@ -1,10 +1,10 @@
 //! `& | ^ !` of `UInt`, bit by bit.
 
-ghost use Rattle.std.specs.Prelude.{◌≡◌, ◌^◌, ◌≤ℤ◌, ◌-ℤ◌, ℤ, pos, unsigned_abs};
+ghost use Rattle.std.specs.Prelude.{◌≡◌, ◌^◌, ◌≤ℤ◌, ◌-ℤ◌, ℤ, pos, unsigned_abs, map, not};
 ghost use Rattle.std.specs.Int.Bits.{bit_and, bit_or, bit_xor};
 ghost use Rattle.arbitrary_base.specs.Range.{InRange};
 ghost use Rattle.arbitrary_base.specs.Operation.{bitwise_and, bitwise_not, bitwise_or, bitwise_xor};
-ghost use Rattle.arbitrary_base.specs.BitList.{bits, val, bits_and, bits_or, bits_xor, bits_not};
+ghost use Rattle.arbitrary_base.specs.BitList.{bits, val, bits_and, bits_or, bits_xor};
 
 use crate::unsigned::UInt;
 use arbitrary_base::bitwise;
@@ -98,11 +98,11 @@ impl<T: UnsignedStorage, const BITS: usize> BitXorAssign<UInt<T, BITS>> for UInt
 impl<T: UnsignedStorage, const BITS: usize> Not for UInt<T, BITS> {
     type Output = UInt<T, BITS>;
 
-    ghost not_gives = { λ a r. r ≡ val T.SIGNED (bits_not (bits BITS a)) };
+    ghost not_gives = { λ a r. r ≡ val T.SIGNED (map not (bits BITS a)) };
 
     fn not(self) -> UInt<T, BITS>
         ensures operation { result ≡ bitwise_not T.SIGNED BITS self }
-        ensures bits { result ≡ val T.SIGNED (bits_not (bits BITS self)) }
+        ensures bits { result ≡ val T.SIGNED (map not (bits BITS self)) }
         ensures number { result ≡ pos (2 ^ BITS) -ℤ pos 1 -ℤ self }
     {
         UInt::new(bitwise::not(self.value(), BITS))

@@ -1,11 +1,11 @@
 //! Equality and order of `Int`: those of the number, and not of its bits. `unsigned` has those of `UInt`, which keeps its number.
 
 ghost use Rattle.std.specs.Prelude.{◌≡◌, ◌≤ℤ◌, ◌<ℤ◌, ◌+ℤ◌, ◌-ℤ◌, ◌-◌, ◌^◌, pos};
+ghost use Rattle.std.specs.Int.{IsInRange};
 ghost use Rattle.std.specs.Ordering.{int_cmp, int_eq, as_partial_cmp};
 ghost use Rattle.std.specs.Cmp.{partial_order_from_own_ties};
 ghost use Rattle.std.specs.Cmp.Rules.{comparing};
 ghost use Rattle.std.proofs.Common.{rules};
-ghost use Rattle.arbitrary_base.specs.Range.{IsValidWidth};
 
 use crate::signed::Int;
 use arbitrary_base::ends::lowest;
@@ -20,7 +20,7 @@ where
     T::Unsigned: UnsignedOf<T>,
     ensures above { pos 0 ≤ℤ x → T.Unsigned.number result ≡ x +ℤ pos (2 ^ T.WIDTH) -ℤ pos (2 ^ (BITS - 1)) }
     ensures below { x <ℤ pos 0 → T.Unsigned.number result ≡ x +ℤ pos (2 ^ (BITS - 1)) }
-    ensures width { IsValidWidth BITS T.WIDTH }
+    ensures width { IsInRange 1 T.WIDTH BITS }
 {
     let bits = x.to_bits();
     let least = Int::<T, BITS>::new(lowest(BITS));

@@ -1,8 +1,8 @@
 //! `Int` as an integer type.
 
 ghost use Rattle.std.specs.Prelude.{refl};
+ghost use Rattle.std.specs.Int.{IsInRange};
 ghost use Rattle.std.proofs.Common.{le_trans};
-ghost use Rattle.arbitrary_base.specs.Range.{IsValidWidth};
 ghost use Rattle.arbitrary_traits.specs.Assigned.{is_assigned};
 
 use crate::signed::Int;
@@ -39,7 +39,7 @@ where
 
     ghost IS_SIGNED = { T.SIGNED };
 
-    ghost valid = { IsValidWidth BITS T.WIDTH };
+    ghost valid = { IsInRange 1 T.WIDTH BITS };
 
     ghost number = { λ x. x };
 

@@ -1,8 +1,8 @@
 -- For `multiply` in src/power.rt, a reply for each of its three ways: with a bit to spare by the flag (Spare.antt), at 128 bits by factors of 64
 -- (Squaring.antt), else by `checked_mul`.
 use Rattle.std.proofs.Common.{◌≡◌, ℕ, arith, sym, subst, refl, ◌∙◌}
-use Rattle.std.specs.Prelude.{◌*ℤ◌, Some}
-use Rattle.arbitrary_base.specs.Exact.{ExactOrNone}
+use Rattle.arbitrary_base.specs.Range.{InRange}
+use Rattle.std.specs.Prelude.{◌*ℤ◌, Some, SomeIff, option_map}
 use Rattle.arbitrary_base.proofs.storages.SpareBit.{flag-exact}
 use Rattle.arbitrary_base.proofs.integers.Squaring.{half-product}
 use Rattle.arbitrary_base.proofs.power.multiply.Goals as goal
@@ -13,11 +13,11 @@ returns-else-overflow-clause-product g c = flag-exact g.T.Storage.SIGNED c.args.
 pub returns-then-is_in_range-2-clause-product : goal.returns-then-is_in_range-2-clause-product
 returns-then-is_in_range-2-clause-product g c =
     let all : g.T.Storage.WIDTH ≡ c.args.bits = omega (arith, c.WIDTH.ensures, c.if-bits-WIDTH.false, c.requires.storage) in
-    subst (λ (w : ℕ). ExactOrNone g.T.Storage.number g.T.Storage.SIGNED w (g.T.Storage.number c.args.x *ℤ g.T.Storage.number c.args.y) (Some c.wrapping_mul.result)) all
+    subst (λ (w : ℕ). SomeIff (option_map g.T.Storage.number (Some c.wrapping_mul.result)) (InRange g.T.Storage.SIGNED w (g.T.Storage.number c.args.x *ℤ g.T.Storage.number c.args.y)) (g.T.Storage.number c.args.x *ℤ g.T.Storage.number c.args.y)) all
     (half-product g.T.Storage.number g.T.Storage.SIGNED g.T.Storage.WIDTH (g.T.Storage.number c.args.x) (g.T.Storage.number c.args.y) c.wrapping_mul.result
     (sym c.WIDTH-else-bits-WIDTH.ensures ∙ c.if-WIDTH-eq128.true) (c.if-is_in_range.ensures.0 refl) (c.if-is_in_range-2.ensures.0 refl) c.wrapping_mul.ensures)
 
 pub returns-else-WIDTH-eq128-clause-product : goal.returns-else-WIDTH-eq128-clause-product
 returns-else-WIDTH-eq128-clause-product g c =
     let all : g.T.Storage.WIDTH ≡ c.args.bits = omega (arith, c.WIDTH.ensures, c.if-bits-WIDTH.false, c.requires.storage) in
-    subst (λ (w : ℕ). ExactOrNone g.T.Storage.number g.T.Storage.SIGNED w (g.T.Storage.number c.args.x *ℤ g.T.Storage.number c.args.y) c.checked_mul.result) all c.checked_mul.ensures
+    subst (λ (w : ℕ). SomeIff (option_map g.T.Storage.number c.checked_mul.result) (InRange g.T.Storage.SIGNED w (g.T.Storage.number c.args.x *ℤ g.T.Storage.number c.args.y)) (g.T.Storage.number c.args.x *ℤ g.T.Storage.number c.args.y)) all c.checked_mul.ensures

@@ -1,8 +1,9 @@
 use Rattle.std.proofs.Common.{sym, ap, ◌∙◌, rules, to_z-of_z}
+use Rattle.std.specs.Bool.{then_some}
 use Rattle.std.specs.Int.{w128}
 use Rattle.std.specs.List.{before_first}
 use Rattle.bitrun_text.specs.Text.{Left, ends_word}
-use Rattle.arbitrary_int.specs.Exact.{number_of_type}
+use Rattle.arbitrary_int.specs.Range.{in_range}
 use Rattle.bitrun_text.proofs.Lines.{left-word}
 use Rattle.bitrun_text.proofs.Values.{value-near}
 use Rattle.bitrun_text.proofs.LongNumbers.{numeral_has_bytes}
@@ -18,7 +19,7 @@ returns g c =
       word = word;
       words = rw c.in_ok-number.ensures.rest (ap (λ (left : Left). left.words) taken);
       value = value-near g.R.Integer.IS_SIGNED g.R.Integer.BITS word _ numeral
-          ∙ ap (number_of_type g.R.Integer.IS_SIGNED g.R.Integer.BITS) (sym (to_z-of_z {w = w128} {z = c.in_ok-number.number} (search rules)))
+          ∙ ap (λ x. then_some (in_range g.R.Integer.IS_SIGNED g.R.Integer.BITS x) x) (sym (to_z-of_z {w = w128} {z = c.in_ok-number.number} (search rules)))
           ∙ sym c.in_ok-value_of.ensures;
       later = rw c.in_ok-number.ensures.rest (sym (ap (λ (left : Left). left.later) taken));
     }

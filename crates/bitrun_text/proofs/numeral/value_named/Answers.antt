@@ -1,6 +1,7 @@
 use Rattle.std.proofs.Common.{sym, ap, ◌∙◌, rules, to_z-of_z}
+use Rattle.std.specs.Bool.{then_some}
 use Rattle.std.specs.Int.{w128}
-use Rattle.arbitrary_int.specs.Exact.{number_of_type}
+use Rattle.arbitrary_int.specs.Range.{in_range}
 use Rattle.bitrun_text.proofs.Values.{value-far, value-near}
 use Rattle.bitrun_text.proofs.numeral.value_named.Goals as goal
 
@@ -11,5 +12,5 @@ returns-in_err-integer g c =
 
 pub returns : goal.returns
 returns g c =
-    c.value_of.ensures ∙ ap (number_of_type g.R.Integer.IS_SIGNED g.R.Integer.BITS) (to_z-of_z {w = w128} {z = c.in_ok-integer.field-0} (search rules))
+    c.value_of.ensures ∙ ap (λ x. then_some (in_range g.R.Integer.IS_SIGNED g.R.Integer.BITS x) x) (to_z-of_z {w = w128} {z = c.in_ok-integer.field-0} (search rules))
     ∙ sym (value-near g.R.Integer.IS_SIGNED g.R.Integer.BITS c.args.word.now c.in_ok-integer.field-0 c.in_ok-integer.ensures)

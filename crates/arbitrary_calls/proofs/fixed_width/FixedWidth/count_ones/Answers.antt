@@ -1,6 +1,7 @@
 use Rattle.std.specs.Prelude.{◌≡◌, pos}
+use Rattle.std.specs.List.{count_by}
 use Rattle.std.proofs.Common.{ap, ◌∙◌}
-use Rattle.arbitrary_base.specs.BitList.{bits, popcount}
+use Rattle.arbitrary_base.specs.BitList.{bits}
 use Rattle.arbitrary_base.proofs.bit_lists.TwosComplement.{bits-residue}
 use Rattle.arbitrary_base.proofs.operations.PopulationAndRuns.{no_ones-of_zero}
 use Rattle.arbitrary_calls.proofs.fixed_width.FixedWidth.count_ones.Goals as goal
@@ -8,5 +9,5 @@ use Rattle.arbitrary_calls.proofs.fixed_width.FixedWidth.count_ones.Goals as goa
 pub returns-clause-none : goal.returns-clause-none
 returns-clause-none g c z =
     let x = g.Self.Integer.number c.args.self in
-    let v : c.count_ones.result ≡ popcount (bits g.Self.Integer.BITS (pos c.low_bits.result)) = cc in
-    v ∙ ap popcount (bits-residue g.Self.Integer.BITS c.low_bits.result x c.low_bits.ensures.value) ∙ no_ones-of_zero g.Self.Integer.BITS x z
+    let v : c.count_ones.result ≡ count_by (λ b. b) (bits g.Self.Integer.BITS (pos c.low_bits.result)) = cc in
+    v ∙ ap (count_by (λ b. b)) (bits-residue g.Self.Integer.BITS c.low_bits.result x c.low_bits.ensures.value) ∙ no_ones-of_zero g.Self.Integer.BITS x z

@@ -1,7 +1,9 @@
 use Rattle.std.specs.Prelude.{◌≡◌, ◌≤◌, ◌<◌, ◌-◌, ◌%◌, ◌^◌, ◌<ℤ◌, ◌≤ℤ◌, ℕ, pos, false}
+use Rattle.std.specs.Bool.{beq}
+use Rattle.std.specs.List.{suffix_len}
 use Rattle.std.proofs.Common.{ap, sym, subst, ◌∙◌}
 use Rattle.std.proofs.Math.Nat.{mod-eq_of_lt}
-use Rattle.arbitrary_base.specs.BitList.{bits, tail}
+use Rattle.arbitrary_base.specs.BitList.{bits}
 use Rattle.arbitrary_base.proofs.bit_lists.Count.{tail-fits}
 use Rattle.arbitrary_base.proofs.bit_lists.TwosComplement.{bits-residue}
 use Rattle.arbitrary_base.proofs.operations.ZeroRunBounds.{leading-none, leading-found, leading-negative, leading-low, leading-high}
@@ -16,8 +18,8 @@ returns g c =
     let f = c.low_bits.ensures.range in
     let n : c.masked.result ≡ c.low_bits.result % 2 ^ B = cc in
     let p = n ∙ mod-eq_of_lt c.low_bits.ensures.fits ∙ c.low_bits.ensures.value in
-    let v : c.leading_zeros.result ≡ tail false (bits B (pos c.masked.result)) = cc in
-    let e = v ∙ ap (tail false) (bits-residue B _ x p) in
+    let v : c.leading_zeros.result ≡ suffix_len (beq false) (bits B (pos c.masked.result)) = cc in
+    let e = v ∙ ap (suffix_len (beq false)) (bits-residue B _ x p) in
     record {
       value = e;
       bound = subst (λ (m : ℕ). m ≤ B) (sym e) (tail-fits false B x);

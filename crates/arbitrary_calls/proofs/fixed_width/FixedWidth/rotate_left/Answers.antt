@@ -1,6 +1,7 @@
 use Rattle.std.specs.Prelude.{◌≡◌, pos, ◌%◌, ◌≤◌}
+use Rattle.std.specs.List.{slice_rotate_right}
 use Rattle.std.proofs.Common.{arith, sym, ◌∙◌}
-use Rattle.arbitrary_base.specs.BitList.{bits, num, rotl}
+use Rattle.arbitrary_base.specs.BitList.{bits, num}
 use Rattle.arbitrary_base.proofs.bit_lists.ResultOfPattern.{rotl-value}
 use Rattle.arbitrary_base.proofs.modular.Inverse.{rotl-undoes}
 use Rattle.arbitrary_base.proofs.operations.Definition.{rotl-is}
@@ -10,7 +11,7 @@ pub returns : goal.returns
 returns g c =
     let o = c.low_bits.ensures.some in
     let l : c.args.amount % g.Self.Integer.BITS ≤ g.Self.Integer.BITS = omega arith in
-    let q : c.rotate_left.result ≡ num (rotl (bits g.Self.Integer.BITS (pos c.low_bits.result)) (c.args.amount % g.Self.Integer.BITS)) = cc in
+    let q : c.rotate_left.result ≡ num (slice_rotate_right (bits g.Self.Integer.BITS (pos c.low_bits.result)) (c.args.amount % g.Self.Integer.BITS)) = cc in
     let e = rotl-value g.Self.Integer.IS_SIGNED g.Self.Integer.BITS _ _ (c.args.amount % g.Self.Integer.BITS) _ _ c.low_bits.ensures.value q c.from_u128_bits.ensures in
     record {
       operation = e ∙ sym (rotl-is _ _ _ _);

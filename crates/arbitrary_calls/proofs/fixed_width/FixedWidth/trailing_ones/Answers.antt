@@ -1,6 +1,8 @@
 use Rattle.std.specs.Prelude.{◌≡◌, pos, true}
+use Rattle.std.specs.Bool.{beq}
+use Rattle.std.specs.List.{prefix_len}
 use Rattle.std.proofs.Common.{ap, ◌∙◌}
-use Rattle.arbitrary_base.specs.BitList.{bits, front}
+use Rattle.arbitrary_base.specs.BitList.{bits}
 use Rattle.arbitrary_base.proofs.bit_lists.TwosComplement.{bits-residue}
 use Rattle.arbitrary_base.proofs.operations.PopulationAndRuns.{front-of_highest}
 use Rattle.arbitrary_base.proofs.operations.OneRunBounds.{trailing_ones-minus_one}
@@ -9,11 +11,11 @@ use Rattle.arbitrary_calls.proofs.fixed_width.FixedWidth.trailing_ones.Goals as 
 pub returns-clause-highest : goal.returns-clause-highest
 returns-clause-highest g c t =
     let x = g.Self.Integer.number c.args.self in
-    let v : c.trailing_ones.result ≡ front true (bits g.Self.Integer.BITS (pos c.low_bits.result)) = cc in
-    v ∙ ap (front true) (bits-residue g.Self.Integer.BITS c.low_bits.result x c.low_bits.ensures.value) ∙ front-of_highest g.Self.Integer.BITS x t
+    let v : c.trailing_ones.result ≡ prefix_len (beq true) (bits g.Self.Integer.BITS (pos c.low_bits.result)) = cc in
+    v ∙ ap (prefix_len (beq true)) (bits-residue g.Self.Integer.BITS c.low_bits.result x c.low_bits.ensures.value) ∙ front-of_highest g.Self.Integer.BITS x t
 
 pub returns-clause-minus_one : goal.returns-clause-minus_one
 returns-clause-minus_one g c t =
     let x = g.Self.Integer.number c.args.self in
-    let v : c.trailing_ones.result ≡ front true (bits g.Self.Integer.BITS (pos c.low_bits.result)) = cc in
-    v ∙ ap (front true) (bits-residue g.Self.Integer.BITS c.low_bits.result x c.low_bits.ensures.value) ∙ trailing_ones-minus_one g.Self.Integer.BITS x t
+    let v : c.trailing_ones.result ≡ prefix_len (beq true) (bits g.Self.Integer.BITS (pos c.low_bits.result)) = cc in
+    v ∙ ap (prefix_len (beq true)) (bits-residue g.Self.Integer.BITS c.low_bits.result x c.low_bits.ensures.value) ∙ trailing_ones-minus_one g.Self.Integer.BITS x t

@@ -1,13 +1,13 @@
-use Rattle.std.specs.Prelude.{◌≡◌}
+use Rattle.std.specs.Prelude.{◌≡◌, map, not}
 use Rattle.std.proofs.Common.{sym, ◌∙◌}
-use Rattle.arbitrary_base.specs.BitList.{bits, val, bits_not}
+use Rattle.arbitrary_base.specs.BitList.{bits, val}
 use Rattle.arbitrary_base.proofs.bit_lists.StdBitwise.{not-unsigned}
 use Rattle.arbitrary_base.proofs.operations.Definition.{not-is}
 use Rattle.arbitrary_core.proofs.bitwise.unsigned.UIntNot.not.Goals as goal
 
 pub returns : goal.returns
 returns g c =
-    let e : c.new.result ≡ val g.T.Storage.SIGNED (bits_not (bits g.row.BITS c.args.self)) = cc in
+    let e : c.new.result ≡ val g.T.Storage.SIGNED (map not (bits g.row.BITS c.args.self)) = cc in
     record {
       operation = e ∙ sym (not-is _ _ _);
       bits = e;
