@@ -3,8 +3,8 @@
 
 Tells whether the pictures in docs/pictures are what it draws: three charts of the tables in tools/measured.txt, a put into a
 record, the square of `run` and `run_wide`, and the layers. With --write it draws them anew. The colours read on a light and on a
-dark page, and the background is left clear. It also tells whether the rows that docs/PERFORMANCE.md has under the headings of
-these tables are rows of them.
+dark page, and the background is left clear. It also tells whether the rows that docs/PERFORMANCE.md has of the instructions per call
+are rows of these tables.
 """
 import math
 import re
@@ -15,8 +15,7 @@ from pathlib import Path
 ROOT = Path(__file__).resolve().parent.parent
 MEASURED = ROOT / 'tools/measured.txt'
 PAGE = ROOT / 'docs/PERFORMANCE.md'
-# The headings below which the page has rows of the stored tables.
-CHARTED = ['Instructions per call', '`bitrun` on heavy inputs']
+CALLS = 'Instructions per call'
 PICTURES = ROOT / 'docs/pictures'
 GREY, BLUE, ORANGE, GREEN, PALE = '#7a828d', '#3b82f6', '#dd7a1f', '#2f9e58', '#7a828d40'
 
@@ -94,7 +93,7 @@ def key(x, y):
 
 def calls():
     """Each call beside the primitive and C: three widths across, without a sign above, with one below."""
-    panels = [table for table in tables('Instructions per call') if len(table[0]) == 9]
+    panels = [table for table in tables(CALLS) if len(table[0]) == 9]
     rows, left, wide, high, top = len(panels[0]) - 1, 140, 235, 17, 56
 
     def at(value):
@@ -248,9 +247,10 @@ def main():
         'record.svg': record(), 'widths.svg': widths(), 'layers.svg': layers(),
     }
     wrong = []
-    for heading in CHARTED:
-        stored = section(MEASURED, heading).splitlines()
-        wrong += [f'{PAGE}: not a row of {MEASURED}: {row}' for row in section(PAGE, heading).splitlines() if row.startswith('|') and row not in stored]
+    stored = section(MEASURED, CALLS).splitlines()
+    for row in section(PAGE, CALLS).splitlines():
+        if row.startswith('|') and row not in stored:
+            wrong.append(f'{PAGE}: not a row of {MEASURED}: {row}')
     for name, picture_text in drawn.items():
         file = PICTURES / name
         if '--write' in sys.argv[1:]:
