@@ -16,6 +16,11 @@ pub mod SingleBit
 pub mod WrittenMask
 pub mod QuotientAndCube
 pub mod KnownCount
+pub mod Narrowing
+pub mod CountBounds
+pub mod LowestBit
+pub mod LeadingZeros
+pub mod QuotientOrder
 pub mod Sets
 pub mod BitVector
 pub mod Conversions

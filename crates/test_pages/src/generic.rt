@@ -1,6 +1,6 @@
 //! Code for every width.
 
-ghost use Rattle.std.specs.Prelude.{◌≡◌, ◌+ℤ◌, pos};
+ghost use Rattle.std.specs.Prelude.{◌≡◌, ◌+ℤ◌, ◌≤ℤ◌, pos};
 ghost use Rattle.arbitrary_int.specs.Range.{InRange};
 
 use arbitrary_int::prelude::*;
@@ -40,4 +40,12 @@ pub fn checked<const BITS: usize>(number: u32) -> Option<UInt<u32, BITS>> {
     } else {
         None
     }
+}
+
+/// The lesser of two numbers, at any width of one storage.
+pub fn lesser<const BITS: usize>(x: UInt<u32, BITS>, y: UInt<u32, BITS>) -> UInt<u32, BITS>
+    ensures left { result ≤ℤ x.entry }
+    ensures right { result ≤ℤ y.entry }
+{
+    if x < y { x } else { y }
 }

@@ -1,0 +1,12 @@
+//! Laws of numbers: the forms of a call agree, conversions and operations change places, and counts, quotients and powers of two stand
+//! as one expects. None has a proof of its own: each file names one set of laws at most.
+#![tactic(auto)]
+
+pub mod any_width;
+pub mod count_bounds;
+pub mod ends;
+pub mod forms;
+pub mod leading_zeros;
+pub mod lowest_bits;
+pub mod quotient_order;
+pub mod truncations;

@@ -1,0 +1,66 @@
+//! Laws of a result that is converted to a narrower type: the operation may come before the conversion or behind it.
+#![tactic(auto, using(arbitrary_int::proofs::Narrowing::narrowings))]
+
+ghost use Rattle.std.specs.Prelude.{IsTrue};
+
+use arbitrary_int::prelude::*;
+
+pub fn sum(x: u24, y: u24) -> bool
+    ensures { IsTrue result }
+{
+    x.wrapping_add(y).as_::<u9>() == x.as_::<u9>().wrapping_add(y.as_::<u9>())
+}
+
+pub fn difference(x: i24, y: i24) -> bool
+    ensures { IsTrue result }
+{
+    x.wrapping_sub(y).as_::<i9>() == x.as_::<i9>().wrapping_sub(y.as_::<i9>())
+}
+
+pub fn product(x: u48, y: u48) -> bool
+    ensures { IsTrue result }
+{
+    x.wrapping_mul(y).as_::<u5>() == x.as_::<u5>().wrapping_mul(y.as_::<u5>())
+}
+
+pub fn and(x: u24, y: u24) -> bool
+    ensures { IsTrue result }
+{
+    (x & y).as_::<u9>() == x.as_::<u9>() & y.as_::<u9>()
+}
+
+pub fn or(x: i48, y: i48) -> bool
+    ensures { IsTrue result }
+{
+    (x | y).as_::<i12>() == x.as_::<i12>() | y.as_::<i12>()
+}
+
+pub fn xor(x: u120, y: u120) -> bool
+    ensures { IsTrue result }
+{
+    (x ^ y).as_::<u9>() == x.as_::<u9>() ^ y.as_::<u9>()
+}
+
+pub fn not(x: i24) -> bool
+    ensures { IsTrue result }
+{
+    (!x).as_::<u9>() == !x.as_::<u9>()
+}
+
+pub fn left_shift(x: u24) -> bool
+    ensures { IsTrue result }
+{
+    x.wrapping_shl(3).as_::<u9>() == x.as_::<u9>().wrapping_shl(3)
+}
+
+pub fn twice(x: u48) -> bool
+    ensures { IsTrue result }
+{
+    x.as_::<u24>().as_::<u12>() == x.as_::<u12>()
+}
+
+pub fn through_the_other_sign(x: i48) -> bool
+    ensures { IsTrue result }
+{
+    x.to_unsigned().as_::<u12>() == x.as_::<u12>()
+}
