@@ -53,7 +53,7 @@ module _ (B k : ℕ) (x : ℤ) (some : 1 ≤ B) (place : k < B) (range : InRange
   abbrev bit : ℕ
   bit = bit_at n k
 
-  pub same_bit-cleared : unsigned_abs (bitwise_and false B x (bitwise_not false B (shifted_left false B (pos 1) k))) / 2 ^ k % 2 ≡ 0
+  same_bit-cleared : unsigned_abs (bitwise_and false B x (bitwise_not false B (shifted_left false B (pos 1) k))) / 2 ^ k % 2 ≡ 0
   same_bit-cleared =
       let e = sym (tested B k rest some place within) ∙ and-of_cleared false B x one some in
       let p = pow_pos k in
@@ -88,3 +88,8 @@ module _ (B k : ℕ) (x : ℤ) (some : 1 ≤ B) (place : k < B) (range : InRange
 
       under : (m : ℕ) → bit_and (unsigned_abs rest) (bit_and m (2 ^ k)) ≡ 0
       under m = ap (bit_and (unsigned_abs rest)) (and_comm m (2 ^ k)) ∙ sym (and_assoc m (unsigned_abs rest) (2 ^ k)) ∙ ap (λ (a : ℕ). bit_and a m) apart ∙ nothing m
+
+  -- the first part says nothing: it shows the search the call
+  pub gone-cleared : (bitwise_and false B x (bitwise_not false B (shifted_left false B (pos 1) k)) ≡ bitwise_and false B x (bitwise_not false B (shifted_left false B (pos 1) k)))
+      × (unsigned_abs (bitwise_and false B x (bitwise_not false B (shifted_left false B (pos 1) k))) / 2 ^ k % 2 ≡ 0)
+  gone-cleared = (refl, same_bit-cleared)

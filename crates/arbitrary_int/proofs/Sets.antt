@@ -8,16 +8,19 @@ use Rattle.arbitrary_base.proofs.modular.Residue.{wrap-congruent, wrap-of_in_ran
 use Rattle.arbitrary_base.proofs.operations.KnownMask.{and-by_complement, and-digits}
 use Rattle.arbitrary_base.proofs.storages.Clamp.{clamp-fits}
 use Rattle.arbitrary_int.proofs.EmptyWord.{with_field-of_nothing}
-use Rattle.arbitrary_int.proofs.OtherBits.{other_bit-cleared, other_bit-set, other_bit-turned, same_bit-cleared, same_bit-set, same_bit-turned}
+use Rattle.arbitrary_int.proofs.Everyday.{or_three}
+use Rattle.arbitrary_int.proofs.OtherBits.{gone-cleared, other_bit-cleared, other_bit-set, other_bit-turned, same_bit-set, same_bit-turned}
 use Rattle.arbitrary_int.proofs.RangeNumbers.{numbers-count, numbers-head}
 use Rattle.arbitrary_int.proofs.ReplacedField.{and_around, or-into_cleared, or_below_mask, or_into_hole}
-use Rattle.arbitrary_int.proofs.SideBySide.{numeral_next, or_next}
-use Rattle.arbitrary_int.proofs.SingleBit.{low-of_right}
+use Rattle.arbitrary_int.proofs.SideBySide.{numeral_next, or_four, or_next, or_three_up}
 use Rattle.arbitrary_int.proofs.StreamBytes.{Borsh-told, bytes-compared, first-of_Borsh, first-of_Borsh_signed, number-of_Borsh, number-of_Borsh_signed}
 use Rattle.arbitrary_int.proofs.TextLength.{length-of_text}
 
--- fields put together by `|`, as many as there are
-pub ruleset fields = (or_next, numeral_next, or_after_shift, or_before_shift, numeral_or, and_numeral)
+-- three and four fields put together by `|`
+pub ruleset fields = (or_three, or_four, or_three_up)
+
+-- numbers of a primitive put together by `|`, as many as there are, also masked ones and one that is written out
+pub ruleset joined_numbers = (or_next, numeral_next, or_after_shift, or_before_shift, numeral_or, and_numeral)
 
 -- a field of a primitive that is written where a mask has cleared one
 pub ruleset replaced_fields = (or_into_hole, or_below_mask, and_around, and_high_numeral, and_numeral, or_before_shift, or_next)
@@ -26,7 +29,7 @@ pub ruleset replaced_fields = (or_into_hole, or_below_mask, and_around, and_high
 pub ruleset cleared_fields = (Decides-int_eq, or-into_cleared, and-by_complement, and-digits)
 
 -- a bit by its place that is set, cleared or turned over, and the others, which stay
-pub ruleset other_bits = (Decides-int_eq, low-of_right, same_bit-set, other_bit-set, same_bit-cleared, other_bit-cleared, same_bit-turned, other_bit-turned)
+pub ruleset other_bits = (Decides-int_eq, same_bit-set, other_bit-set, gone-cleared, other_bit-cleared, same_bit-turned, other_bit-turned)
 
 -- the bytes of a value in a stream: how many they are, and what is read back
 pub ruleset streams = (Borsh-told, number-of_Borsh, number-of_Borsh_signed, first-of_Borsh, first-of_Borsh_signed, reverse-reverse)
