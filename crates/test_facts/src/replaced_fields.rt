@@ -27,7 +27,7 @@ pub fn red_replaced(colour: u16, red: u5) -> u16
     (colour & 0x07FF) | (red.as_u16() << 11)
 }
 
-pub fn kept_and_put(register: u8, mode: u2) -> u8
+pub fn mode_written(register: u8, mode: u2) -> u8
     ensures above { result / 16 ≡ register / 16 }
     ensures below { result % 4 ≡ register % 4 }
     ensures mode { pos (result / 4 % 4) ≡ mode }
