@@ -8,11 +8,13 @@ pub mod RangeSteps
 pub mod ByteLaws
 pub mod Everyday
 pub mod SideBySide
+pub mod ReplacedField
 pub mod StreamBytes
 pub mod TextLength
 pub mod RangeNumbers
 pub mod EmptyWord
 pub mod SingleBit
+pub mod OtherBits
 pub mod WrittenMask
 pub mod QuotientAndCube
 pub mod KnownCount

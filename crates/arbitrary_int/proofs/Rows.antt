@@ -1,5 +1,5 @@
 -- Steps within a range, and numbers in a row.
-use Rattle.std.specs.Prelude.{◌≡◌, ℕ, zero, suc, ℤ, pos, negsuc, ◌+ℤ◌, ◌-ℤ◌, ◌≤ℤ◌, ◌<ℤ◌, ◌≤◌, Bool, true, false, List, [], ◌∷◌, ◌++◌, map, ◌+◌}
+use Rattle.std.specs.Prelude.{◌≡◌, ℕ, zero, suc, ℤ, pos, negsuc, ◌+ℤ◌, ◌-ℤ◌, ◌≤ℤ◌, ◌<ℤ◌, ◌≤◌, Bool, true, false, List, [], ◌∷◌, ◌++◌, map, length, ◌+◌}
 use Rattle.std.proofs.Common.{refl, ap, sym, subst, ◌∙◌, arith, lit≤}
 use Rattle.std.proofs.lemmas.Int.{ints}
 use Rattle.std.specs.Int.{int_gap}
@@ -61,7 +61,7 @@ row-last x (suc n) =
     let e : x +ℤ pos 1 +ℤ pos n ≡ x +ℤ pos (suc n) = omega (arith, ints) in
     ap (λ (ys : List ℤ). x ∷ ys) (row-last (x +ℤ pos 1) n ∙ ap (λ (w : ℤ). row (x +ℤ pos 1) n ++ w ∷ []) e)
 
-gap-some : (a b : ℤ) → a ≤ℤ b → pos (int_gap a b) ≡ b -ℤ a
+pub gap-some : (a b : ℤ) → a ≤ℤ b → pos (int_gap a b) ≡ b -ℤ a
 gap-some (pos a) (pos b) h = omega (arith, ints)
 gap-some (pos a) (negsuc b) h = absurd (omega (arith, ints))
 gap-some (negsuc a) (pos b) h = omega (arith, ints)
@@ -72,6 +72,14 @@ gap-none (pos a) (pos b) h = omega (arith, ints)
 gap-none (pos a) (negsuc b) h = refl
 gap-none (negsuc a) (pos b) h = absurd (omega (arith, ints))
 gap-none (negsuc a) (negsuc b) h = omega (arith, ints)
+
+row-length : (x : ℤ) (n : ℕ) → length (row x n) ≡ n
+unfolding row
+row-length x zero = refl
+row-length x (suc n) = ap suc (row-length (x +ℤ pos 1) n)
+
+pub length-numbers : (a b : ℤ) → length (numbers a b) ≡ int_gap a (b +ℤ pos 1)
+length-numbers a b = ap length (numbers-row a b) ∙ row-length a (int_gap a (b +ℤ pos 1))
 
 -- none where the first is greater
 pub numbers-none : (a b : ℤ) → b <ℤ a → numbers a b ≡ []

@@ -1,18 +1,35 @@
 -- For callers: sets on fields side by side, bytes, texts, ranges and lists of steps, each by its theme. A file or a function names one:
 -- `#![tactic(auto, using(arbitrary_int::proofs::Sets::streams))]`. Those of the bit operations stand in BitVector.antt.
+use Rattle.std.proofs.lemmas.Bool.Decides.{Decides-int_eq}
+use Rattle.std.proofs.lemmas.Grind.{and_high_numeral, and_numeral, numeral_or, or_after_shift, or_before_shift}
 use Rattle.std.proofs.lemmas.List.{map-id, reverse-reverse}
 use Rattle.arbitrary_base.proofs.LawProof.{in_range-tells}
 use Rattle.arbitrary_base.proofs.modular.Residue.{wrap-congruent, wrap-of_in_range}
+use Rattle.arbitrary_base.proofs.operations.KnownMask.{and-by_complement, and-digits}
 use Rattle.arbitrary_base.proofs.storages.Clamp.{clamp-fits}
-use Rattle.arbitrary_int.proofs.Everyday.{or_three}
 use Rattle.arbitrary_int.proofs.EmptyWord.{with_field-of_nothing}
-use Rattle.arbitrary_int.proofs.RangeNumbers.{numbers-head}
-use Rattle.arbitrary_int.proofs.SideBySide.{or_four, or_three_up}
+use Rattle.arbitrary_int.proofs.Everyday.{or_three}
+use Rattle.arbitrary_int.proofs.OtherBits.{gone-cleared, other_bit-cleared, other_bit-set, other_bit-turned, same_bit-set, same_bit-turned}
+use Rattle.arbitrary_int.proofs.RangeNumbers.{numbers-count, numbers-head}
+use Rattle.arbitrary_int.proofs.ReplacedField.{and_around, or-into_cleared, or_below_mask, or_into_hole}
+use Rattle.arbitrary_int.proofs.SideBySide.{numeral_next, or_four, or_next, or_three_up}
 use Rattle.arbitrary_int.proofs.StreamBytes.{Borsh-told, bytes-compared, first-of_Borsh, first-of_Borsh_signed, number-of_Borsh, number-of_Borsh_signed}
 use Rattle.arbitrary_int.proofs.TextLength.{length-of_text}
 
 -- three and four fields put together by `|`
 pub ruleset fields = (or_three, or_four, or_three_up)
+
+-- numbers of a primitive put together by `|`, as many as there are, also masked ones and one that is written out
+pub ruleset joined_numbers = (or_next, numeral_next, or_after_shift, or_before_shift, numeral_or, and_numeral)
+
+-- a field of a primitive that is written where a mask has cleared one
+pub ruleset replaced_fields = (or_into_hole, or_below_mask, and_around, and_high_numeral, and_numeral, or_before_shift, or_next)
+
+-- the same in a number of these types, under the complement of a mask
+pub ruleset cleared_fields = (Decides-int_eq, or-into_cleared, and-by_complement, and-digits)
+
+-- a bit by its place that is set, cleared or turned over, and the others, which stay
+pub ruleset other_bits = (Decides-int_eq, same_bit-set, other_bit-set, gone-cleared, other_bit-cleared, same_bit-turned, other_bit-turned)
 
 -- the bytes of a value in a stream: how many they are, and what is read back
 pub ruleset streams = (Borsh-told, number-of_Borsh, number-of_Borsh_signed, first-of_Borsh, first-of_Borsh_signed, reverse-reverse)
@@ -23,8 +40,8 @@ pub ruleset byte_orders = (bytes-compared, reverse-reverse)
 -- how long the text of a number is
 pub ruleset texts = (length-of_text)
 
--- the first of a range
-pub ruleset ranges = (numbers-head)
+-- the first of a range, and how many there are
+pub ruleset ranges = (numbers-head, numbers-count)
 
 -- what a list of steps leaves, where each step is written out
 pub ruleset steps = (map-id, wrap-of_in_range, wrap-congruent, clamp-fits, in_range-tells)

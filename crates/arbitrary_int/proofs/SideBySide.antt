@@ -1,10 +1,31 @@
--- Fields side by side, put together by `|`: four of them, and three with the low one first. Everyday.antt has three.
+-- Fields side by side, put together by `|`: four of them, three with the low one first, and one more below any number of them. A field is a number
+-- times a power of two, as a left shift gives it. Everyday.antt has three, std two.
 use Rattle.std.specs.Prelude.{◌≡◌, ℕ, suc, ◌+◌, ◌*◌, ◌/◌, ◌%◌, ◌^◌, ◌≤◌, ◌<◌}
 use Rattle.std.specs.Int.Bits.{bit_or}
-use Rattle.std.proofs.Common.{sym, ap, ◌∙◌, arith, mod-eq_of_lt, lt_of_mul-lt-mul_right, mul-le-mul_right, suc-mul}
-use Rattle.std.proofs.lemmas.Nat.{or_comm}
-use Rattle.std.proofs.lemmas.Grind.{low_zeros, or_after_shift, or_before_shift}
+use Rattle.std.proofs.Common.{refl, sym, ap, ◌∙◌, arith, div-add-mod', lt_of_mul-lt-mul_right, mod-eq_of_lt, mul-le-mul_right, suc-mul}
+use Rattle.std.proofs.Math.Nat.{mul-mod_left}
 use Rattle.arbitrary_int.proofs.Everyday.{or_three}
+use Rattle.std.proofs.lemmas.Grind.{low_zeros, or_after_shift, or_before_shift}
+use Rattle.std.proofs.lemmas.Nat.{or_comm, or_mod, or_shifted}
+
+-- what has no bit below place k, beside what has none from there on
+pub beside : (a k b : ℕ) → a % 2 ^ k ≡ 0 → b < 2 ^ k → bit_or a b ≡ a + b
+beside a k b e g =
+    let m : a / 2 ^ k * 2 ^ k ≡ a = omega (arith, div-add-mod' a (2 ^ k)) in
+    ap (λ (n : ℕ). bit_or n b) (sym m) ∙ or_shifted (a / 2 ^ k) k b g ∙ ap (λ (n : ℕ). n + b) m
+
+-- one more field below those that stand side by side
+pub or_next : (a y d v b : ℕ) → d ≡ 2 ^ low_zeros 128 d → a % d ≡ 0 → b < d → y * d < v → bit_or (bit_or a (y * d % v)) b ≡ bit_or a (y * d % v) + b
+or_next a y d v b p e g h =
+    let k = low_zeros 128 d in
+    let f : a % 2 ^ k ≡ 0 = ap (λ (n : ℕ). a % n) (sym p) ∙ e in
+    let s : y * d % v % 2 ^ k ≡ 0 = ap (λ (n : ℕ). n % 2 ^ k) (mod-eq_of_lt h) ∙ ap (λ (n : ℕ). y * n % 2 ^ k) p ∙ mul-mod_left y (2 ^ k) in
+    let c : bit_or a (y * d % v) % 2 ^ k ≡ 0 = or_mod a (y * d % v) k ∙ rw (f, s) refl in
+    beside (bit_or a (y * d % v)) k b c (omega arith)
+
+-- `suc m` fits a number that is written out
+pub numeral_next : (m y d v b : ℕ) → d ≡ 2 ^ low_zeros 128 d → suc m % d ≡ 0 → b < d → y * d < v → bit_or (bit_or (suc m) (y * d % v)) b ≡ bit_or (suc m) (y * d % v) + b
+numeral_next m = or_next (suc m)
 
 regroup : (x m d y : ℕ) → x * (m * d) + y * d ≡ (x * m + y) * d
 regroup x m d y = grind arith
@@ -19,8 +40,8 @@ or_four t e u x c w y d v b o p q i j f g h k l m =
     ap (λ (a : ℕ). bit_or (bit_or a (y * d % v)) b) (first ∙ z ∙ sym s)
     ∙ or_three (t * (e / c) + x) c ((t * (e / c) + x) * c + 1) y d v b p q j g h (omega arith) m ∙ ap (λ (a : ℕ). a + y * d + b) (sym z)
 
-beside : (m y d b : ℕ) → y * d < m * d → b < d → y * d + b < m * d
-beside m y d b h g =
+above : (m y d b : ℕ) → y * d < m * d → b < d → y * d + b < m * d
+above m y d b h g =
     let l = lt_of_mul-lt-mul_right d h in
     let n : suc y ≤ m = omega arith in
     let k = mul-le-mul_right d n in
@@ -31,5 +52,5 @@ pub or_three_up : (b y d v x c w : ℕ) → c ≡ 2 ^ low_zeros 128 c → d ≡ 
     → bit_or (bit_or b (y * d % v)) (x * c % w) ≡ x * c + y * d + b
 or_three_up b y d v x c w p q e f g h k =
     let r : y * d < c / d * d = omega arith in
-    let small = beside (c / d) y d b r g in
+    let small = above (c / d) y d b r g in
     or_comm (bit_or b (y * d % v)) (x * c % w) ∙ ap (bit_or (x * c % w)) (or_before_shift b y d v q g k) ∙ or_after_shift x c w (y * d + b) p (omega arith) h ∙ omega arith

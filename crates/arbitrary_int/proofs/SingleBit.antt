@@ -38,7 +38,7 @@ or-natural B n x h g f = or-plain false B x (pos n) _ h f (unsigned-in_range B n
 
 -- ---- a test by `x & (1 << k)`
 
-tested : (B k : ℕ) (x : ℤ) → 1 ≤ B → k < B → InRange false B x → bitwise_and false B x (shifted_left false B (pos 1) k) ≡ pos (bit_at (unsigned_abs x) k * 2 ^ k)
+pub tested : (B k : ℕ) (x : ℤ) → 1 ≤ B → k < B → InRange false B x → bitwise_and false B x (shifted_left false B (pos 1) k) ≡ pos (bit_at (unsigned_abs x) k * 2 ^ k)
 tested B k x h g f =
     ap (bitwise_and false B x) (left-of_one B k g) ∙ and-natural B (2 ^ k) x h (pow_below k B g) f ∙ ap pos (and_pow (unsigned_abs x) k)
 
@@ -63,7 +63,7 @@ low-of_right B k x h g f =
     ∙ and-natural B 1 (pos (unsigned_abs x / 2 ^ k)) h (pow_below 0 B (omega arith)) (unsigned-in_range B _ (omega arith))
     ∙ ap pos (shr_and_one (unsigned_abs x) k)
 
-or-one_bit : (B k : ℕ) (x : ℤ) → 1 ≤ B → k < B → InRange false B x → bitwise_or false B x (shifted_left false B (pos 1) k) ≡ pos (bit_or (unsigned_abs x) (2 ^ k))
+pub or-one_bit : (B k : ℕ) (x : ℤ) → 1 ≤ B → k < B → InRange false B x → bitwise_or false B x (shifted_left false B (pos 1) k) ≡ pos (bit_or (unsigned_abs x) (2 ^ k))
 or-one_bit B k x h g f = ap (bitwise_or false B x) (left-of_one B k g) ∙ or-natural B (2 ^ k) x h (pow_below k B g) f
 
 pub low-of_right_set : (B k : ℕ) (x : ℤ) → 1 ≤ B → k < B → InRange false B x

@@ -1,10 +1,11 @@
 //! How the library is used: a device's register and settings, a packet header, a frame of bytes, a sensor, a filter, a log, the
-//! decoder of a processor, lists of steps at one width and at two, code for every width, fields in a record, and
-//! numbers as text and as keys.
+//! decoder of a processor, the registers of a clock, lists of steps at one width and at two, code for every width,
+//! fields in a record, and numbers as text and as keys.
 //! The program `examples_tour` prints what each gives.
 #![tactic(auto)]
 
 pub mod can;
+pub mod clock;
 pub mod decoder;
 pub mod filter;
 pub mod first;

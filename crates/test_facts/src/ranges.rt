@@ -2,7 +2,7 @@
 //! names one set of laws. `lists` beside it has sums and steps from value to value.
 #![tactic(auto, using(arbitrary_int::proofs::Sets::ranges))]
 
-ghost use Rattle.std.specs.Prelude.{◌≡◌, ◌≤ℤ◌, Some};
+ghost use Rattle.std.specs.Prelude.{◌≡◌, ◌≤ℤ◌, ◌<ℤ◌, Some};
 
 use arbitrary_int::prelude::*;
 use arbitrary_int::range_inclusive;
@@ -12,4 +12,11 @@ pub fn first_of_range(low: u7, high: u7) -> Option<u7>
     ensures { result ≡ Some low }
 {
     range_inclusive(low, high).next()
+}
+
+pub fn no_values(low: u7, high: u7) -> usize
+    requires { high <ℤ low }
+    ensures { result ≡ 0 }
+{
+    range_inclusive(low, high).count()
 }

@@ -2,7 +2,7 @@
 //! None has a proof of its own: the file names one set of laws.
 #![tactic(auto, using(arbitrary_int::proofs::Sets::fields))]
 
-ghost use Rattle.std.specs.Prelude.{◌≡◌, ◌*◌, ◌+◌, ◌+ℤ◌, ◌*ℤ◌, pos};
+ghost use Rattle.std.specs.Prelude.{◌≡◌, ◌*◌, ◌+◌, ◌/◌, ◌+ℤ◌, ◌*ℤ◌, pos};
 
 use arbitrary_int::prelude::*;
 
@@ -41,4 +41,31 @@ pub fn low_first(low: u8, middle: u8, high: u8) -> u32
     ensures { result ≡ low + 256 * middle + 65536 * high }
 {
     u32::from(low) | (u32::from(middle) << 8) | (u32::from(high) << 16)
+}
+
+pub fn by_value(mode: u2, channel: u2, level: u4) -> u8
+    ensures { pos result ≡ pos 64 *ℤ mode +ℤ pos 16 *ℤ channel +ℤ level }
+{
+    (mode.value() << 6) | (channel.value() << 4) | level.value()
+}
+
+#[tactic(auto, using(arbitrary_int::proofs::Sets::joined_numbers))]
+pub fn under_a_mark(high: u6, low: u8) -> u16
+    ensures { pos result ≡ pos 32768 +ℤ pos 256 *ℤ high +ℤ pos low }
+{
+    0x8000 | (u16::from_(high) << 8) | u16::from(low)
+}
+
+#[tactic(auto, using(arbitrary_int::proofs::Sets::joined_numbers))]
+pub fn from_eight_bits(red: u8, green: u8, blue: u8) -> u16
+    ensures { result ≡ red / 8 * 2048 + green / 4 * 32 + blue / 8 }
+{
+    (u16::from(red >> 3) << 11) | (u16::from(green >> 2) << 5) | u16::from(blue >> 3)
+}
+
+#[tactic(auto, using(arbitrary_int::proofs::Sets::joined_numbers))]
+pub fn four_in_their_own_type(a: u3, b: u6, c: u6, d: u6) -> u21
+    ensures { result ≡ pos 262144 *ℤ a +ℤ pos 4096 *ℤ b +ℤ pos 64 *ℤ c +ℤ d }
+{
+    (u21::from_(a) << 18) | (u21::from_(b) << 12) | (u21::from_(c) << 6) | u21::from_(d)
 }

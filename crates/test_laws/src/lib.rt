@@ -9,6 +9,7 @@ pub mod complements;
 pub mod counts;
 pub mod distribution;
 pub mod exact;
+pub mod fields;
 pub mod former_names;
 pub mod generic;
 pub mod masks;

@@ -1,0 +1,56 @@
+//! Fields that are written into a word in place. The other bits stay.
+//! None has a proof of its own: the file names one set of laws.
+#![tactic(auto, using(arbitrary_int::proofs::Sets::replaced_fields))]
+
+ghost use Rattle.std.specs.Prelude.{◌≡◌, ◌/◌, ◌%◌, ◌*◌, ◌+◌, ◌+ℤ◌, ◌*ℤ◌, pos, if◌then◌else◌};
+ghost use Rattle.arbitrary_int.specs.Field.{field};
+
+use arbitrary_int::prelude::*;
+
+// ---- in a primitive
+
+pub fn green_replaced(colour: u16, green: u6) -> u16
+    ensures { pos result ≡ pos (colour / 2048 * 2048) +ℤ pos 32 *ℤ green +ℤ pos (colour % 32) }
+{
+    (colour & !0x07E0) | (u16::from_(green) << 5)
+}
+
+pub fn blue_replaced(colour: u16, blue: u5) -> u16
+    ensures { pos result ≡ pos (colour / 32 * 32) +ℤ blue }
+{
+    (colour & !31) | u16::from_(blue)
+}
+
+pub fn red_replaced(colour: u16, red: u5) -> u16
+    ensures { pos result ≡ pos 2048 *ℤ red +ℤ pos (colour % 2048) }
+{
+    (colour & 0x07FF) | (red.as_u16() << 11)
+}
+
+pub fn mode_written(register: u8, mode: u2) -> u8
+    ensures above { result / 16 ≡ register / 16 }
+    ensures below { result % 4 ≡ register % 4 }
+    ensures mode { pos (result / 4 % 4) ≡ mode }
+{
+    (register & !0b1100) | (mode.value() << 2)
+}
+
+pub fn read_back(register: u32, level: u4) -> u4
+    ensures { result ≡ level }
+{
+    let written = (register & !0xF000) | (u32::from_(level) << 12);
+    u4::extract_u32(written, 12)
+}
+
+pub fn neighbour(register: u32, level: u4) -> u4
+    ensures { result ≡ field register 16 4 }
+{
+    let written = (register & !0xF000) | (u32::from_(level) << 12);
+    u4::extract_u32(written, 16)
+}
+
+pub fn flag_written(register: u32, on: bool) -> u32
+    ensures { result ≡ register / 256 * 256 + (if on then 128 else 0) + register % 128 }
+{
+    (register & !(1 << 7)) | (u32::from(on) << 7)
+}
