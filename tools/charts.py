@@ -1,9 +1,10 @@
 #!/usr/bin/env python3
 """charts.py [--write]
 
-Tells whether the pictures in docs/pictures are what it draws: three charts of the tables in docs/PERFORMANCE.md, a put into a
+Tells whether the pictures in docs/pictures are what it draws: three charts of the tables in tools/measured.txt, a put into a
 record, the square of `run` and `run_wide`, and the layers. With --write it draws them anew. The colours read on a light and on a
-dark page, and the background is left clear.
+dark page, and the background is left clear. It also tells whether the rows that docs/PERFORMANCE.md has of the instructions per call
+are rows of these tables.
 """
 import math
 import re
@@ -12,16 +13,21 @@ from html import escape
 from pathlib import Path
 
 ROOT = Path(__file__).resolve().parent.parent
+MEASURED = ROOT / 'tools/measured.txt'
 PAGE = ROOT / 'docs/PERFORMANCE.md'
+CALLS = 'Instructions per call'
 PICTURES = ROOT / 'docs/pictures'
 GREY, BLUE, ORANGE, GREEN, PALE = '#7a828d', '#3b82f6', '#dd7a1f', '#2f9e58', '#7a828d40'
 
 
+def section(file, heading):
+    """What stands below a heading of a file."""
+    return next(part for part in re.split(r'^##+ ', file.read_text(), flags=re.M) if part.startswith(heading + '\n'))
+
+
 def tables(heading):
-    """The tables below a heading of the page, each as a list of rows of cells, the first of which is its head."""
-    part = re.split(r'^##+ ', PAGE.read_text(), flags=re.M)
-    text = next(section for section in part if section.startswith(heading + '\n'))
-    for block in re.findall(r'(?:^\|.*\n)+', text, re.M):
+    """The stored tables below a heading, each as a list of rows of cells, the first of which is its head."""
+    for block in re.findall(r'(?:^\|.*\n)+', section(MEASURED, heading), re.M):
         rows = [[cell.strip() for cell in line[1:-1].split('|')] for line in block.splitlines()]
         yield [rows[0], *rows[2:]]
 
@@ -87,7 +93,7 @@ def key(x, y):
 
 def calls():
     """Each call beside the primitive and C: three widths across, without a sign above, with one below."""
-    panels = [table for table in tables('Instructions per call') if len(table[0]) == 9]
+    panels = [table for table in tables(CALLS) if len(table[0]) == 9]
     rows, left, wide, high, top = len(panels[0]) - 1, 140, 235, 17, 56
 
     def at(value):
@@ -241,6 +247,10 @@ def main():
         'record.svg': record(), 'widths.svg': widths(), 'layers.svg': layers(),
     }
     wrong = []
+    stored = section(MEASURED, CALLS).splitlines()
+    for row in section(PAGE, CALLS).splitlines():
+        if row.startswith('|') and row not in stored:
+            wrong.append(f'{PAGE}: not a row of {MEASURED}: {row}')
     for name, picture_text in drawn.items():
         file = PICTURES / name
         if '--write' in sys.argv[1:]:
@@ -248,7 +258,7 @@ def main():
             file.write_text(picture_text)
         elif not file.exists() or file.read_text() != picture_text:
             wrong.append(f'{file}: not what the tables give; draw it by tools/charts.py --write')
-    print('\n'.join(wrong) or 'pictures: as they should be')
+    print('\n'.join(wrong) or 'pictures and measured rows: as they should be')
     return 1 if wrong else 0
 
 

@@ -1,8 +1,8 @@
 #!/usr/bin/env python3
 """glossary.py
 
-Tells whether a word that docs/GLOSSARY.md calls retired stands in the crates' src/ and specs/ or in docs/, in a line or in the
-name of a file, and whether the libraries have more clause lines over 100 columns than the number below. With --long it lists
+Tells whether a word of tools/retired_words.txt stands in the crates' src/ and specs/ or in docs/, in a line or in the name of a
+file, and whether the libraries have more clause lines over 100 columns than the number below. With --long it lists
 these lines.
 """
 import re
@@ -10,8 +10,7 @@ import sys
 from pathlib import Path
 
 ROOT = Path(__file__).resolve().parent.parent
-PAGE = ROOT / 'docs/GLOSSARY.md'
-HEADING = '## Retired words'
+RETIRED = ROOT / 'tools/retired_words.txt'
 LIBRARIES = ['arbitrary_base', 'arbitrary_traits', 'arbitrary_core', 'arbitrary_calls', 'arbitrary_int', 'bit_fields']
 COLUMNS = 100
 # The module that keeps names of before 1.0.0 for users: it, and what is below a heading or on a line that names it, may have them.
@@ -21,11 +20,11 @@ LONG = 319
 
 
 def retired():
-    """The names and the phrases that the page retires."""
+    """The names and the phrases that are retired."""
     names, phrases = [], []
-    for line in PAGE.read_text().split(HEADING)[1].splitlines():
-        if line.startswith('| ') and not line.startswith('| Retired'):
-            for word in line.split('|')[1].split(','):
+    for line in RETIRED.read_text().splitlines():
+        if not line.startswith('#'):
+            for word in line.split(':')[0].split(','):
                 (names if '`' in word else phrases).append(word.strip().strip('`'))
     return names, phrases
 
@@ -38,7 +37,7 @@ def files():
                 yield file, file.read_text()
     for file in sorted((ROOT / 'docs').rglob('*')):
         if file.suffix in ('.md', '.svg'):
-            yield file, file.read_text().split(HEADING)[0] if file == PAGE else file.read_text()
+            yield file, file.read_text()
 
 
 def code(file, line):
@@ -63,7 +62,7 @@ def clauses():
 def main():
     names, phrases = retired()
     if not names or not phrases:
-        sys.exit(f'{PAGE}: no table below {HEADING}')
+        sys.exit(f'{RETIRED}: no names, or no phrases')
     name = re.compile(r'(?<![\w-])(' + '|'.join(map(re.escape, names)) + r')(?![\w-])')
     phrase = re.compile(r'(?<![A-Za-z])(' + '|'.join(phrases) + r')(?![A-Za-z])', re.I)
     wrong = []
@@ -86,7 +85,7 @@ def main():
         wrong.append(f'{len(long)} clause lines over {COLUMNS} columns, where {LONG} are allowed; --long lists them')
     if '--long' in sys.argv[1:]:
         wrong = [f'{file.relative_to(ROOT)}:{number}: {len(line)} columns' for file, number, line in long]
-    print('\n'.join(wrong) or f'words: as the glossary has them, and {len(long)} clause lines over {COLUMNS} columns')
+    print('\n'.join(wrong) or f'words: none is retired, and {len(long)} clause lines over {COLUMNS} columns')
     return 1 if wrong else 0
 
 

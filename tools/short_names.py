@@ -24,7 +24,7 @@ def definitions(letter, name, module):
     """The file that defines the names of one sign."""
     lines = [
         f'//! `{letter}1` to `{letter}127`: `{name}` over the smallest primitive that has room. 8, 16, 32 and 64 bits are',
-        '//! primitives already.',
+        '//! primitives already. tools/short_names.py writes this file.',
         '',
         f'use crate::{module}::{name};',
     ]
@@ -37,7 +37,8 @@ def room(first, last):
     """The file that says which storages have room for the widths from the first to the last."""
     traits = [f'AtLeast{width}' for width in STORAGES if storage(first) <= width <= storage(last)]
     lines = [
-        f'//! The widths from {first} to {last}: each storage that has as many bits has room for them.',
+        f'//! The widths from {first} to {last}: each storage that has as many bits has room for them (`room`).',
+        '//! tools/short_names.py writes this file.',
         '',
         'ghost use Rattle.std.proofs.Common.{lit≤, le_trans};',
         '',
@@ -58,7 +59,8 @@ def room(first, last):
 def ends(letter, name, module):
     """The file of tests that has the ends of one type at each width, from their definitions."""
     lines = [
-        f'//! The least and the greatest number of `{name}` at each width from 1 to 128, in the smallest storage.',
+        f'//! The least and the greatest number of `{name}` at each width from 1 to 128, in the smallest storage. `ends` has what is',
+        '//! tested of each. tools/short_names.py writes this file.',
         '',
         f'use crate::ends::{{{", ".join(f"ends_{letter}{width}" for width in STORAGES)}}};',
     ]

@@ -1,4 +1,6 @@
-//! The bits of the values of `UInt` and `Int`, on which the calls on bits work.
+//! The bits of the values of `UInt` and `Int`, with none above them. `FixedWidth` takes these for the calls on bits and
+//! for sums and products that wrap, and else the number in its storage (`representation`). A further representation needs
+//! an impl in both.
 
 ghost use Rattle.std.specs.Prelude.{◌≡◌, ◌≤◌, ◌<◌, ◌^◌};
 ghost use Rattle.arbitrary_base.specs.Range.{InRange};

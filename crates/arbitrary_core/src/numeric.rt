@@ -1,4 +1,4 @@
-//! Both types under the traits of `num_traits`: `WrappingAdd`, `WrappingSub`, and the parents that these ask.
+//! Both types under the traits of `num_traits`: `WrappingAdd`, `WrappingSub`, and the parents that these require.
 //!
 //! There a value's integer is its number, and the truncation of an integer is `wrap`. These stand at every width,
 //! also one that is not shown to be valid; those that need a value, as the least number of `Bounded`, stand

@@ -1,4 +1,6 @@
-//! The integer traits.
+//! The integer traits `Integer`, `UnsignedInteger` and `SignedInteger`, with the contract of each call. The primitives
+//! meet it in `primitives`, and `UInt` and `Int` in `arbitrary_core`. A new call is final over those that a type has to
+//! give, so that no impl changes; a new required one needs a body in each of them.
 
 ghost use Rattle.std.specs.Prelude.{◌≡◌, ◌≢◌, ◌≤◌, ◌+ℤ◌, ◌-ℤ◌, ◌*ℤ◌, ℕ, ℤ, Bool, true, false, pos, neg_ℤ, Some, MatchResult, int_div, map, not};
 ghost use Rattle.std.specs.Ordering.{int_cmp, int_eq};

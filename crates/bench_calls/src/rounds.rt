@@ -1,4 +1,6 @@
-//! The loop around a call.
+//! The loop around a call, and the operands that it is made on. The calls stand in `fixed` and `primitive`, each a
+//! `Call`, and `fields` and `single` take their operands from here. `tools/instructions.py` subtracts what `Nothing`
+//! costs.
 
 ghost use Rattle.std.specs.Prelude.{◌≤◌};
 

@@ -1,4 +1,5 @@
-//! What follows of the definitions alone.
+//! What follows of the definitions in `specs` alone: an input has one output and one bad line at most, so "the output" in the
+//! contract of `serve` means one text. Nothing here runs; a new definition of the output has to leave these proved.
 
 ghost use Rattle.std.specs.Prelude.{◌≡◌, ℕ, List};
 ghost use Rattle.bitrun_text.specs.Form.{BadLine};

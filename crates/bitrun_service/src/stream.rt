@@ -1,4 +1,5 @@
-//! The whole input in, and the whole output out.
+//! The whole input in, and the whole output out, for `serving`; `output` beside this file makes one of the other. Only
+//! here is a reader or a writer called. An input has at most 65,536 bytes, and no failed call is tried again.
 
 ghost use Rattle.std.specs.Prelude.{◌≡◌, ◌≤◌, vec_len, IfOk, IfErr, OnOk, OnErr, IfSome, IsTrue};
 ghost use Rattle.std.specs.Io.KnownBytes.{Appends, IsAtEnd};

@@ -1,4 +1,5 @@
-//! The least and the greatest number of `Int` at each width from 1 to 128, in the smallest storage.
+//! The least and the greatest number of `Int` at each width from 1 to 128, in the smallest storage. `ends` has what is
+//! tested of each. tools/short_names.py writes this file.
 
 use crate::ends::{ends_i8, ends_i16, ends_i32, ends_i64, ends_i128};
 

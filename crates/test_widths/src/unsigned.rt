@@ -1,4 +1,5 @@
-//! The least and the greatest number of `UInt` at each width from 1 to 128, in the smallest storage.
+//! The least and the greatest number of `UInt` at each width from 1 to 128, in the smallest storage. `ends` has what is
+//! tested of each. tools/short_names.py writes this file.
 
 use crate::ends::{ends_u8, ends_u16, ends_u32, ends_u64, ends_u128};
 

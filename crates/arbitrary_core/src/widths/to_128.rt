@@ -1,4 +1,5 @@
-//! The widths from 65 to 128: each storage that has as many bits has room for them.
+//! The widths from 65 to 128: each storage that has as many bits has room for them (`room`).
+//! tools/short_names.py writes this file.
 
 ghost use Rattle.std.proofs.Common.{lit≤, le_trans};
 
