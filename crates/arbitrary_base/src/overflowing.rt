@@ -81,23 +81,6 @@ pub fn mul<T: Storage>(x: T, y: T, bits: usize) -> (T, bool)
     }
 }
 
-/// `mul` of a first factor in range.
-// There the flag of the number moved up is right with no test of the factor, so small unsigned products have it too.
-pub fn mul_in_range<T: Storage>(x: T, y: T, bits: usize) -> (T, bool)
-    requires width { 1 ≤ bits }
-    requires storage { bits ≤ T.WIDTH }
-    requires x_in { InRange T.SIGNED bits (T.number x) }
-    ensures value { T.number result.0 ≡ wrap T.SIGNED bits (T.number x *ℤ T.number y) }
-    ensures range { InRange T.SIGNED bits (T.number result.0) }
-    ensures overflow { IsTrue result.1 ↔ ¬ (InRange T.SIGNED bits (T.number x *ℤ T.number y)) }
-{
-    if T::WIDTH <= 16 && bits < T::WIDTH {
-        raised::mul(x, y, bits)
-    } else {
-        mul(x, y, bits)
-    }
-}
-
 /// The quotient, wrapped, and whether the exact one is out of range. The divisor is not zero.
 #[tactic(auto, using(crate::proofs::storages::Clamp::overflow_laws))]
 pub fn div<T: Storage>(x: T, y: T, bits: usize) -> (T, bool)

@@ -241,11 +241,7 @@ pub trait FixedWidth: Integer + LowBits {
         ensures exact { InRange Self.IS_SIGNED Self.BITS (Self.number self *ℤ Self.number rhs) → Self.number result.0 ≡ Self.number self *ℤ Self.number rhs }
         ensures congruent { Congruent Self.BITS (Self.number result.0) (Self.number self *ℤ Self.number rhs) }
     {
-        let (product, overflow) = overflowing::mul_in_range(
-            self.to_storage(),
-            rhs.to_storage(),
-            Self::BITS,
-        );
+        let (product, overflow) = overflowing::mul(self.to_storage(), rhs.to_storage(), Self::BITS);
         (Self::from_storage(product), overflow)
     }
 
