@@ -99,7 +99,7 @@ fn reverse_u128(x: u128) -> u128
 }
 
 /// The bits from the high end to the low one.
-// In the fewest bits that hold the pattern, and then down.
+// In the fewest bits that hold the pattern, and then down. In 8 it moves up first, so that the compiler drops a mask before it.
 pub fn reverse_bits(pattern: u128, width: usize) -> u128
     requires low { 1 ≤ width }
     requires high { width ≤ 128 }
@@ -107,7 +107,7 @@ pub fn reverse_bits(pattern: u128, width: usize) -> u128
     ensures { result ≡ num (reverse (bits width (pos pattern))) }
 {
     if width <= 8 {
-        ((pattern as u8).reverse_bits() >> (8 - width)) as u128
+        ((pattern as u8) << (8 - width)).reverse_bits() as u128
     } else if width <= 16 {
         ((pattern as u16).reverse_bits() >> (16 - width)) as u128
     } else if width <= 32 {

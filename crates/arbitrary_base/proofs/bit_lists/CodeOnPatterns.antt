@@ -135,6 +135,22 @@ reverse_pattern v w p r b h e =
     ∙ rw (wide_bits w v p b h, reverse-append (bits w (pos p)) (replicate (v - w) false), num-append (reverse (replicate (v - w) false)) (reverse (bits w (pos p))), num-reverse_zeros (v - w), length-reverse (replicate (v - w) false), length-replicate (v - w) false) (omega arith) in
     ap (λ (x : ℕ). x / 2 ^ (v - w)) whole ∙ mul-div_cancel_left (num (reverse (bits w (pos p)))) (pow_pos (v - w))
 
+-- moved up first, it comes out at the low end
+raised_bits : (w v p : ℕ) → w ≤ v → p < 2 ^ w → p * 2 ^ (v - w) < 2 ^ v → bits v (pos (p * 2 ^ (v - w))) ≡ replicate (v - w) false ++ bits w (pos p)
+raised_bits w v p h k f =
+    same_num (bits v (pos (p * 2 ^ (v - w)))) (replicate (v - w) false ++ bits w (pos p))
+    (simp (length-bits, length-append, length-replicate) (omega arith))
+    (num-bits_small v (p * 2 ^ (v - w)) f
+    ∙ sym (num-append (replicate (v - w) false) (bits w (pos p)) ∙ rw (num-bits_small w p k, num-zeros (v - w), length-replicate (v - w) false) (omega arith)))
+
+pub reverse_raised : (v w p r : ℕ) → w ≤ v → p < 2 ^ w → r ≡ reverse_bits_onto v (p * 2 ^ (v - w) % 2 ^ v) 0 → r ≡ num (reverse (bits w (pos p)))
+reverse_raised v w p r b h e =
+    let same : v - (v - w) ≡ w = omega arith in
+    let kept : p * 2 ^ (v - w) % 2 ^ v ≡ p * 2 ^ (v - w) = rw (shl-mod p (v - w) v (omega arith), same, mod-eq_of_lt h) refl in
+    let fits : p * 2 ^ (v - w) < 2 ^ v = subst (λ (x : ℕ). x < 2 ^ v) kept (mod-lt (p * 2 ^ (v - w)) (pow_pos v)) in
+    e ∙ ap (λ (x : ℕ). reverse_bits_onto v x 0) kept ∙ reversed-num v (p * 2 ^ (v - w)) fits
+    ∙ rw (raised_bits w v p b h fits, reverse-append (replicate (v - w) false) (bits w (pos p)), num-append (reverse (bits w (pos p))) (reverse (replicate (v - w) false)), num-reverse_zeros (v - w)) (omega arith)
+
 -- ---- counts
 
 pub ones_pattern : (w p : ℕ) → p < 2 ^ w → count_ones p ≡ count_by (λ b. b) (bits w (pos p))

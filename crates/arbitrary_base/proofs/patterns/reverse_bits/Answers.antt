@@ -1,8 +1,8 @@
-use Rattle.arbitrary_base.proofs.bit_lists.CodeOnPatterns.{reverse_pattern}
+use Rattle.arbitrary_base.proofs.bit_lists.CodeOnPatterns.{reverse_pattern, reverse_raised}
 use Rattle.arbitrary_base.proofs.patterns.reverse_bits.Goals as goal
 
 pub returns-then-width-le8 : goal.returns-then-width-le8
-returns-then-width-le8 c = reverse_pattern 8 _ _ _ c.if-width-le8.true c.requires.fits c.reverse_bits.ensures
+returns-then-width-le8 c = reverse_raised 8 _ _ _ c.if-width-le8.true c.requires.fits c.reverse_bits.ensures
 
 pub returns-then-width-le16 : goal.returns-then-width-le16
 returns-then-width-le16 c = reverse_pattern 16 _ _ _ c.if-width-le16.true c.requires.fits c.reverse_bits-then-width-le16.ensures
