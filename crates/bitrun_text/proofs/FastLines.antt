@@ -14,20 +14,21 @@ use Rattle.std.proofs.lemmas.Nat.{be_bytes_4}
 use Rattle.std.proofs.lemmas.List.{take-append-drop}
 use Rattle.std.proofs.lemmas.Bool.{cases_Bool, cases_lt}
 use Rattle.std.proofs.lemmas.Bool.Decides.{nat_tests}
+use Rattle.arbitrary_int.specs.declared.steps.Step.{Step}
 use Rattle.arbitrary_int.specs.declared.steps.Step.TheVariants as steps
 use Rattle.arbitrary_int.specs.declared.steps.TwoOp.{TwoOp}
 use Rattle.arbitrary_int.specs.declared.steps.OneOp.{OneOp}
 use Rattle.arbitrary_int.specs.declared.steps.ByOp.{ByOp}
-use Rattle.bitrun_text.specs.Text.{ends_word, words_of, Left, left_of}
+use Rattle.bitrun_text.specs.Text.{is_blank, is_solid, ends_word, words_of, Left, left_of}
 use Rattle.bitrun_text.specs.Numeral.{first_number}
-use Rattle.bitrun_text.specs.Operation.{operation_named, step_named}
+use Rattle.bitrun_text.specs.Operation.{operation_named, step_named, step_with}
 use Rattle.bitrun_text.specs.declared.operation.Operation.{Operation}
 use Rattle.bitrun_text.specs.declared.operation.Operation.TheVariants as operations
 use Rattle.bitrun_text.specs.Fast.{is_whole, IsName, BeginsWithName, BeginsWithNumber, NamesStep}
 use Rattle.std.specs.Str.Parse.{digits_value}
 use Rattle.bitrun_text.proofs.Digits.{digit_is, no_digits, is_number}
 use Rattle.bitrun_text.proofs.Families.{no_letter}
-use Rattle.bitrun_text.proofs.Lines.{left-blank, left-word}
+use Rattle.bitrun_text.proofs.Lines.{left-blank, left-blanks, left-word, word_taken}
 use Rattle.bitrun_text.proofs.Operands.{take-take}
 use Rattle.bitrun_text.proofs.StepWords.{one_taken, two_taken, by_taken}
 
@@ -83,15 +84,15 @@ word_left name rest whole some ends =
     let follows : drop (position_or_len ends_word (name ++ rest)) (name ++ rest) ≡ rest = rw size (drop-append_seam name rest) in
     left-word (name ++ rest) (omega (arith, some, ap length word)) ∙ rw (word, follows) refl
 
+named_some : (name : List ℕ) (operation : Operation) → operation_named name ≡ Some operation → 0 < length name
+named_some [] operation e = absurd (let none = no_letter in cc (none, e))
+named_some (x ∷ xs) operation e = omega arith
+
 pub name_left : (text rest : List ℕ) (operation : Operation) (begins : BeginsWithName text operation rest) → Ends rest
     → left_of text ≡ record { words = begins.name ∷ (left_of rest).words; later = (left_of rest).later }
 name_left text rest operation begins ends =
     let some : 0 < length begins.name = named_some begins.name operation begins.is_name.names in
     ap left_of begins.split ∙ word_left begins.name rest begins.is_name.whole some ends
-  where
-    named_some : (name : List ℕ) (operation : Operation) → operation_named name ≡ Some operation → 0 < length name
-    named_some [] operation e = absurd (let none = no_letter in cc (none, e))
-    named_some (x ∷ xs) operation e = omega arith
 
 -- the rest of a text that begins with a space and a number
 pub number_left : (limit : ℕ) (text : List ℕ) (n : ℕ) (rest : List ℕ) → BeginsWithNumber limit text n rest
@@ -109,6 +110,9 @@ number_left limit text n rest begins =
 
 pub space_ends : (text more : List ℕ) → text ≡ 32 ∷ more → Ends text
 space_ends text more e = rw e refl
+
+pub blank_ends : (blank : ℕ) (more : List ℕ) → is_blank blank ≡ true → Ends (blank ∷ more)
+blank_ends blank more e = let end : ends_word blank ≡ true = grind (arith, nat_tests) in rw end refl
 
 pub digit_begins : (limit : ℕ) (text : List ℕ) (n : ℕ) (rest : List ℕ) → text ≡ 32 ∷ (48 + n) ∷ rest → n < 10 → n < limit → Ends rest
     → BeginsWithNumber limit text n rest
@@ -128,6 +132,10 @@ digit_begins limit text n rest e digit below ends =
 pub line_end : (text more : List ℕ) → text ≡ 10 ∷ more → Ends text × ((left_of text).words ≡ [])
 unfolding left_of words_of
 line_end text more e = (rw e refl, rw e refl)
+
+pub cr_line_end : (text more : List ℕ) → text ≡ 13 ∷ 10 ∷ more → Ends text × ((left_of text).words ≡ [])
+unfolding left_of words_of
+cr_line_end text more e = (rw e refl, rw e refl)
 
 -- ---- the step
 
@@ -181,3 +189,32 @@ module _ (count : ℕ) (text after next third : List ℕ) (to src : ℕ)
           at_end = words;
           later = sym taken.1 ∙ later_left (operations.By op) begins;
         }
+
+-- ---- a step that is written in the loose form
+
+-- after the first word, which names the operation, one blank stands, and then operands of the step
+step_left : (count : ℕ) (text word rest : List ℕ) (operation : Operation) (blank : ℕ) (operands : List ℕ) (step : Step) (end : List ℕ)
+    → left_of text ≡ record { words = word ∷ (left_of rest).words; later = (left_of rest).later } → operation_named word ≡ Some operation
+    → rest ≡ blank ∷ operands → is_blank blank ≡ true → step_with count operation (left_of operands).words ≡ Some step
+    → (left_of end).words ≡ [] → (left_of end).later ≡ (left_of operands).later → NamesStep count text step end
+unfolding step_named
+step_left count text word rest operation blank operands step end taken is split blanks named last later =
+    let passed : left_of rest ≡ left_of operands = ap left_of split ∙ left-blank blank operands blanks in
+    record {
+      names = rw (taken, is, passed, named) refl;
+      at_end = last;
+      later = later ∙ sym (ap (λ (l : Left). l.later) taken ∙ ap (λ (l : Left). l.later) passed);
+    }
+
+module _ (count : ℕ) (text solid rest : List ℕ) (skipped : solid ≡ drop (position_or_len is_solid text) text) (operation : Operation) (blank : ℕ) (operands : List ℕ)
+    (step : Step) (end : List ℕ) (split : rest ≡ blank ∷ operands) (blanks : is_blank blank ≡ true) (named : step_with count operation (left_of operands).words ≡ Some step)
+    (last : (left_of end).words ≡ []) (later : (left_of end).later ≡ (left_of operands).later) where
+  pub loose_named : BeginsWithName solid operation rest → NamesStep count text step end
+  loose_named begins =
+      let ends : Ends rest = ap (position_or_len ends_word) split ∙ blank_ends blank operands blanks in
+      let taken = sym (left-blanks text) ∙ ap left_of (sym skipped) ∙ name_left solid rest operation begins ends in
+      step_left count text begins.name rest operation blank operands step end taken begins.is_name.names split blanks named last later
+
+  pub other_named : (word : List ℕ) → word ≡ before_first ends_word solid → rest ≡ drop (position_or_len ends_word solid) solid → operation_named word ≡ Some operation → NamesStep count text step end
+  other_named word first follows is =
+      step_left count text word rest operation blank operands step end (word_taken text solid word rest skipped first follows (named_some word operation is)) is split blanks named last later

@@ -8,9 +8,9 @@ use Rattle.std.proofs.lemmas.Bool.Decides.{nat_tests}
 use Rattle.std.proofs.lemmas.Int.Digits.{digits_value_more}
 use Rattle.std.proofs.lemmas.List.Sums.{prefix_len-le-length, passes_at_first}
 use Rattle.bitrun_text.specs.Text.{is_solid, ends_word, Left, left_of}
-use Rattle.bitrun_text.specs.Numeral.{number_below, first_number, Reads}
+use Rattle.bitrun_text.specs.Numeral.{number_below, first_number, Reads, BeginsWithDigits}
 use Rattle.bitrun_text.proofs.Digits.{digit_is, all_digits, other_byte, no_digits, not_digits, too_large, is_number}
-use Rattle.bitrun_text.proofs.Lines.{word_taken, no_word_taken}
+use Rattle.bitrun_text.proofs.Lines.{left-word, word_taken, no_word_taken}
 
 digit-in_word : (byte : ℕ) → is_ascii_digit byte ≡ true → ends_word byte ≡ false
 digit-in_word byte digit = grind (arith, nat_tests)
@@ -96,6 +96,24 @@ module _ (text : List ℕ) (at number : ℕ) (r : Reads text at number) where
           | inl some ↦ reads-other (omega (arith, position-drop text at reach, none, some))
           | inr empty ↦ no_digits limit word (omega (arith, length-take end text, empty))
         ]
+
+-- ---- digits, and what ends a word after them
+
+module _ (text rest : List ℕ) (n limit : ℕ) (digits : BeginsWithDigits text n rest) (ends : position_or_len ends_word rest ≡ 0) where
+  whole : position_or_len ends_word text ≡ digits.count
+  whole = word-ended text digits.count n digits.reads (ap (position_or_len ends_word) (sym digits.follows) ∙ ends)
+
+  digits_left : left_of text ≡ record { words = before_first ends_word text ∷ (left_of rest).words; later = (left_of rest).later }
+  digits_left =
+      let after : drop (position_or_len ends_word text) text ≡ rest = ap (λ (k : ℕ). drop k text) whole ∙ sym digits.follows in
+      let fits : position_or_len ends_word text ≤ length text = prefix_len-le-length _ text in
+      left-word text (omega (arith, length-take (position_or_len ends_word text) text, fits, whole, digits.some)) ∙ rw after refl
+
+  pub digits-later : (left_of rest).later ≡ (left_of text).later
+  digits-later = sym (ap (λ (left : Left). left.later) digits_left)
+
+  pub digits-taken : n < limit → first_number limit (left_of text).words ≡ Some (n, (left_of rest).words)
+  digits-taken below = rw (digits_left, reads-number text digits.count n digits.reads limit digits.some whole below) refl
 
 -- ---- the first word of a line
 

@@ -1,5 +1,5 @@
 -- The numbers that words write.
-use Rattle.std.specs.Prelude.{◌≡◌, ℕ, ◌≤◌, ◌<◌, ◌^◌, ◌&&◌, List, [], ◌∷◌, length, take, get_or, Bool, true, Option, Some, None, option_map, option_and_then, ℤ, pos, neg_ℤ, unsigned_abs, ◌==◌, nat_lt, if◌then◌else◌, ⊤}
+use Rattle.std.specs.Prelude.{◌≡◌, ℕ, ◌≤◌, ◌<◌, ◌^◌, ◌&&◌, List, [], ◌∷◌, length, take, drop, get_or, Bool, true, Option, Some, None, option_map, option_and_then, ℤ, pos, neg_ℤ, unsigned_abs, ◌==◌, nat_lt, if◌then◌else◌, ⊤}
 use Rattle.std.specs.Bool.{then_some}
 use Rattle.std.specs.Char.{is_ascii_digit}
 use Rattle.std.specs.Str.{all_ascii_digits}
@@ -41,3 +41,10 @@ pub record Reads (text : List ℕ) (at number : ℕ) : Type 0 where
   pub digits : (k : ℕ) → k < at → is_ascii_digit (get_or text k 0) ≡ true
   pub value : number ≡ digits_value 10 (take at text)
   pub within : at ≤ length text
+
+-- the text begins with some digits, which write the number, and the rest follows them
+pub record BeginsWithDigits (text : List ℕ) (number : ℕ) (rest : List ℕ) : Type 0 where
+  pub count : ℕ
+  pub some : 0 < count
+  pub reads : Reads text count number
+  pub follows : rest ≡ drop count text

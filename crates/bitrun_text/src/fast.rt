@@ -60,7 +60,7 @@ pub fn fast_step(text: &[u8], count: usize) -> Option<(Step, &[u8])>
 
 /// The operation of three or four letters with whose name the text begins, and what follows it.
 #[inline(always)]
-fn fast_name(text: &[u8]) -> Option<(Operation, &[u8])>
+pub fn fast_name(text: &[u8]) -> Option<(Operation, &[u8])>
     ensures { IfSome result (λ p. BeginsWithName text.now p.0 p.1.now) }
 {
     let [a, b, c, d, ..] = text else {

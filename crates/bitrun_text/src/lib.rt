@@ -9,6 +9,7 @@ mod fast;
 mod fast_value;
 pub mod fault;
 pub mod kind;
+mod loose;
 mod numeral;
 mod operation;
 pub mod parsing;

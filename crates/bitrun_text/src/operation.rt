@@ -32,7 +32,7 @@ pub fn step_named(word: &[u8], operands: &mut Cursor, count: usize) -> Option<St
 }
 
 /// The operation that a word names. The first letter tells its family.
-fn operation_named(word: &[u8]) -> Option<Operation>
+pub fn operation_named(word: &[u8]) -> Option<Operation>
     ensures { result ≡ operation_named word.now }
 {
     let (family, name) = word.split_first()?;

@@ -99,7 +99,7 @@ impl<'a> Cursor<'a> {
 }
 
 /// What follows the blanks that the text begins with.
-fn without_blanks(text: &[u8]) -> &[u8]
+pub fn without_blanks(text: &[u8]) -> &[u8]
     ensures { result.now ≡ drop (position_or_len is_solid text.now) text.now }
 {
     match word_start(text) {
@@ -112,7 +112,7 @@ fn without_blanks(text: &[u8]) -> &[u8]
 }
 
 /// The word that the text begins with, which may be empty, and what follows it.
-fn split_word(text: &[u8]) -> (&[u8], &[u8])
+pub fn split_word(text: &[u8]) -> (&[u8], &[u8])
     ensures word { result.0.now ≡ before_first ends_word text.now }
     ensures rest { result.1.now ≡ drop (position_or_len ends_word text.now) text.now }
 {
@@ -124,7 +124,7 @@ fn split_word(text: &[u8]) -> (&[u8], &[u8])
 
 /// The number that the word writes with which the text begins, if it is below the limit, and what
 /// follows the word.
-fn split_number(text: &[u8], limit: u64) -> Option<(u64, &[u8])>
+pub fn split_number(text: &[u8], limit: u64) -> Option<(u64, &[u8])>
     ensures number { MatchOption result (number_below limit (before_first ends_word text.now) ≡ None) (λ p. number_below limit (before_first ends_word text.now) ≡ Some p.0) }
     ensures below { IfSome result (λ p. p.0 < limit) }
     ensures rest { IfSome result (λ p. p.1.now ≡ drop (position_or_len ends_word text.now) text.now) }
@@ -154,6 +154,23 @@ pub fn is_word_end(text: &[u8]) -> bool
     }
 }
 
+/// Whether the text goes on with the end of the line: an LF, or blanks before one.
+#[inline(always)]
+pub fn is_line_end(text: &[u8]) -> bool
+    ensures ends { result ≡ true → position_or_len ends_word text.now ≡ 0 }
+    ensures last { result ≡ true → (left_of text.now).words ≡ [] }
+{
+    if begins_with_lf(text) {
+        true
+    } else if begins_with_cr_lf(text) {
+        true
+    } else if is_word_end(text) {
+        is_word_end(without_blanks(text))
+    } else {
+        false
+    }
+}
+
 /// Whether the text begins with an LF.
 pub fn begins_with_lf(text: &[u8]) -> bool
     ensures { result ≡ true → text.now ≡ 10 ∷ drop 1 text.now }
@@ -161,8 +178,15 @@ pub fn begins_with_lf(text: &[u8]) -> bool
     matches!(text, [b'\n', ..])
 }
 
+/// Whether the text begins with a CR and an LF.
+fn begins_with_cr_lf(text: &[u8]) -> bool
+    ensures { result ≡ true → text.now ≡ 13 ∷ 10 ∷ drop 2 text.now }
+{
+    matches!(text, [b'\r', b'\n', ..])
+}
+
 /// What follows the first line.
-fn after_line(text: &[u8]) -> &[u8]
+pub fn after_line(text: &[u8]) -> &[u8]
     ensures { result.now ≡ after_first ends_line text.now }
 {
     if let [b'\n', rest @ ..] = text {
@@ -198,7 +222,7 @@ fn line_end(text: &[u8]) -> Option<usize>
     text.iter().position(|byte| *byte == b'\n')
 }
 
-fn is_blank(byte: u8) -> bool
+pub fn is_blank(byte: u8) -> bool
     ensures { result ≡ is_blank byte }
 {
     matches!(byte, b' ' | b'\t' | b'\r')

@@ -2,8 +2,8 @@ use Rattle.std.proofs.Common.{◌≡◌, refl, Some, sym, ◌-◌, [], ap, appen
 use Rattle.bitrun_text.specs.Text.{Left}
 use Rattle.bitrun_text.specs.Operation.{step_named}
 use Rattle.bitrun_text.proofs.StepLines.{after_blank, after_step, bad-fault, LineRead}
-use Rattle.bitrun_text.proofs.parsing.steps.Goals as goal
-use Rattle.bitrun_text.proofs.parsing.steps.Goals.{in-Some, in-None+in-Some-next_word+in-Some-step_named}
+use Rattle.bitrun_text.proofs.parsing.steps_of_form.Goals as goal
+use Rattle.bitrun_text.proofs.parsing.steps_of_form.Goals.{in-Some, in-None+in-Some-next_word+in-Some-step_named}
 
 pub loop-line-preserved-in_default : goal.loop-line-preserved-in_default
 loop-line-preserved-in_default g c =
@@ -28,10 +28,10 @@ pub loop-line-preserved : goal.loop-line-preserved
 loop-line-preserved g c =
     let count = c.args.count in
     let rest = c.next_line.new.self.later in
-    let after = c.match-fast_step.line.later in
+    let after = c.match-step_of_form.line.later in
     let words = c.next_line.new.self.words in
-    let step = c.match-fast_step.step in
-    let read : LineRead count words rest step after = elim c.match-fast_step.branch [
+    let step = c.match-step_of_form.step in
+    let read : LineRead count words rest step after = elim c.match-step_of_form.branch [
       | in-Some w ↦
           let e = w.in-Some.ensures.step in
           let names : Some w.in-Some.step ≡ step_named count words = e.names ∙ ap (λ (l : Left). step_named count l.words) c.text-in-loop-line.ensures in

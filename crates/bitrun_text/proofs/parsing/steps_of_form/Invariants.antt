@@ -1,6 +1,6 @@
 use Rattle.std.proofs.Common.{length}
 use Rattle.bitrun_text.proofs.StepLines.{ReadSoFar}
-use Rattle.bitrun_text.proofs.parsing.steps.Given as goal
+use Rattle.bitrun_text.proofs.parsing.steps_of_form.Given as goal
 
 abbrev pub invariant-loop-line : goal.invariant-loop-line
 invariant-loop-line g l = ReadSoFar l.count l.fn.lines.later l.steps.items l.number l.line.later
