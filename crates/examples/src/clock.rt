@@ -4,10 +4,10 @@
 //! |--------|---------|--------|
 //! | 7      | stopped | `bool` |
 //! | 4 to 6 | tens    | `u3`   |
-//! | 0 to 3 | units    | `u4`   |
+//! | 0 to 3 | units   | `u4`   |
 #![tactic(auto, using(arbitrary_int::proofs::Sets::fields))]
 
-ghost use Rattle.std.specs.Prelude.{◌≡◌, ◌↔◌, ◌/◌, ◌%◌, ◌+ℤ◌, ◌*ℤ◌, ◌≤ℤ◌, ◌<ℤ◌, pos, IsTrue, IfSome, if◌then◌else◌};
+ghost use Rattle.std.specs.Prelude.{◌≡◌, ◌↔◌, ◌⊎◌, ◌<◌, ◌/◌, ◌%◌, ◌+ℤ◌, ◌*ℤ◌, ◌≤ℤ◌, ◌<ℤ◌, pos, IsTrue, IsNone, IfSome, if◌then◌else◌};
 
 use arbitrary_int::prelude::*;
 
@@ -61,6 +61,7 @@ impl Digits {
     pub fn of_number(number: u7) -> Option<Digits>
         ensures number { IfSome result (λ digits. number ≡ pos 10 *ℤ digits.tens +ℤ digits.units) }
         ensures units { IfSome result (λ digits. digits.units ≤ℤ pos 9) }
+        ensures refused { IsNone result ↔ (pos 99 <ℤ number) }
     {
         if number > u7::new(99) {
             return None;
@@ -83,6 +84,7 @@ impl Digits {
         ensures register { IfSome result (λ digits. pos register ≡ pos 16 *ℤ digits.tens +ℤ digits.units) }
         ensures tens { IfSome result (λ digits. digits.tens ≤ℤ pos 9) }
         ensures units { IfSome result (λ digits. digits.units ≤ℤ pos 9) }
+        ensures refused { IsNone result ↔ ((9 < register / 16) ⊎ (9 < register % 16)) }
     {
         let tens = u4::extract_u8(register, 4);
         let units = u4::extract_u8(register, 0);
@@ -105,6 +107,8 @@ impl Digits {
         ensures units { self.old.units <ℤ pos 9 → self.new.units ≡ self.old.units +ℤ pos 1 }
         ensures tens { self.old.units <ℤ pos 9 → self.new.tens ≡ self.old.tens }
         ensures ten { pos 9 ≤ℤ self.old.units → self.new.units ≡ pos 0 }
+        ensures next { pos 9 ≤ℤ self.old.units → self.old.tens <ℤ pos 5 → self.new.tens ≡ self.old.tens +ℤ pos 1 }
+        ensures start { pos 9 ≤ℤ self.old.units → pos 5 ≤ℤ self.old.tens → self.new.tens ≡ pos 0 }
         ensures round { IsTrue result ↔ ((pos 9 ≤ℤ self.old.units) × (pos 5 ≤ℤ self.old.tens)) }
     {
         if self.units < u4::new(9) {
