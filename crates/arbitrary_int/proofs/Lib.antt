@@ -18,7 +18,7 @@ pub mod OtherBits
 pub mod WrittenMask
 pub mod QuotientAndCube
 pub mod KnownCount
-pub mod Narrowing
+pub mod Truncations
 pub mod CountBounds
 pub mod LowestBit
 pub mod LeadingZeros
