@@ -1,4 +1,4 @@
--- How a quotient stands to its dividend, to other quotients, and to a product that is divided again. It is rounded toward zero.
+-- How a quotient stands to its dividend, its divisor and other quotients, and to a product that is divided again. It is rounded toward zero.
 -- For callers: `#![tactic(auto, using(arbitrary_int::proofs::QuotientOrder::quotient_order))]`.
 use Rattle.std.specs.Prelude.{◌≡◌, ℕ, ℤ, zero, suc, pos, negsuc, int_div, ◌≤◌, ◌<◌, ◌*◌, ◌/◌, ◌≤ℤ◌, ◌<ℤ◌}
 use Rattle.std.proofs.Common.{refl, arith, div-le_self, le_trans, mul-le-mul}
@@ -7,14 +7,15 @@ use Rattle.std.proofs.lemmas.Int.{ints}
 
 -- ---- of numbers from 0 up
 
-pub quotient-beside : (a b : ℕ) → (a / b ≡ a / b) × (a / b ≤ a) × (a < b → a / b ≡ 0)
-quotient-beside a b = (refl, div-le_self a b, λ h. div-eq_of_lt h)
+-- the first part says nothing: it shows the search the quotient
+pub quotient-beside : (a b : ℕ) → (a / b ≡ a / b) × (a / b ≤ a)
+quotient-beside a b = (refl, div-le_self a b)
 
 pub quotient-orders : (a b c : ℕ) → a ≤ b → a / c ≤ b / c
 quotient-orders a b zero h = omega arith
 quotient-orders a b (suc c) h = (le-div_iff_mul-le {k = suc c} {x = a / suc c} {y = b} (omega arith)).1 (le_trans (div-mul-le_self a (suc c)) h)
 
-pub quotient-by_more : (a b c : ℕ) → 0 < b → b ≤ c → a / c ≤ a / b
+quotient-by_more : (a b c : ℕ) → 0 < b → b ≤ c → a / c ≤ a / b
 quotient-by_more a b c g h =
     (le-div_iff_mul-le {k = b} {x = a / c} {y = a} g).1 (le_trans (mul-le-mul (le_refl (a / c)) h) (div-mul-le_self a c))
 
@@ -26,6 +27,7 @@ quotient-of_quotient a b c = div-div-eq-div-mul a b c
 
 -- ---- of numbers with a sign
 
+-- the first part says nothing, as above
 pub signed_quotient-beside : (x y : ℤ) → pos 0 <ℤ y
     → (int_div x y ≡ int_div x y) × (pos 0 ≤ℤ x → (pos 0 ≤ℤ int_div x y) × (int_div x y ≤ℤ x)) × (x ≤ℤ pos 0 → (x ≤ℤ int_div x y) × (int_div x y ≤ℤ pos 0))
 signed_quotient-beside x (negsuc b) h = absurd (omega (arith, ints))
@@ -37,6 +39,11 @@ signed_quotient-beside (negsuc a) (pos b) h =
     let d = div-le_self (suc a) b in
     (refl, λ g. absurd (omega (arith, ints)), λ g. (omega (arith, ints), omega (arith, ints)))
 
+pub signed_quotient-below : (x y : ℤ) → pos 0 ≤ℤ x → x <ℤ y → int_div x y ≡ pos 0
+signed_quotient-below (negsuc a) y h g = absurd (omega (arith, ints))
+signed_quotient-below (pos a) (negsuc b) h g = absurd (omega (arith, ints))
+signed_quotient-below (pos a) (pos b) h g = let e : a / b ≡ 0 = div-eq_of_lt (omega (arith, ints)) in omega (arith, ints)
+
 pub signed_quotient-orders : (x y z : ℤ) → pos 0 <ℤ z → x ≤ℤ y → int_div x z ≤ℤ int_div y z
 signed_quotient-orders x y (negsuc c) h g = absurd (omega (arith, ints))
 signed_quotient-orders (pos a) (pos b) (pos c) h g = let d = quotient-orders a b c (omega (arith, ints)) in omega (arith, ints)
@@ -44,4 +51,10 @@ signed_quotient-orders (pos a) (negsuc b) (pos c) h g = absurd (omega (arith, in
 signed_quotient-orders (negsuc a) (pos b) (pos c) h g = omega (arith, ints)
 signed_quotient-orders (negsuc a) (negsuc b) (pos c) h g = let d = quotient-orders (suc b) (suc a) c (omega (arith, ints)) in omega (arith, ints)
 
-pub ruleset quotient_order = (quotient-beside, quotient-orders, quotient-by_more, quotient-of_product, quotient-of_quotient, signed_quotient-beside, signed_quotient-orders)
+pub signed_quotient-by_more : (x y z : ℤ) → pos 0 ≤ℤ x → pos 0 <ℤ y → y ≤ℤ z → int_div x z ≤ℤ int_div x y
+signed_quotient-by_more (negsuc a) y z h g l = absurd (omega (arith, ints))
+signed_quotient-by_more (pos a) (negsuc b) z h g l = absurd (omega (arith, ints))
+signed_quotient-by_more (pos a) (pos b) (negsuc c) h g l = absurd (omega (arith, ints))
+signed_quotient-by_more (pos a) (pos b) (pos c) h g l = let d = quotient-by_more a b c (omega (arith, ints)) (omega (arith, ints)) in omega (arith, ints)
+
+pub ruleset quotient_order = (quotient-beside, quotient-orders, quotient-of_product, quotient-of_quotient, signed_quotient-beside, signed_quotient-below, signed_quotient-orders, signed_quotient-by_more)

@@ -11,6 +11,13 @@ pub fn ones_of_xor(x: u24, y: u24) -> bool
     (x ^ y).count_ones() <= x.count_ones() + y.count_ones()
 }
 
+pub fn ones_of_left_shift(x: u24, amount: u32) -> bool
+    requires { amount < 24 }
+    ensures { IsTrue result }
+{
+    (x << amount).count_ones() <= x.count_ones()
+}
+
 pub fn ones_of_right_shift(x: u24) -> bool
     ensures { IsTrue result }
 {

@@ -12,6 +12,13 @@ pub fn at_most_the_dividend(x: u24, y: u24) -> u24
     x / y
 }
 
+pub fn less_than_the_divisor(x: u24, y: u24) -> u24
+    requires { x <ℤ y }
+    ensures { result ≡ pos 0 }
+{
+    x / y
+}
+
 pub fn keeps_order(x: u24, y: u24) -> bool
     requires { x ≤ℤ y }
     ensures { IsTrue result }
@@ -24,6 +31,14 @@ pub fn keeps_order_with_a_sign(x: i48, y: i48) -> bool
     ensures { IsTrue result }
 {
     x / i48::new(7) <= y / i48::new(7)
+}
+
+pub fn greater_divisor_gives_less(x: u24, y: u24, z: u24) -> (u24, u24)
+    requires some { pos 0 <ℤ y }
+    requires above { y ≤ℤ z }
+    ensures { result.0 ≤ℤ result.1 }
+{
+    (x / z, x / y)
 }
 
 pub fn of_a_product(x: u12, y: u12) -> u24
