@@ -2,7 +2,7 @@
 //! None has a proof of its own: the file names one set of laws.
 #![tactic(auto, using(arbitrary_int::proofs::Sets::cleared_fields))]
 
-ghost use Rattle.std.specs.Prelude.{◌≡◌, ◌/◌, ◌%◌, ◌*◌, ◌+ℤ◌, ◌*ℤ◌, pos, int_div, unsigned_abs};
+ghost use Rattle.std.specs.Prelude.{◌≡◌, ◌/◌, ◌%◌, ◌*◌, ◌+ℤ◌, ◌*ℤ◌, pos, unsigned_abs};
 
 use arbitrary_int::prelude::*;
 
@@ -12,12 +12,6 @@ pub fn written(register: u24, field: u4) -> u24
     ensures field { unsigned_abs result / 16 % 16 ≡ unsigned_abs field }
 {
     (register & !u24::new(0xF0)) | (u24::from_(field) << 4)
-}
-
-pub fn written_low(register: u12, field: u4) -> u12
-    ensures { result ≡ pos 16 *ℤ int_div register (pos 16) +ℤ field }
-{
-    (register & !u12::new(15)) | u12::from_(field)
 }
 
 pub fn written_high(register: u12, field: u4) -> u12
