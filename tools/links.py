@@ -3,7 +3,7 @@
 
 Tells whether each link on the pages leads somewhere: to a file that is there, and where it names a heading, to a heading of
 that page. A page or a file that is named has to be named by a link, but for what a command in code names, and a folder that
-is named has to be there. Addresses on the web are not asked.
+is named has to be there. No page may have the marks of a merge's conflict. Addresses on the web are not asked.
 """
 import re
 import sys
@@ -58,6 +58,9 @@ def main():
 
         def tell(place, name, why):
             wrong.append(f'{page.relative_to(ROOT)}:{text.count(chr(10), 0, place) + 1}: {name}: {why}')
+
+        for mark in re.finditer(r'^(?:<{7}|>{7})', text, re.M):
+            tell(mark.start(), mark[0], 'a conflict that is not settled')
         for link in LINK.finditer(text):
             target = link.group(2) or link.group(3)
             why = broken(page, target)
