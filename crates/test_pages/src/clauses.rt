@@ -27,3 +27,11 @@ pub fn two_steps(count: u12) -> u12
 {
     count.wrapping_add(u12::new(1)).wrapping_add(u12::new(1))
 }
+
+/// The low 12 bits of a sum.
+#[tactic(auto, using(arbitrary_int::proofs::Conversions::conversions))]
+pub fn low_sum(a: u24, b: u24) -> u12
+    ensures { Congruent 12 result (a +ℤ b) }
+{
+    a.as_::<u12>().wrapping_add(b.as_::<u12>())
+}

@@ -1,5 +1,7 @@
 //! Values behind `&mut`, and in loops.
 
+ghost use Rattle.std.specs.Prelude.{◌≡◌, ◌+ℤ◌, ◌-ℤ◌, ◌≤ℤ◌, pos};
+
 use arbitrary_int::prelude::*;
 
 /// Counts one more, where there is room.
@@ -41,4 +43,12 @@ pub fn steps(count: u32) -> u12 {
         }
     }
     total
+}
+
+/// How many numbers there are from `low` to `high`.
+pub fn numbers_between(low: u7, high: u7) -> usize
+    requires { low ≤ℤ high }
+    ensures { pos result ≡ high -ℤ low +ℤ pos 1 }
+{
+    usize::from((high - low).value()) + 1
 }
