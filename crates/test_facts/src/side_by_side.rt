@@ -83,6 +83,13 @@ pub fn six_of_an_instruction(
         | u32::from_(operation)
 }
 
+pub fn joined_of_its_bytes(x: u24) -> u24
+    ensures { result ≡ x }
+{
+    let bytes = x.to_be_bytes();
+    u24::new((u32::from(bytes[0]) << 16) | (u32::from(bytes[1]) << 8) | u32::from(bytes[2]))
+}
+
 pub fn highest_by_quotient(mode: u4, source: u6, target: u6) -> u16
     ensures { pos (result / 4096) ≡ mode }
 {
