@@ -65,24 +65,6 @@ pub fn five_of_an_instruction(
         | u32::from_(function)
 }
 
-pub fn six_of_an_instruction(
-    wide: u7,
-    other: u5,
-    source: u5,
-    narrow: u3,
-    target: u5,
-    operation: u7,
-) -> u32
-    ensures { pos result ≡ pos 33554432 *ℤ wide +ℤ pos 1048576 *ℤ other +ℤ pos 32768 *ℤ source +ℤ pos 4096 *ℤ narrow +ℤ pos 128 *ℤ target +ℤ operation }
-{
-    (u32::from_(wide) << 25)
-        | (u32::from_(other) << 20)
-        | (u32::from_(source) << 15)
-        | (u32::from_(narrow) << 12)
-        | (u32::from_(target) << 7)
-        | u32::from_(operation)
-}
-
 pub fn joined_of_its_bytes(x: u24) -> u24
     ensures { result ≡ x }
 {
