@@ -16,6 +16,7 @@ use Rattle.arbitrary_base.proofs.operations.Cancellation.{differences-equal, dif
 use Rattle.arbitrary_base.proofs.integers.Powers.{power-one, power-zero}
 use Rattle.arbitrary_base.proofs.operations.PowerAndQuotient.{to_u128_bits-back, power-twice, quotient-self, power-of_one, power-of_zero}
 use Rattle.arbitrary_base.proofs.modular.Residue.{wrap-of_in_range}
+use Rattle.arbitrary_int.proofs.BitTests.{low-of_right_cleared, low-of_right_other_cleared, low-of_right_other_set, masked-of_other_cleared, masked-of_other_set}
 use Rattle.arbitrary_int.proofs.KnownCount.{popcount-of_numeral}
 use Rattle.arbitrary_int.proofs.QuotientAndCube.{negated-is_difference, power-thrice, quotient-times}
 use Rattle.arbitrary_int.proofs.SingleBit.{and-one_bit, left-of_one, low-of_right, low-of_right_set}
@@ -73,8 +74,8 @@ pub ruleset cancellations = (Decides-int_eq, sums-equal, differences-equal, diff
 -- one bit by its place: `1 << k`, set, cleared, and tested by `x & (1 << k)` or by `(x >> k) & 1`
 pub ruleset single_bits = (Decides-int_eq, left-of_one, and-one_bit, low-of_right, or-by_and, and-by_complement, and-of_cleared, and-of_set)
 
--- one bit that is set, and then tested by `(x >> k) & 1`
-pub ruleset bit_tests = (Decides-int_eq, low-of_right_set)
+-- one bit that is set or cleared, and then this one or another tested by `(x >> k) & 1`, another also by `x & (1 << k)`
+pub ruleset bit_tests = (Decides-int_eq, low-of_right_set, low-of_right_cleared, low-of_right_other_set, low-of_right_other_cleared, masked-of_other_set, masked-of_other_cleared)
 
 -- flags that are set and cleared by a mask that is written out, exactly
 pub ruleset flags = (Decides-int_eq, and-digits, and-run, and-within, and-none, and-by_complement, and-by_negative, or-by_mask, xor-by_mask, and-of_cleared, and-of_cleared_by_negative, and-of_set)

@@ -15,6 +15,7 @@ pub mod RangeNumbers
 pub mod EmptyWord
 pub mod SingleBit
 pub mod OtherBits
+pub mod BitTests
 pub mod WrittenMask
 pub mod QuotientAndCube
 pub mod KnownCount

@@ -1,9 +1,9 @@
--- The lowest bit of a number that is one: `x & (x - 1)` clears it, and `x & -x` keeps it alone.
+-- The lowest bit of a number that is one: `x & (x - 1)` clears it, which leaves 0 of a power of two, and `x & -x` keeps it alone.
 -- For callers: `#![tactic(auto, using(arbitrary_int::proofs::LowestBit::lowest_bits))]`.
-use Rattle.std.specs.Prelude.{◌≡◌, ◌≢◌, ℕ, ℤ, zero, suc, Bool, true, false, not, List, [], ◌∷◌, ◌++◌, length, replicate, take, pos, ◌≤◌, ◌<◌, ◌+◌, ◌-◌, ◌-ℤ◌, map}
+use Rattle.std.specs.Prelude.{◌≡◌, ◌≢◌, ◌↔◌, ℕ, ℤ, zero, suc, Bool, true, false, not, List, [], ◌∷◌, ◌++◌, length, replicate, take, pos, ◌≤◌, ◌<◌, ◌+◌, ◌-◌, ◌-ℤ◌, map}
 use Rattle.std.specs.Bool.{beq}
 use Rattle.std.specs.List.{count_by, prefix_len}
-use Rattle.std.proofs.Common.{refl, sym, ap, ◌∙◌, arith}
+use Rattle.std.proofs.Common.{refl, sym, ap, subst, ◌∙◌, arith}
 use Rattle.std.proofs.lemmas.Int.{ints}
 use Rattle.std.proofs.lemmas.Bool.Decides.{Decides-int_eq}
 use Rattle.arbitrary_base.specs.Range.{InRange}
@@ -12,7 +12,8 @@ use Rattle.arbitrary_base.specs.Operation.{bitwise_and, shifted_left, wrapped_di
 use Rattle.arbitrary_base.proofs.bit_lists.UnsignedNumber.{bits-num_of, length-bits}
 use Rattle.arbitrary_base.proofs.bit_lists.TwosComplement.{bits-congruent, bits-wrap}
 use Rattle.arbitrary_base.proofs.modular.Congruence.{Congruent-sub, Congruent-refl}
-use Rattle.arbitrary_base.proofs.operations.BitsAndSums.{natural}
+use Rattle.arbitrary_base.proofs.modular.Residue.{wrap-of_in_range}
+use Rattle.arbitrary_base.proofs.operations.BitsAndSums.{and-in_range, natural}
 use Rattle.arbitrary_base.proofs.bit_lists.Count.{popcount-cons}
 use Rattle.arbitrary_base.proofs.operations.Complement.{not-of_before}
 use Rattle.arbitrary_base.proofs.operations.Definition.{and-is, bits-and, bits-left, bits-not, by-bits, difference-is, left-is}
@@ -72,6 +73,28 @@ popcount-of_lowest_cleared s B x h f d =
     ap (λ (n : ℕ). n + 1) (ap (count_by (λ b. b)) (bits-and s B x (wrapped_difference s B x (pos 1)) ∙ ap (bits_and (bits B x)) (bits-before s B x some)))
     ∙ popcount-before (bits B x) some
 
+-- ---- a power of two: no bit is left once the lowest is cleared
+
+pub none-left : (s : Bool) (B : ℕ) (x : ℤ) → 1 ≤ B → InRange s B x → x ≢ pos 0
+    → (bitwise_and s B x (wrapped_difference s B x (pos 1)) ≡ pos 0) ↔ (count_by (λ b. b) (bits B x) ≡ 1)
+none-left s B x h f d =
+    let c = bitwise_and s B x (wrapped_difference s B x (pos 1)) in
+    let n = popcount-of_lowest_cleared s B x h f d in (
+      (λ e. let z : count_by (λ b. b) (bits B c) ≡ 0 = no_ones-of_zero B c e in omega arith),
+      (λ e. zero-of_no_ones s B c h (and-in_range s B x (wrapped_difference s B x (pos 1)) h) (omega arith)),
+    )
+
+-- the number before it, where the difference doesn't wrap
+pub none-left_by_before : (s : Bool) (B : ℕ) (x y : ℤ) → 1 ≤ B → InRange s B x → InRange s B y → x ≢ pos 0 → y ≡ x -ℤ pos 1
+    → (bitwise_and s B x y ≡ pos 0) ↔ (count_by (λ b. b) (bits B x) ≡ 1)
+none-left_by_before s B x y h f g d e =
+    let r : InRange s B (x -ℤ pos 1) = subst (InRange s B) e g in
+    let w : y ≡ wrapped_difference s B x (pos 1) = e ∙ sym (difference-is s B x (pos 1) ∙ wrap-of_in_range s B (x -ℤ pos 1) h r) in
+    let n = none-left s B x h f d in (
+      (λ z. n.0 (sym (ap (bitwise_and s B x) w) ∙ z)),
+      (λ z. ap (bitwise_and s B x) w ∙ n.1 z),
+    )
+
 -- ---- kept alone
 
 take-zeros : (n m : ℕ) → n ≤ m → take n (replicate m false) ≡ replicate n false
@@ -121,3 +144,6 @@ and-of_negated s B x h f d =
     left-again k g = left-is s B (pos 1) k ∙ ap (val s) (sym (bits-left s B (pos 1) k (omega arith)))
 
 pub ruleset lowest_bits = (Decides-int_eq, popcount-of_lowest_cleared, and-of_negated, negated-is_difference, popcount-of_one_bit, front-of_one_bit, and-below, no_ones-of_zero, zero-of_no_ones)
+
+-- a test of a power of two: `x & (x - 1) == 0`
+pub ruleset powers_of_two = (Decides-int_eq, none-left_by_before, popcount-of_one_bit)

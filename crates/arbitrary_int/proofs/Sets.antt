@@ -12,12 +12,12 @@ use Rattle.arbitrary_int.proofs.Everyday.{or_three}
 use Rattle.arbitrary_int.proofs.OtherBits.{gone-cleared, other_bit-cleared, other_bit-set, other_bit-turned, same_bit-set, same_bit-turned}
 use Rattle.arbitrary_int.proofs.RangeNumbers.{numbers-count, numbers-head}
 use Rattle.arbitrary_int.proofs.ReplacedField.{and_around, or-into_cleared, or_below_mask, or_into_hole}
-use Rattle.arbitrary_int.proofs.SideBySide.{numeral_next, or_four, or_next, or_three_up}
+use Rattle.arbitrary_int.proofs.SideBySide.{numeral_next, or_five, or_four, or_next, or_six, or_three_up}
 use Rattle.arbitrary_int.proofs.StreamBytes.{Borsh-told, bytes-compared, first-of_Borsh, first-of_Borsh_signed, number-of_Borsh, number-of_Borsh_signed}
 use Rattle.arbitrary_int.proofs.TextLength.{length-of_text}
 
--- three and four fields put together by `|`
-pub ruleset fields = (or_three, or_four, or_three_up)
+-- three to six fields put together by `|`
+pub ruleset fields = (or_three, or_four, or_five, or_six, or_three_up)
 
 -- numbers of a primitive put together by `|`, as many as there are, also masked ones and one that is written out
 pub ruleset joined_numbers = (or_next, numeral_next, or_after_shift, or_before_shift, numeral_or, and_numeral)

@@ -1,5 +1,5 @@
--- Fields side by side, put together by `|`: four of them, three with the low one first, and one more below any number of them. A field is a number
--- times a power of two, as a left shift gives it. Everyday.antt has three, std two.
+-- Fields side by side, put together by `|`: four, five and six of them, three with the low one first, and one more below any number of them.
+-- A field is a number times a power of two, as a left shift gives it. Everyday.antt has three, std two.
 use Rattle.std.specs.Prelude.{◌≡◌, ℕ, suc, ◌+◌, ◌*◌, ◌/◌, ◌%◌, ◌^◌, ◌≤◌, ◌<◌}
 use Rattle.std.specs.Int.Bits.{bit_or}
 use Rattle.std.proofs.Common.{refl, sym, ap, ◌∙◌, arith, div-add-mod', lt_of_mul-lt-mul_right, mod-eq_of_lt, mul-le-mul_right, suc-mul}
@@ -39,6 +39,30 @@ or_four t e u x c w y d v b o p q i j f g h k l m =
     let s : (t * (e / c) + x) * c % ((t * (e / c) + x) * c + 1) ≡ (t * (e / c) + x) * c = mod-eq_of_lt (omega arith) in
     ap (λ (a : ℕ). bit_or (bit_or a (y * d % v)) b) (first ∙ z ∙ sym s)
     ∙ or_three (t * (e / c) + x) c ((t * (e / c) + x) * c + 1) y d v b p q j g h (omega arith) m ∙ ap (λ (a : ℕ). a + y * d + b) (sym z)
+
+-- five and six fields: the two highest are one field of four, or of five
+pub or_five : (r a n t e u x c w y d v b : ℕ) → a ≡ 2 ^ low_zeros 128 a → e ≡ 2 ^ low_zeros 128 e → c ≡ 2 ^ low_zeros 128 c → d ≡ 2 ^ low_zeros 128 d
+    → a ≡ a / e * e → e ≡ e / c * c → c ≡ c / d * d → t * e < a → x * c < e → y * d < c → b < d → r * a < n → t * e < u → x * c < w → y * d < v
+    → bit_or (bit_or (bit_or (bit_or (r * a % n) (t * e % u)) (x * c % w)) (y * d % v)) b ≡ r * a + t * e + x * c + y * d + b
+or_five r a n t e u x c w y d v b pa pe pc pd qa qe qc lt lx ly lb sr st sx sy =
+    let first : bit_or (r * a % n) (t * e % u) ≡ r * a + t * e = ap (bit_or (r * a % n)) (mod-eq_of_lt st) ∙ or_after_shift r a n (t * e) pa lt sr in
+    let z : r * a + t * e ≡ (r * (a / e) + t) * e = ap (λ (m : ℕ). r * m + t * e) qa ∙ regroup r (a / e) e t in
+    let s : (r * (a / e) + t) * e % ((r * (a / e) + t) * e + 1) ≡ (r * (a / e) + t) * e = mod-eq_of_lt (omega arith) in
+    ap (λ (m : ℕ). bit_or (bit_or (bit_or m (x * c % w)) (y * d % v)) b) (first ∙ z ∙ sym s)
+    ∙ or_four (r * (a / e) + t) e ((r * (a / e) + t) * e + 1) x c w y d v b pe pc pd qe qc lx ly lb (omega arith) sx sy
+    ∙ ap (λ (m : ℕ). m + x * c + y * d + b) (sym z)
+
+pub or_six : (o f g r a n t e u x c w y d v b : ℕ) → f ≡ 2 ^ low_zeros 128 f → a ≡ 2 ^ low_zeros 128 a → e ≡ 2 ^ low_zeros 128 e → c ≡ 2 ^ low_zeros 128 c
+    → d ≡ 2 ^ low_zeros 128 d → f ≡ f / a * a → a ≡ a / e * e → e ≡ e / c * c → c ≡ c / d * d → r * a < f → t * e < a → x * c < e → y * d < c → b < d
+    → o * f < g → r * a < n → t * e < u → x * c < w → y * d < v
+    → bit_or (bit_or (bit_or (bit_or (bit_or (o * f % g) (r * a % n)) (t * e % u)) (x * c % w)) (y * d % v)) b ≡ o * f + r * a + t * e + x * c + y * d + b
+or_six o f g r a n t e u x c w y d v b pf pa pe pc pd qf qa qe qc lr lt lx ly lb so sr st sx sy =
+    let first : bit_or (o * f % g) (r * a % n) ≡ o * f + r * a = ap (bit_or (o * f % g)) (mod-eq_of_lt sr) ∙ or_after_shift o f g (r * a) pf lr so in
+    let z : o * f + r * a ≡ (o * (f / a) + r) * a = ap (λ (m : ℕ). o * m + r * a) qf ∙ regroup o (f / a) a r in
+    let s : (o * (f / a) + r) * a % ((o * (f / a) + r) * a + 1) ≡ (o * (f / a) + r) * a = mod-eq_of_lt (omega arith) in
+    ap (λ (m : ℕ). bit_or (bit_or (bit_or (bit_or m (t * e % u)) (x * c % w)) (y * d % v)) b) (first ∙ z ∙ sym s)
+    ∙ or_five (o * (f / a) + r) a ((o * (f / a) + r) * a + 1) t e u x c w y d v b pa pe pc pd qa qe qc lt lx ly lb (omega arith) st sx sy
+    ∙ ap (λ (m : ℕ). m + t * e + x * c + y * d + b) (sym z)
 
 above : (m y d b : ℕ) → y * d < m * d → b < d → y * d + b < m * d
 above m y d b h g =

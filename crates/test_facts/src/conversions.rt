@@ -239,3 +239,71 @@ pub fn ends() -> (i12, i12)
 {
     (i12::min_value(), i12::max_value())
 }
+
+pub fn narrowed_after_a_test(x: u32) -> u12
+    ensures { x < 4096 → result ≡ pos x }
+{
+    if x < 4096 {
+        u12::new(x as u16)
+    } else {
+        u12::max_value()
+    }
+}
+
+pub fn narrowed_after_two_tests(x: i32) -> u12
+    ensures { pos 0 ≤ℤ x → x ≤ℤ pos 4095 → result ≡ x }
+{
+    if x >= 0 && x <= 4095 {
+        u12::new(x as u16)
+    } else {
+        u12::zero()
+    }
+}
+
+pub fn clamped_then_new(x: u16) -> u12
+    ensures { result ≤ℤ pos x }
+{
+    u12::new(x.min(4095))
+}
+
+pub fn clamped_on_both_sides(x: i32) -> i12
+    ensures { neg_ℤ (pos 2048) ≤ℤ x → x ≤ℤ pos 2047 → result ≡ x }
+{
+    i12::new(x.max(-2048).min(2047) as i16)
+}
+
+pub fn clamped_by_clamp(x: i16) -> i12
+    ensures { neg_ℤ (pos 2048) ≤ℤ x → x ≤ℤ pos 2047 → result ≡ x }
+{
+    i12::new(x.clamp(-2048, 2047))
+}
+
+pub fn compared_as_wider(a: u12, b: u12) -> bool
+    ensures { IsTrue result }
+{
+    (a.as_u16() > b.as_u16()) == (a > b)
+}
+
+pub fn compared_from_wider(a: i12, b: i12) -> bool
+    ensures { IsTrue result }
+{
+    (i32::from_(a) < i32::from_(b)) == (a < b)
+}
+
+pub fn new_of_its_own_value(x: i48) -> i48
+    ensures { result ≡ x }
+{
+    i48::new(x.as_i64())
+}
+
+pub fn tried_of_its_own_value(x: i12) -> bool
+    ensures { IsTrue result }
+{
+    i12::try_new(x.as_i16()) == Ok(x)
+}
+
+pub fn narrow_in_a_wide_storage(x: UInt<u128, 3>) -> UInt<u8, 8>
+    ensures { result ≡ x }
+{
+    UInt::<u8, 8>::new(x.value() as u8)
+}

@@ -49,6 +49,49 @@ pub fn by_value(mode: u2, channel: u2, level: u4) -> u8
     (mode.value() << 6) | (channel.value() << 4) | level.value()
 }
 
+pub fn five_of_an_instruction(
+    operation: u6,
+    source: u5,
+    other: u5,
+    target: u5,
+    function: u11,
+) -> u32
+    ensures { pos result ≡ pos 67108864 *ℤ operation +ℤ pos 2097152 *ℤ source +ℤ pos 65536 *ℤ other +ℤ pos 2048 *ℤ target +ℤ function }
+{
+    (u32::from_(operation) << 26)
+        | (u32::from_(source) << 21)
+        | (u32::from_(other) << 16)
+        | (u32::from_(target) << 11)
+        | u32::from_(function)
+}
+
+pub fn joined_of_its_bytes(x: u24) -> u24
+    ensures { result ≡ x }
+{
+    let bytes = x.to_be_bytes();
+    u24::new((u32::from(bytes[0]) << 16) | (u32::from(bytes[1]) << 8) | u32::from(bytes[2]))
+}
+
+pub fn highest_by_quotient(mode: u4, source: u6, target: u6) -> u16
+    ensures { pos (result / 4096) ≡ mode }
+{
+    (u16::from_(mode) << 12) | (u16::from_(source) << 6) | u16::from_(target)
+}
+
+pub fn highest_read_back(mode: u4, source: u6, target: u6) -> u4
+    ensures { result ≡ mode }
+{
+    let word = (u16::from_(mode) << 12) | (u16::from_(source) << 6) | u16::from_(target);
+    u4::extract_u16(word, 12)
+}
+
+pub fn lowest_read_back(mode: u4, source: u6, target: u6) -> u6
+    ensures { result ≡ target }
+{
+    let word = (u16::from_(mode) << 12) | (u16::from_(source) << 6) | u16::from_(target);
+    u6::extract_u16(word, 0)
+}
+
 #[tactic(auto, using(arbitrary_int::proofs::Sets::joined_numbers))]
 pub fn under_a_mark(high: u6, low: u8) -> u16
     ensures { pos result ≡ pos 32768 +ℤ pos 256 *ℤ high +ℤ pos low }

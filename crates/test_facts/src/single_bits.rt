@@ -2,7 +2,7 @@
 //! None has a proof of its own: the file names one set of laws.
 #![tactic(auto, using(arbitrary_int::proofs::BitVector::single_bits))]
 
-ghost use Rattle.std.specs.Prelude.{◌≡◌, ◌↔◌, ◌/◌, ◌%◌, ◌^◌, ◌<◌, ◌+ℤ◌, ◌≤ℤ◌, ◌<ℤ◌, pos, unsigned_abs, IsTrue};
+ghost use Rattle.std.specs.Prelude.{◌≡◌, ◌≢◌, ◌↔◌, ◌/◌, ◌%◌, ◌^◌, ◌<◌, ◌+ℤ◌, ◌≤ℤ◌, ◌<ℤ◌, pos, unsigned_abs, IsTrue};
 
 use arbitrary_int::prelude::*;
 
@@ -58,6 +58,50 @@ pub fn set_then_test(x: u24, place: u5) -> bool
 {
     let set = x | (u24::new(1) << place.value());
     (set >> place.value()) & u24::new(1) == u24::new(1)
+}
+
+#[tactic(auto, using(arbitrary_int::proofs::BitVector::bit_tests))]
+pub fn clear_then_test(x: u24, place: u8) -> bool
+    requires { place < 24 }
+    ensures { IsTrue result }
+{
+    let cleared = x & !(u24::new(1) << place);
+    (cleared >> place) & u24::new(1) == u24::new(0)
+}
+
+#[tactic(auto, using(arbitrary_int::proofs::BitVector::bit_tests))]
+pub fn clear_then_test_another(x: u24, place: u8, other: u8) -> bool
+    requires place { place < 24 }
+    requires other { other < 24 }
+    requires apart { place ≢ other }
+    ensures { IsTrue result }
+{
+    let cleared = x & !(u24::new(1) << other);
+    ((cleared >> place) & u24::new(1) == u24::new(1)) == ((x >> place) & u24::new(1) == u24::new(1))
+}
+
+#[tactic(auto, using(arbitrary_int::proofs::BitVector::bit_tests))]
+pub fn set_then_test_another_by_mask(x: u24, place: u8, other: u8) -> bool
+    requires place { place < 24 }
+    requires other { other < 24 }
+    requires apart { place ≢ other }
+    ensures { IsTrue result }
+{
+    let mask = u24::new(1) << place;
+    let set = x | (u24::new(1) << other);
+    (set & mask == u24::new(0)) == (x & mask == u24::new(0))
+}
+
+#[tactic(auto, using(arbitrary_int::proofs::BitVector::bit_tests))]
+pub fn clear_then_test_another_by_mask(x: u24, place: u8, other: u8) -> bool
+    requires place { place < 24 }
+    requires other { other < 24 }
+    requires apart { place ≢ other }
+    ensures { IsTrue result }
+{
+    let mask = u24::new(1) << place;
+    let cleared = x & !(u24::new(1) << other);
+    (cleared & mask == u24::new(0)) == (x & mask == u24::new(0))
 }
 
 #[tactic(auto, using(arbitrary_int::proofs::BitVector::order))]

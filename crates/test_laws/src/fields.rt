@@ -1,7 +1,7 @@
 //! Laws of fields that `|` puts together, of fields written in place, and of one bit and the others.
 #![tactic(auto)]
 
-ghost use Rattle.std.specs.Prelude.{◌≡◌, ◌≢◌, ◌/◌, ◌%◌, ◌^◌, ◌+ℤ◌, ◌*ℤ◌, ◌<ℤ◌, ℕ, pos, int_div, unsigned_abs};
+ghost use Rattle.std.specs.Prelude.{◌≡◌, ◌≢◌, ◌/◌, ◌%◌, ◌^◌, ◌<◌, ◌+ℤ◌, ◌*ℤ◌, ◌<ℤ◌, ℕ, pos, int_div, unsigned_abs, IsTrue};
 
 use arbitrary_int::prelude::*;
 
@@ -32,4 +32,27 @@ pub fn other_bits_stay(map: u24, place: u5) -> u24
     ensures { (k : ℕ) → k ≢ unsigned_abs place → unsigned_abs result / 2 ^ k % 2 ≡ unsigned_abs map / 2 ^ k % 2 }
 {
     map | (u24::new(1) << place.value())
+}
+
+#[tactic(auto, using(arbitrary_int::proofs::BitVector::bit_tests))]
+pub fn another_bit_is_tested_as_before(map: u24, place: u8, other: u8) -> bool
+    requires place { place < 24 }
+    requires other { other < 24 }
+    requires apart { place ≢ other }
+    ensures { IsTrue result }
+{
+    let set = map | (u24::new(1) << other);
+    ((set >> place) & u24::new(1) == u24::new(1)) == ((map >> place) & u24::new(1) == u24::new(1))
+}
+
+#[tactic(auto, using(arbitrary_int::proofs::Sets::fields))]
+pub fn six_fields(a: u7, b: u5, c: u5, d: u3, e: u5, f: u7) -> u32
+    ensures { pos result ≡ pos 33554432 *ℤ a +ℤ pos 1048576 *ℤ b +ℤ pos 32768 *ℤ c +ℤ pos 4096 *ℤ d +ℤ pos 128 *ℤ e +ℤ f }
+{
+    (u32::from_(a) << 25)
+        | (u32::from_(b) << 20)
+        | (u32::from_(c) << 15)
+        | (u32::from_(d) << 12)
+        | (u32::from_(e) << 7)
+        | u32::from_(f)
 }

@@ -230,3 +230,33 @@ pub fn power_counted(a: u12, n: u32) -> bool
 {
     a.saturating_pow_counted(n).0 == a.saturating_pow(n)
 }
+
+pub fn checked_or_greatest_saturates(a: u12, b: u12) -> bool
+    ensures { IsTrue result }
+{
+    a.checked_add(b).unwrap_or(u12::max_value()) == a.saturating_add(b)
+}
+
+pub fn checked_tells_that_the_sum_fits(a: u12, b: u12) -> bool
+    ensures { IsTrue result }
+{
+    a.checked_add(b).is_some() == (a.as_u32() + b.as_u32() < 4096)
+}
+
+pub fn saturated_up_and_down_is_no_more(a: u12, b: u12) -> bool
+    ensures { IsTrue result }
+{
+    a.saturating_add(b).saturating_sub(b) <= a
+}
+
+pub fn saturated_down_and_up_is_no_less(a: u12, b: u12) -> bool
+    ensures { IsTrue result }
+{
+    a.saturating_sub(b).saturating_add(b) >= a
+}
+
+pub fn apart_by_two_saturating_differences(a: u12, b: u12) -> bool
+    ensures { IsTrue result }
+{
+    a.max(b) - a.min(b) == a.saturating_sub(b) + b.saturating_sub(a)
+}

@@ -1,7 +1,7 @@
-//! Laws of the lowest bit that is one: `x & (x - 1)` clears it, and `x & -x` leaves it alone.
+//! Laws of the lowest bit that is one: `x & (x - 1)` clears it, which leaves 0 of a power of two, and `x & -x` leaves it alone.
 #![tactic(auto, using(arbitrary_int::proofs::LowestBit::lowest_bits))]
 
-ghost use Rattle.std.specs.Prelude.{◌≢◌, pos, IsTrue};
+ghost use Rattle.std.specs.Prelude.{◌≢◌, ◌<◌, ◌<ℤ◌, pos, IsTrue};
 
 use arbitrary_int::prelude::*;
 
@@ -22,4 +22,29 @@ pub fn left_alone_is_one_shifted(x: u24) -> bool
     ensures { IsTrue result }
 {
     x & x.wrapping_neg() == u24::new(1) << x.trailing_zeros()
+}
+
+#[tactic(auto, using(arbitrary_int::proofs::LowestBit::powers_of_two))]
+pub fn power_of_two_has_none_left(x: u24) -> bool
+    requires { x ≢ pos 0 }
+    ensures { IsTrue result }
+{
+    (x & (x - u24::new(1)) == u24::zero()) == (x.count_ones() == 1)
+}
+
+#[tactic(auto, using(arbitrary_int::proofs::LowestBit::powers_of_two))]
+pub fn power_of_two_has_none_left_in_a_signed_number(x: i12) -> bool
+    requires { pos 0 <ℤ x }
+    ensures { IsTrue result }
+{
+    (x & (x - i12::new(1)) == i12::zero()) == (x.count_ones() == 1)
+}
+
+#[tactic(auto, using(arbitrary_int::proofs::LowestBit::powers_of_two))]
+pub fn one_shifted_is_a_power_of_two(place: u8) -> bool
+    requires { place < 12 }
+    ensures { IsTrue result }
+{
+    let x = u12::new(1) << place;
+    x == u12::zero() || x & (x - u12::new(1)) == u12::zero()
 }
