@@ -2,6 +2,7 @@
 pub mod ShiftAsProduct
 pub mod Definition
 pub mod Bitwise
+pub mod BitByBit
 pub mod WrappedRing
 pub mod Shift
 pub mod RotateAndReverse

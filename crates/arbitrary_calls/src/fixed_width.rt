@@ -1,6 +1,6 @@
 //! What every integer of fixed width can do, each call written once for both types.
 
-ghost use Rattle.std.specs.Prelude.{length, ◌≡◌, ◌≢◌, ◌↔◌, ◌≤◌, ◌<◌, ◌+◌, ◌-◌, ◌*◌, ◌%◌, ◌^◌, ◌≤ℤ◌, ◌<ℤ◌, ◌+ℤ◌, ◌-ℤ◌, ◌*ℤ◌, ℤ, pos, neg_ℤ, unsigned_abs, IsTrue, IsNone, IfSome, false, true, int_div, reverse, SomeIff, option_map};
+ghost use Rattle.std.specs.Prelude.{length, not, Bool, ◌&&◌, ◌||◌, ◌⊎◌, ◌≡◌, ◌≢◌, ◌↔◌, ◌≤◌, ◌<◌, ◌+◌, ◌-◌, ◌*◌, ◌%◌, ◌^◌, ◌≤ℤ◌, ◌<ℤ◌, ◌+ℤ◌, ◌-ℤ◌, ◌*ℤ◌, ℤ, pos, neg_ℤ, unsigned_abs, IsTrue, IsNone, IfSome, false, true, int_div, reverse, SomeIff, option_map};
 ghost use Rattle.std.specs.Bool.{beq};
 ghost use Rattle.std.specs.Int.{int_pow};
 ghost use Rattle.std.specs.Int.Digits.{digits_of};
@@ -10,7 +10,7 @@ ghost use Rattle.arbitrary_base.specs.Residue.{Congruent, wrap};
 ghost use Rattle.arbitrary_base.specs.Saturation.{clamp};
 ghost use Rattle.arbitrary_base.specs.Operation.{bitwise_and, bitwise_not, bitwise_or, bitwise_xor, reversed, rotated_left, rotated_right, shifted_left, shifted_right, wrapped_difference, wrapped_product, wrapped_sum};
 ghost use Rattle.arbitrary_base.specs.BitList.{bits, val, fill, rotr, shl, shr};
-ghost use Rattle.arbitrary_base.proofs.operations.Bitwise.{and-distributes_or, bitwise_and-associates, bitwise_and-commutes, bitwise_or-associates, bitwise_or-commutes, bitwise_xor-associates, bitwise_xor-commutes, not-and_parts, not-or_parts, or-distributes_and};
+ghost use Rattle.arbitrary_base.proofs.operations.BitByBit.{Place};
 
 use crate::low_bits::LowBits;
 use arbitrary_base::storage::Storage;
@@ -60,41 +60,67 @@ pub trait FixedWidth: Integer + LowBits {
     ghost complement_law: { (a r : Self) → Self.not_gives a r
         → Self.number r ≡ bitwise_not Self.IS_SIGNED Self.BITS (Self.number a) };
 
-    // For proofs in generic code: there the check takes the laws of the bound, or the set that a file names, never both. With a law that
-    // names a variable twice, or with two dozen, its search ends before a proof.
-    ghost and_commutes: { (x y : ℤ) → bitwise_and Self.IS_SIGNED Self.BITS x y
-        ≡ bitwise_and Self.IS_SIGNED Self.BITS y x } = { bitwise_and-commutes _ _ };
+    // For proofs in generic code, where the check knows of an operator what these laws say, and takes no set beside them. Values are compared
+    // bit by bit: two that are no other than their own bits are equal, or differ in a bit. A law that names a value twice says what keeps it
+    // from being a number out of range, since in a law each number is a value.
+    ghost bit: { (a : Self) → Place Self.BITS → Bool };
 
-    ghost or_commutes: { (x y : ℤ) → bitwise_or Self.IS_SIGNED Self.BITS x y
-        ≡ bitwise_or Self.IS_SIGNED Self.BITS y x } = { bitwise_or-commutes _ _ };
+    ghost value_of: { (x : ℤ) → Self };
 
-    ghost xor_commutes: { (x y : ℤ) → bitwise_xor Self.IS_SIGNED Self.BITS x y
-        ≡ bitwise_xor Self.IS_SIGNED Self.BITS y x } = { bitwise_xor-commutes _ _ };
+    ghost value_law: { (a : Self) → (Self.number a ≡ Self.number a) × (value_of (Self.number a) ≡ a) };
 
-    ghost and_associates: { (x y z : ℤ) → bitwise_and Self.IS_SIGNED Self.BITS (bitwise_and Self.IS_SIGNED Self.BITS x y) z
-        ≡ bitwise_and Self.IS_SIGNED Self.BITS x (bitwise_and Self.IS_SIGNED Self.BITS y z) } = { bitwise_and-associates _ _ };
+    ghost equal_law: { (a b : Self) → (Self.eq a b ≡ Self.eq a b) × (Self.eq a b ≡ true → a ≡ b) };
 
-    ghost or_associates: { (x y z : ℤ) → bitwise_or Self.IS_SIGNED Self.BITS (bitwise_or Self.IS_SIGNED Self.BITS x y) z
-        ≡ bitwise_or Self.IS_SIGNED Self.BITS x (bitwise_or Self.IS_SIGNED Self.BITS y z) } = { bitwise_or-associates _ _ };
+    ghost fits: { (a : Self) → Bool };
 
-    ghost xor_associates: { (x y z : ℤ) → bitwise_xor Self.IS_SIGNED Self.BITS (bitwise_xor Self.IS_SIGNED Self.BITS x y) z
-        ≡ bitwise_xor Self.IS_SIGNED Self.BITS x (bitwise_xor Self.IS_SIGNED Self.BITS y z) } = { bitwise_xor-associates _ _ };
+    ghost zero_fits: { Self.valid → fits (value_of (pos 0)) ≡ true };
 
-    ghost and_distributes: { (x y z : ℤ) → bitwise_and Self.IS_SIGNED Self.BITS x (bitwise_or Self.IS_SIGNED Self.BITS y z)
-        ≡ bitwise_or Self.IS_SIGNED Self.BITS (bitwise_and Self.IS_SIGNED Self.BITS x y)
-        (bitwise_and Self.IS_SIGNED Self.BITS x z) } = { and-distributes_or _ _ };
+    ghost zero_bit: { (i : Place Self.BITS) → bit (value_of (pos 0)) i ≡ false };
 
-    ghost or_distributes: { (x y z : ℤ) → bitwise_or Self.IS_SIGNED Self.BITS x (bitwise_and Self.IS_SIGNED Self.BITS y z)
-        ≡ bitwise_and Self.IS_SIGNED Self.BITS (bitwise_or Self.IS_SIGNED Self.BITS x y)
-        (bitwise_or Self.IS_SIGNED Self.BITS x z) } = { or-distributes_and _ _ };
+    ghost differ_law: { (a b : Self) → fits a ≡ true → fits b ≡ true
+        → (Self.eq a b ≡ true) ⊎ ((i : Place Self.BITS) × (bit a i ≡ not (bit b i))) };
 
-    ghost not_of_and: { (x y : ℤ) → bitwise_not Self.IS_SIGNED Self.BITS (bitwise_and Self.IS_SIGNED Self.BITS x y)
-        ≡ bitwise_or Self.IS_SIGNED Self.BITS (bitwise_not Self.IS_SIGNED Self.BITS x)
-        (bitwise_not Self.IS_SIGNED Self.BITS y) } = { not-and_parts _ _ };
+    ghost and_of: { (a b : Self) → Self };
 
-    ghost not_of_or: { (x y : ℤ) → bitwise_not Self.IS_SIGNED Self.BITS (bitwise_or Self.IS_SIGNED Self.BITS x y)
-        ≡ bitwise_and Self.IS_SIGNED Self.BITS (bitwise_not Self.IS_SIGNED Self.BITS x)
-        (bitwise_not Self.IS_SIGNED Self.BITS y) } = { not-or_parts _ _ };
+    ghost and_gives: { (a b r : Self) → Self.bitand_gives a b r
+        → (r ≡ and_of a b) × (fits a ≡ true) × (fits b ≡ true) };
+
+    ghost and_fits: { (a b : Self) → fits (and_of a b) ≡ true };
+
+    ghost and_bit: { (a b : Self) (i : Place Self.BITS) → bit (and_of a b) i ≡ (bit a i && bit b i) };
+
+    ghost or_of: { (a b : Self) → Self };
+
+    ghost or_gives: { (a b r : Self) → Self.bitor_gives a b r
+        → (r ≡ or_of a b) × (fits a ≡ true) × (fits b ≡ true) };
+
+    ghost or_fits: { (a b : Self) → fits (or_of a b) ≡ true };
+
+    ghost or_bit: { (a b : Self) (i : Place Self.BITS) → bit (or_of a b) i ≡ (bit a i || bit b i) };
+
+    ghost xor_of: { (a b : Self) → Self };
+
+    ghost xor_gives: { (a b r : Self) → Self.bitxor_gives a b r
+        → (r ≡ xor_of a b) × (fits a ≡ true) × (fits b ≡ true) };
+
+    ghost xor_fits: { (a b : Self) → fits (xor_of a b) ≡ true };
+
+    ghost xor_bit: { (a b : Self) (i : Place Self.BITS) → bit (xor_of a b) i ≡ (not (beq (bit a i) (bit b i))) };
+
+    ghost not_of: { (a : Self) → Self };
+
+    ghost complement_gives: { (a r : Self) → Self.not_gives a r → (r ≡ not_of a) × (fits a ≡ true) };
+
+    ghost not_fits: { (a : Self) → fits (not_of a) ≡ true };
+
+    ghost not_bit: { (a : Self) (i : Place Self.BITS) → bit (not_of a) i ≡ not (bit a i) };
+
+    // Where a clause says of numbers that a result is an operand.
+    ghost and_itself: { (a : Self) → fits a ≡ true → and_of a a ≡ a };
+
+    ghost not_twice: { (a : Self) → fits a ≡ true → not_of (not_of a) ≡ a };
+
+    ghost xor_twice: { (a b : Self) → fits a ≡ true → xor_of (xor_of a b) b ≡ a };
 
     /// The sum, wrapped.
     final fn wrapping_add(self, rhs: Self) -> Self

@@ -48,6 +48,24 @@ pub fn rotated_back<V: FixedWidth>(a: V, amount: u32) -> V
     a.rotate_left(amount).rotate_right(amount)
 }
 
+pub fn masked_by_itself<V: FixedWidth>(a: V) -> V
+    ensures { V.number result ≡ V.number a }
+{
+    a & a
+}
+
+pub fn flipped_back<V: FixedWidth>(a: V, mask: V) -> V
+    ensures { V.number result ≡ V.number a }
+{
+    (a ^ mask) ^ mask
+}
+
+pub fn complemented_twice<V: FixedWidth>(a: V) -> V
+    ensures { V.number result ≡ V.number a }
+{
+    !!a
+}
+
 pub fn smaller<V: FixedWidth>(a: V, b: V) -> bool
     ensures { IsTrue result ↔ (V.number a <ℤ V.number b) }
 {

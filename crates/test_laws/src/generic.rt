@@ -1,4 +1,4 @@
-//! Laws of `& | ^ !` in code that is generic in the type. They need no set: the bound has these laws.
+//! Laws of `& | ^ !` in code that is generic in the type. They need no set: by the laws of the bound values are compared bit by bit.
 #![tactic(auto)]
 
 ghost use Rattle.std.specs.Prelude.{IsTrue};
@@ -63,4 +63,109 @@ pub fn not_of_or<V: FixedWidth>(x: V, y: V) -> bool
     ensures { IsTrue result }
 {
     !(x | y) == !x & !y
+}
+
+pub fn and_same<V: FixedWidth>(x: V) -> bool
+    ensures { IsTrue result }
+{
+    x & x == x
+}
+
+pub fn or_same<V: FixedWidth>(x: V) -> bool
+    ensures { IsTrue result }
+{
+    x | x == x
+}
+
+pub fn xor_same<V: FixedWidth>(x: V) -> bool
+    requires { V.valid }
+    ensures { IsTrue result }
+{
+    x ^ x == V::zero()
+}
+
+pub fn and_zero<V: FixedWidth>(x: V) -> bool
+    requires { V.valid }
+    ensures { IsTrue result }
+{
+    x & V::zero() == V::zero()
+}
+
+pub fn or_zero<V: FixedWidth>(x: V) -> bool
+    requires { V.valid }
+    ensures { IsTrue result }
+{
+    x | V::zero() == x
+}
+
+pub fn xor_zero<V: FixedWidth>(x: V) -> bool
+    requires { V.valid }
+    ensures { IsTrue result }
+{
+    x ^ V::zero() == x
+}
+
+pub fn and_ones<V: FixedWidth>(x: V) -> bool
+    requires { V.valid }
+    ensures { IsTrue result }
+{
+    x & !V::zero() == x
+}
+
+pub fn or_ones<V: FixedWidth>(x: V) -> bool
+    requires { V.valid }
+    ensures { IsTrue result }
+{
+    x | !V::zero() == !V::zero()
+}
+
+pub fn xor_ones<V: FixedWidth>(x: V) -> bool
+    requires { V.valid }
+    ensures { IsTrue result }
+{
+    x ^ !V::zero() == !x
+}
+
+pub fn and_complement<V: FixedWidth>(x: V) -> bool
+    requires { V.valid }
+    ensures { IsTrue result }
+{
+    x & !x == V::zero()
+}
+
+pub fn or_complement<V: FixedWidth>(x: V) -> bool
+    requires { V.valid }
+    ensures { IsTrue result }
+{
+    x | !x == !V::zero()
+}
+
+pub fn not_twice<V: FixedWidth>(x: V) -> bool
+    ensures { IsTrue result }
+{
+    !!x == x
+}
+
+pub fn xor_undoes<V: FixedWidth>(x: V, y: V) -> bool
+    ensures { IsTrue result }
+{
+    (x ^ y) ^ y == x
+}
+
+pub fn and_absorbs<V: FixedWidth>(x: V, y: V) -> bool
+    ensures { IsTrue result }
+{
+    x & (x | y) == x
+}
+
+pub fn or_absorbs<V: FixedWidth>(x: V, y: V) -> bool
+    ensures { IsTrue result }
+{
+    x | (x & y) == x
+}
+
+pub fn xor_parts<V: FixedWidth>(x: V, y: V) -> bool
+    ensures { IsTrue result }
+{
+    x ^ y == (x | y) & !(x & y)
 }

@@ -17,11 +17,14 @@ where
 {
     type Output = Int<T, BITS>;
 
-    ghost bitand_gives = { λ a b r. r ≡ val T.SIGNED (bits_and (bits BITS a) (bits BITS b)) };
+    ghost bitand_gives = { λ a b r. (r ≡ val T.SIGNED (bits_and (bits BITS a) (bits BITS b)))
+        × (val T.SIGNED (bits BITS a) ≡ a) × (val T.SIGNED (bits BITS b) ≡ b) };
 
     fn bitand(self, rhs: Int<T, BITS>) -> Int<T, BITS>
         ensures operation { result ≡ bitwise_and T.SIGNED BITS self rhs }
         ensures bits { result ≡ val T.SIGNED (bits_and (bits BITS self) (bits BITS rhs)) }
+        ensures operands { (val T.SIGNED (bits BITS self) ≡ self)
+            × (val T.SIGNED (bits BITS rhs) ≡ rhs) }
         ensures plain { (m n : ℕ) → self ≡ pos m → rhs ≡ pos n → result ≡ pos (bit_and m n) }
         ensures left { (k : ℕ) → self ≡ pos k → (n : ℕ) × ((result ≡ pos n) × (n ≤ k)) }
         ensures right { (k : ℕ) → rhs ≡ pos k → (n : ℕ) × ((result ≡ pos n) × (n ≤ k)) }
@@ -35,11 +38,14 @@ impl<T: BuiltinInteger + SignedStorage, const BITS: usize> BitAndAssign<Int<T, B
 where
     T::Unsigned: UnsignedOf<T>,
 {
-    ghost bitand_assign_gives = { λ a b r. r ≡ val T.SIGNED (bits_and (bits BITS a) (bits BITS b)) };
+    ghost bitand_assign_gives = { λ a b r. (r ≡ val T.SIGNED (bits_and (bits BITS a) (bits BITS b)))
+        × (val T.SIGNED (bits BITS a) ≡ a) × (val T.SIGNED (bits BITS b) ≡ b) };
 
     fn bitand_assign(&mut self, rhs: Int<T, BITS>)
         ensures operation { self.new ≡ bitwise_and T.SIGNED BITS self.old rhs }
         ensures bits { self.new ≡ val T.SIGNED (bits_and (bits BITS self.old) (bits BITS rhs)) }
+        ensures operands { (val T.SIGNED (bits BITS self.old) ≡ self.old)
+            × (val T.SIGNED (bits BITS rhs) ≡ rhs) }
         ensures plain { (m n : ℕ) → self.old ≡ pos m → rhs ≡ pos n → self.new ≡ pos (bit_and m n) }
         ensures left { (k : ℕ) → self.old ≡ pos k → (n : ℕ) × ((self.new ≡ pos n) × (n ≤ k)) }
         ensures right { (k : ℕ) → rhs ≡ pos k → (n : ℕ) × ((self.new ≡ pos n) × (n ≤ k)) }
@@ -54,11 +60,14 @@ where
 {
     type Output = Int<T, BITS>;
 
-    ghost bitor_gives = { λ a b r. r ≡ val T.SIGNED (bits_or (bits BITS a) (bits BITS b)) };
+    ghost bitor_gives = { λ a b r. (r ≡ val T.SIGNED (bits_or (bits BITS a) (bits BITS b)))
+        × (val T.SIGNED (bits BITS a) ≡ a) × (val T.SIGNED (bits BITS b) ≡ b) };
 
     fn bitor(self, rhs: Int<T, BITS>) -> Int<T, BITS>
         ensures operation { result ≡ bitwise_or T.SIGNED BITS self rhs }
         ensures bits { result ≡ val T.SIGNED (bits_or (bits BITS self) (bits BITS rhs)) }
+        ensures operands { (val T.SIGNED (bits BITS self) ≡ self)
+            × (val T.SIGNED (bits BITS rhs) ≡ rhs) }
         ensures plain { (m n : ℕ) → self ≡ pos m → rhs ≡ pos n → result ≡ pos (bit_or m n) }
     {
         Int::<T, BITS>::from_bits(bitwise::or(self.to_bits(), rhs.to_bits(), BITS))
@@ -70,11 +79,14 @@ impl<T: BuiltinInteger + SignedStorage, const BITS: usize> BitOrAssign<Int<T, BI
 where
     T::Unsigned: UnsignedOf<T>,
 {
-    ghost bitor_assign_gives = { λ a b r. r ≡ val T.SIGNED (bits_or (bits BITS a) (bits BITS b)) };
+    ghost bitor_assign_gives = { λ a b r. (r ≡ val T.SIGNED (bits_or (bits BITS a) (bits BITS b)))
+        × (val T.SIGNED (bits BITS a) ≡ a) × (val T.SIGNED (bits BITS b) ≡ b) };
 
     fn bitor_assign(&mut self, rhs: Int<T, BITS>)
         ensures operation { self.new ≡ bitwise_or T.SIGNED BITS self.old rhs }
         ensures bits { self.new ≡ val T.SIGNED (bits_or (bits BITS self.old) (bits BITS rhs)) }
+        ensures operands { (val T.SIGNED (bits BITS self.old) ≡ self.old)
+            × (val T.SIGNED (bits BITS rhs) ≡ rhs) }
         ensures plain { (m n : ℕ) → self.old ≡ pos m → rhs ≡ pos n → self.new ≡ pos (bit_or m n) }
     {
         *self = *self | rhs;
@@ -87,11 +99,14 @@ where
 {
     type Output = Int<T, BITS>;
 
-    ghost bitxor_gives = { λ a b r. r ≡ val T.SIGNED (bits_xor (bits BITS a) (bits BITS b)) };
+    ghost bitxor_gives = { λ a b r. (r ≡ val T.SIGNED (bits_xor (bits BITS a) (bits BITS b)))
+        × (val T.SIGNED (bits BITS a) ≡ a) × (val T.SIGNED (bits BITS b) ≡ b) };
 
     fn bitxor(self, rhs: Int<T, BITS>) -> Int<T, BITS>
         ensures operation { result ≡ bitwise_xor T.SIGNED BITS self rhs }
         ensures bits { result ≡ val T.SIGNED (bits_xor (bits BITS self) (bits BITS rhs)) }
+        ensures operands { (val T.SIGNED (bits BITS self) ≡ self)
+            × (val T.SIGNED (bits BITS rhs) ≡ rhs) }
         ensures plain { (m n : ℕ) → self ≡ pos m → rhs ≡ pos n → result ≡ pos (bit_xor m n) }
         ensures same { self ≡ rhs → result ≡ pos 0 }
         ensures undo { (y : ℤ) → InRange T.SIGNED BITS y → self ≡ bitwise_xor T.SIGNED BITS y rhs → result ≡ y }
@@ -105,11 +120,14 @@ impl<T: BuiltinInteger + SignedStorage, const BITS: usize> BitXorAssign<Int<T, B
 where
     T::Unsigned: UnsignedOf<T>,
 {
-    ghost bitxor_assign_gives = { λ a b r. r ≡ val T.SIGNED (bits_xor (bits BITS a) (bits BITS b)) };
+    ghost bitxor_assign_gives = { λ a b r. (r ≡ val T.SIGNED (bits_xor (bits BITS a) (bits BITS b)))
+        × (val T.SIGNED (bits BITS a) ≡ a) × (val T.SIGNED (bits BITS b) ≡ b) };
 
     fn bitxor_assign(&mut self, rhs: Int<T, BITS>)
         ensures operation { self.new ≡ bitwise_xor T.SIGNED BITS self.old rhs }
         ensures bits { self.new ≡ val T.SIGNED (bits_xor (bits BITS self.old) (bits BITS rhs)) }
+        ensures operands { (val T.SIGNED (bits BITS self.old) ≡ self.old)
+            × (val T.SIGNED (bits BITS rhs) ≡ rhs) }
         ensures undo { (y : ℤ) → InRange T.SIGNED BITS y → self.old ≡ bitwise_xor T.SIGNED BITS y rhs → self.new ≡ y }
     {
         *self = *self ^ rhs;
@@ -122,11 +140,12 @@ where
 {
     type Output = Int<T, BITS>;
 
-    ghost not_gives = { λ a r. r ≡ val T.SIGNED (map not (bits BITS a)) };
+    ghost not_gives = { λ a r. (r ≡ val T.SIGNED (map not (bits BITS a))) × (val T.SIGNED (bits BITS a) ≡ a) };
 
     fn not(self) -> Int<T, BITS>
         ensures operation { result ≡ bitwise_not T.SIGNED BITS self }
         ensures bits { result ≡ val T.SIGNED (map not (bits BITS self)) }
+        ensures operand { val T.SIGNED (bits BITS self) ≡ self }
         ensures number { result ≡ neg_ℤ self -ℤ pos 1 }
     {
         Int::<T, BITS>::from_bits(bitwise::not(self.to_bits(), BITS))

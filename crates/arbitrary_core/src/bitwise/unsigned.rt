@@ -14,11 +14,14 @@ use std::ops::{BitAnd, BitAndAssign, BitOr, BitOrAssign, BitXor, BitXorAssign, N
 impl<T: UnsignedStorage, const BITS: usize> BitAnd<UInt<T, BITS>> for UInt<T, BITS> {
     type Output = UInt<T, BITS>;
 
-    ghost bitand_gives = { λ a b r. r ≡ val T.SIGNED (bits_and (bits BITS a) (bits BITS b)) };
+    ghost bitand_gives = { λ a b r. (r ≡ val T.SIGNED (bits_and (bits BITS a) (bits BITS b)))
+        × (val T.SIGNED (bits BITS a) ≡ a) × (val T.SIGNED (bits BITS b) ≡ b) };
 
     fn bitand(self, rhs: UInt<T, BITS>) -> UInt<T, BITS>
         ensures operation { result ≡ bitwise_and T.SIGNED BITS self rhs }
         ensures bits { result ≡ val T.SIGNED (bits_and (bits BITS self) (bits BITS rhs)) }
+        ensures operands { (val T.SIGNED (bits BITS self) ≡ self)
+            × (val T.SIGNED (bits BITS rhs) ≡ rhs) }
         ensures plain { result ≡ pos (bit_and (unsigned_abs self) (unsigned_abs rhs)) }
         ensures left { result ≤ℤ self }
         ensures right { result ≤ℤ rhs }
@@ -28,11 +31,14 @@ impl<T: UnsignedStorage, const BITS: usize> BitAnd<UInt<T, BITS>> for UInt<T, BI
 }
 
 impl<T: UnsignedStorage, const BITS: usize> BitAndAssign<UInt<T, BITS>> for UInt<T, BITS> {
-    ghost bitand_assign_gives = { λ a b r. r ≡ val T.SIGNED (bits_and (bits BITS a) (bits BITS b)) };
+    ghost bitand_assign_gives = { λ a b r. (r ≡ val T.SIGNED (bits_and (bits BITS a) (bits BITS b)))
+        × (val T.SIGNED (bits BITS a) ≡ a) × (val T.SIGNED (bits BITS b) ≡ b) };
 
     fn bitand_assign(&mut self, rhs: UInt<T, BITS>)
         ensures operation { self.new ≡ bitwise_and T.SIGNED BITS self.old rhs }
         ensures bits { self.new ≡ val T.SIGNED (bits_and (bits BITS self.old) (bits BITS rhs)) }
+        ensures operands { (val T.SIGNED (bits BITS self.old) ≡ self.old)
+            × (val T.SIGNED (bits BITS rhs) ≡ rhs) }
         ensures plain { self.new ≡ pos (bit_and (unsigned_abs self.old) (unsigned_abs rhs)) }
         ensures left { self.new ≤ℤ self.old }
         ensures right { self.new ≤ℤ rhs }
@@ -44,11 +50,14 @@ impl<T: UnsignedStorage, const BITS: usize> BitAndAssign<UInt<T, BITS>> for UInt
 impl<T: UnsignedStorage, const BITS: usize> BitOr<UInt<T, BITS>> for UInt<T, BITS> {
     type Output = UInt<T, BITS>;
 
-    ghost bitor_gives = { λ a b r. r ≡ val T.SIGNED (bits_or (bits BITS a) (bits BITS b)) };
+    ghost bitor_gives = { λ a b r. (r ≡ val T.SIGNED (bits_or (bits BITS a) (bits BITS b)))
+        × (val T.SIGNED (bits BITS a) ≡ a) × (val T.SIGNED (bits BITS b) ≡ b) };
 
     fn bitor(self, rhs: UInt<T, BITS>) -> UInt<T, BITS>
         ensures operation { result ≡ bitwise_or T.SIGNED BITS self rhs }
         ensures bits { result ≡ val T.SIGNED (bits_or (bits BITS self) (bits BITS rhs)) }
+        ensures operands { (val T.SIGNED (bits BITS self) ≡ self)
+            × (val T.SIGNED (bits BITS rhs) ≡ rhs) }
         ensures plain { result ≡ pos (bit_or (unsigned_abs self) (unsigned_abs rhs)) }
     {
         UInt::new(bitwise::or(self.value(), rhs.value(), BITS))
@@ -56,11 +65,14 @@ impl<T: UnsignedStorage, const BITS: usize> BitOr<UInt<T, BITS>> for UInt<T, BIT
 }
 
 impl<T: UnsignedStorage, const BITS: usize> BitOrAssign<UInt<T, BITS>> for UInt<T, BITS> {
-    ghost bitor_assign_gives = { λ a b r. r ≡ val T.SIGNED (bits_or (bits BITS a) (bits BITS b)) };
+    ghost bitor_assign_gives = { λ a b r. (r ≡ val T.SIGNED (bits_or (bits BITS a) (bits BITS b)))
+        × (val T.SIGNED (bits BITS a) ≡ a) × (val T.SIGNED (bits BITS b) ≡ b) };
 
     fn bitor_assign(&mut self, rhs: UInt<T, BITS>)
         ensures operation { self.new ≡ bitwise_or T.SIGNED BITS self.old rhs }
         ensures bits { self.new ≡ val T.SIGNED (bits_or (bits BITS self.old) (bits BITS rhs)) }
+        ensures operands { (val T.SIGNED (bits BITS self.old) ≡ self.old)
+            × (val T.SIGNED (bits BITS rhs) ≡ rhs) }
         ensures plain { self.new ≡ pos (bit_or (unsigned_abs self.old) (unsigned_abs rhs)) }
     {
         *self = *self | rhs;
@@ -70,11 +82,14 @@ impl<T: UnsignedStorage, const BITS: usize> BitOrAssign<UInt<T, BITS>> for UInt<
 impl<T: UnsignedStorage, const BITS: usize> BitXor<UInt<T, BITS>> for UInt<T, BITS> {
     type Output = UInt<T, BITS>;
 
-    ghost bitxor_gives = { λ a b r. r ≡ val T.SIGNED (bits_xor (bits BITS a) (bits BITS b)) };
+    ghost bitxor_gives = { λ a b r. (r ≡ val T.SIGNED (bits_xor (bits BITS a) (bits BITS b)))
+        × (val T.SIGNED (bits BITS a) ≡ a) × (val T.SIGNED (bits BITS b) ≡ b) };
 
     fn bitxor(self, rhs: UInt<T, BITS>) -> UInt<T, BITS>
         ensures operation { result ≡ bitwise_xor T.SIGNED BITS self rhs }
         ensures bits { result ≡ val T.SIGNED (bits_xor (bits BITS self) (bits BITS rhs)) }
+        ensures operands { (val T.SIGNED (bits BITS self) ≡ self)
+            × (val T.SIGNED (bits BITS rhs) ≡ rhs) }
         ensures plain { result ≡ pos (bit_xor (unsigned_abs self) (unsigned_abs rhs)) }
         ensures same { self ≡ rhs → result ≡ pos 0 }
         ensures undo { (y : ℤ) → InRange T.SIGNED BITS y → self ≡ bitwise_xor T.SIGNED BITS y rhs → result ≡ y }
@@ -84,11 +99,14 @@ impl<T: UnsignedStorage, const BITS: usize> BitXor<UInt<T, BITS>> for UInt<T, BI
 }
 
 impl<T: UnsignedStorage, const BITS: usize> BitXorAssign<UInt<T, BITS>> for UInt<T, BITS> {
-    ghost bitxor_assign_gives = { λ a b r. r ≡ val T.SIGNED (bits_xor (bits BITS a) (bits BITS b)) };
+    ghost bitxor_assign_gives = { λ a b r. (r ≡ val T.SIGNED (bits_xor (bits BITS a) (bits BITS b)))
+        × (val T.SIGNED (bits BITS a) ≡ a) × (val T.SIGNED (bits BITS b) ≡ b) };
 
     fn bitxor_assign(&mut self, rhs: UInt<T, BITS>)
         ensures operation { self.new ≡ bitwise_xor T.SIGNED BITS self.old rhs }
         ensures bits { self.new ≡ val T.SIGNED (bits_xor (bits BITS self.old) (bits BITS rhs)) }
+        ensures operands { (val T.SIGNED (bits BITS self.old) ≡ self.old)
+            × (val T.SIGNED (bits BITS rhs) ≡ rhs) }
         ensures undo { (y : ℤ) → InRange T.SIGNED BITS y → self.old ≡ bitwise_xor T.SIGNED BITS y rhs → self.new ≡ y }
     {
         *self = *self ^ rhs;
@@ -98,11 +116,12 @@ impl<T: UnsignedStorage, const BITS: usize> BitXorAssign<UInt<T, BITS>> for UInt
 impl<T: UnsignedStorage, const BITS: usize> Not for UInt<T, BITS> {
     type Output = UInt<T, BITS>;
 
-    ghost not_gives = { λ a r. r ≡ val T.SIGNED (map not (bits BITS a)) };
+    ghost not_gives = { λ a r. (r ≡ val T.SIGNED (map not (bits BITS a))) × (val T.SIGNED (bits BITS a) ≡ a) };
 
     fn not(self) -> UInt<T, BITS>
         ensures operation { result ≡ bitwise_not T.SIGNED BITS self }
         ensures bits { result ≡ val T.SIGNED (map not (bits BITS self)) }
+        ensures operand { val T.SIGNED (bits BITS self) ≡ self }
         ensures number { result ≡ pos (2 ^ BITS) -ℤ pos 1 -ℤ self }
     {
         UInt::new(bitwise::not(self.value(), BITS))

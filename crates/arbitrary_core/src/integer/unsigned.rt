@@ -119,19 +119,19 @@ where
 
     ghost can_bitand_law = { λ a b. tt };
 
-    ghost bitand_law = { λ a b r h f g. h };
+    ghost bitand_law = { λ a b r h f g. h.0 };
 
     ghost can_bitor_law = { λ a b. tt };
 
-    ghost bitor_law = { λ a b r h f g. h };
+    ghost bitor_law = { λ a b r h f g. h.0 };
 
     ghost can_bitxor_law = { λ a b. tt };
 
-    ghost bitxor_law = { λ a b r h f g. h };
+    ghost bitxor_law = { λ a b r h f g. h.0 };
 
     ghost can_not_law = { λ a. tt };
 
-    ghost not_law = { λ a r h f. h };
+    ghost not_law = { λ a r h f. h.0 };
 
     ghost assign_law = { (is_assigned, is_assigned, is_assigned, is_assigned, is_assigned, is_assigned, is_assigned) };
 }

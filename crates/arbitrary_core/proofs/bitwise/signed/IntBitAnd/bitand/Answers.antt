@@ -5,7 +5,7 @@ use Rattle.arbitrary_base.proofs.bit_lists.StdBitwise.{and-plain, and-left, and-
 use Rattle.arbitrary_base.proofs.bit_lists.UnsignedNumber.{length-bits, same_length, length-and}
 use Rattle.arbitrary_core.proofs.Naturals.{at_most, naturals}
 use Rattle.arbitrary_core.proofs.StoredBits.{bits-stays, number-of_list}
-use Rattle.arbitrary_base.proofs.operations.Definition.{and-is}
+use Rattle.arbitrary_base.proofs.operations.Definition.{and-is, of-bits}
 use Rattle.arbitrary_core.proofs.bitwise.signed.IntBitAnd.bitand.Goals as goal
 
 pub returns : goal.returns
@@ -20,6 +20,7 @@ returns g c =
     record {
       operation = e ∙ sym (and-is _ _ _ _);
       bits = e;
+      operands = (sym (of-bits _ _ _ c.to_bits.ensures.width.0 c.to_bits.ensures.self_range), sym (of-bits _ _ _ c.to_bits-2.ensures.width.0 c.to_bits-2.ensures.self_range));
       plain = naturals bit_and _ _ _ (and-plain _ _ _ _ _ w x y e);
       left = at_most _ _ (and-left _ _ _ _ _ w x e);
       right = at_most _ _ (and-right _ _ _ _ _ w y e);

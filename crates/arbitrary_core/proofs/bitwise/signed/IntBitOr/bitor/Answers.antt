@@ -5,7 +5,7 @@ use Rattle.arbitrary_base.proofs.bit_lists.StdBitwise.{or-plain}
 use Rattle.arbitrary_base.proofs.bit_lists.UnsignedNumber.{length-bits, same_length, length-or}
 use Rattle.arbitrary_core.proofs.Naturals.{naturals}
 use Rattle.arbitrary_core.proofs.StoredBits.{bits-stays, number-of_list}
-use Rattle.arbitrary_base.proofs.operations.Definition.{or-is}
+use Rattle.arbitrary_base.proofs.operations.Definition.{or-is, of-bits}
 use Rattle.arbitrary_core.proofs.bitwise.signed.IntBitOr.bitor.Goals as goal
 
 pub returns : goal.returns
@@ -20,5 +20,6 @@ returns g c =
     record {
       operation = e ∙ sym (or-is _ _ _ _);
       bits = e;
+      operands = (sym (of-bits _ _ _ c.to_bits.ensures.width.0 c.to_bits.ensures.self_range), sym (of-bits _ _ _ c.to_bits-2.ensures.width.0 c.to_bits-2.ensures.self_range));
       plain = naturals bit_or _ _ _ (or-plain _ _ _ _ _ w x y e);
     }

@@ -6,7 +6,7 @@ use Rattle.arbitrary_base.proofs.bit_lists.UnsignedNumber.{length-bits, same_len
 use Rattle.arbitrary_base.proofs.modular.Inverse.{xor-undoes}
 use Rattle.arbitrary_core.proofs.Naturals.{naturals}
 use Rattle.arbitrary_core.proofs.StoredBits.{bits-stays, number-of_list}
-use Rattle.arbitrary_base.proofs.operations.Definition.{xor-is}
+use Rattle.arbitrary_base.proofs.operations.Definition.{xor-is, of-bits}
 use Rattle.arbitrary_core.proofs.bitwise.signed.IntBitXor.bitxor.Goals as goal
 
 pub returns : goal.returns
@@ -21,6 +21,7 @@ returns g c =
     record {
       operation = e ∙ sym (xor-is _ _ _ _);
       bits = e;
+      operands = (sym (of-bits _ _ _ c.to_bits.ensures.width.0 c.to_bits.ensures.self_range), sym (of-bits _ _ _ c.to_bits-2.ensures.width.0 c.to_bits-2.ensures.self_range));
       plain = naturals bit_xor _ _ _ (xor-plain _ _ _ _ _ w x y e);
       same = xor-same _ _ _ _ _ w e;
       undo = λ z f d. xor-undoes _ _ _ _ _ z w f (d ∙ xor-is _ _ _ _) e;

@@ -4,7 +4,7 @@ use Rattle.arbitrary_base.specs.BitList.{bits}
 use Rattle.arbitrary_base.proofs.bit_lists.StdBitwise.{not-signed}
 use Rattle.arbitrary_base.proofs.bit_lists.UnsignedNumber.{length-bits, length-not}
 use Rattle.arbitrary_core.proofs.StoredBits.{bits-stays, number-of_list}
-use Rattle.arbitrary_base.proofs.operations.Definition.{not-is}
+use Rattle.arbitrary_base.proofs.operations.Definition.{not-is, of-bits}
 use Rattle.arbitrary_core.proofs.bitwise.signed.IntNot.not.Goals as goal
 
 pub returns : goal.returns
@@ -16,5 +16,6 @@ returns g c =
     record {
       operation = e ∙ sym (not-is _ _ _);
       bits = e;
+      operand = sym (of-bits _ _ _ c.to_bits.ensures.width.0 c.to_bits.ensures.self_range);
       number = not-signed _ _ _ _ g.met.T.SignedStorage.signed_law w c.to_bits.ensures.self_range e;
     }

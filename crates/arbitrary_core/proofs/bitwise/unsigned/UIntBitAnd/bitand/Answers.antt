@@ -2,7 +2,7 @@ use Rattle.std.specs.Prelude.{◌≡◌}
 use Rattle.std.proofs.Common.{sym, ◌∙◌}
 use Rattle.arbitrary_base.specs.BitList.{bits, val, bits_and}
 use Rattle.arbitrary_base.proofs.bit_lists.StdBitwise.{and-plain, and-left, and-right, not_below_zero}
-use Rattle.arbitrary_base.proofs.operations.Definition.{and-is}
+use Rattle.arbitrary_base.proofs.operations.Definition.{and-is, of-bits}
 use Rattle.arbitrary_core.proofs.bitwise.unsigned.UIntBitAnd.bitand.Goals as goal
 
 pub returns : goal.returns
@@ -17,6 +17,7 @@ returns g c =
     record {
       operation = e ∙ sym (and-is _ _ _ _);
       bits = e;
+      operands = (sym (of-bits _ _ _ c.value.ensures.width.0 c.value.ensures.range), sym (of-bits _ _ _ c.value-2.ensures.width.0 c.value-2.ensures.range));
       plain = and-plain _ _ _ _ _ w x y e a b;
       left = (and-left _ _ _ _ _ w x e a).1;
       right = (and-right _ _ _ _ _ w y e b).1;

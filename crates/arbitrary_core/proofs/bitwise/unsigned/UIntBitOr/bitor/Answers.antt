@@ -2,7 +2,7 @@ use Rattle.std.specs.Prelude.{◌≡◌}
 use Rattle.std.proofs.Common.{sym, ◌∙◌}
 use Rattle.arbitrary_base.specs.BitList.{bits, val, bits_or}
 use Rattle.arbitrary_base.proofs.bit_lists.StdBitwise.{or-plain, not_below_zero}
-use Rattle.arbitrary_base.proofs.operations.Definition.{or-is}
+use Rattle.arbitrary_base.proofs.operations.Definition.{or-is, of-bits}
 use Rattle.arbitrary_core.proofs.bitwise.unsigned.UIntBitOr.bitor.Goals as goal
 
 pub returns : goal.returns
@@ -17,5 +17,6 @@ returns g c =
     record {
       operation = e ∙ sym (or-is _ _ _ _);
       bits = e;
+      operands = (sym (of-bits _ _ _ c.value.ensures.width.0 c.value.ensures.range), sym (of-bits _ _ _ c.value-2.ensures.width.0 c.value-2.ensures.range));
       plain = or-plain _ _ _ _ _ w x y e a b;
     }

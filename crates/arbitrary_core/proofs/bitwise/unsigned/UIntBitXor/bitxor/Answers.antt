@@ -3,7 +3,7 @@ use Rattle.std.proofs.Common.{sym, ◌∙◌}
 use Rattle.arbitrary_base.specs.BitList.{bits, val, bits_xor}
 use Rattle.arbitrary_base.proofs.bit_lists.StdBitwise.{xor-plain, xor-same, not_below_zero}
 use Rattle.arbitrary_base.proofs.modular.Inverse.{xor-undoes}
-use Rattle.arbitrary_base.proofs.operations.Definition.{xor-is}
+use Rattle.arbitrary_base.proofs.operations.Definition.{xor-is, of-bits}
 use Rattle.arbitrary_core.proofs.bitwise.unsigned.UIntBitXor.bitxor.Goals as goal
 
 pub returns : goal.returns
@@ -18,6 +18,7 @@ returns g c =
     record {
       operation = e ∙ sym (xor-is _ _ _ _);
       bits = e;
+      operands = (sym (of-bits _ _ _ c.value.ensures.width.0 c.value.ensures.range), sym (of-bits _ _ _ c.value-2.ensures.width.0 c.value-2.ensures.range));
       plain = xor-plain _ _ _ _ _ w x y e a b;
       same = xor-same _ _ _ _ _ w e;
       undo = λ z f d. xor-undoes _ _ _ _ _ z w f (d ∙ xor-is _ _ _ _) e;

@@ -2,7 +2,7 @@ use Rattle.std.specs.Prelude.{◌≡◌, map, not}
 use Rattle.std.proofs.Common.{sym, ◌∙◌}
 use Rattle.arbitrary_base.specs.BitList.{bits, val}
 use Rattle.arbitrary_base.proofs.bit_lists.StdBitwise.{not-unsigned}
-use Rattle.arbitrary_base.proofs.operations.Definition.{not-is}
+use Rattle.arbitrary_base.proofs.operations.Definition.{not-is, of-bits}
 use Rattle.arbitrary_core.proofs.bitwise.unsigned.UIntNot.not.Goals as goal
 
 pub returns : goal.returns
@@ -11,5 +11,6 @@ returns g c =
     record {
       operation = e ∙ sym (not-is _ _ _);
       bits = e;
+      operand = sym (of-bits _ _ _ c.value.ensures.width.0 c.value.ensures.range);
       number = not-unsigned _ _ _ _ g.met.T.UnsignedStorage.unsigned_law c.value.ensures.width.0 c.value.ensures.range e;
     }

@@ -1,0 +1,123 @@
+-- A number read bit by bit, for proofs in code that is generic in the type: two numbers of the type are equal, or differ in a bit, and a bit of
+-- a result of `&`, `|`, `^` or `!` is the same of the operands' bits.
+use Rattle.std.specs.Prelude.{◌≡◌, ◌≤◌, ◌<◌, ◌⊎◌, ℕ, ℤ, Bool, zero, suc, true, false, not, ◌&&◌, ◌||◌, List, [], ◌∷◌, length, get_or, map, pos, replicate}
+use Rattle.std.specs.Bool.{beq}
+use Rattle.std.specs.Ordering.{int_eq}
+use Rattle.std.proofs.Common.{inl, inr, refl, sym, ap, ◌∙◌, arith}
+use Rattle.std.proofs.lemmas.Bool.Decides.{Decides-int_eq}
+use Rattle.std.proofs.lemmas.List.{get_or-map, get_or-replicate}
+use Rattle.arbitrary_base.specs.BitList.{bits, val, bits_xor}
+use Rattle.arbitrary_base.specs.Operation.{bitwise_and, bitwise_not, bitwise_or, bitwise_xor}
+use Rattle.arbitrary_base.proofs.bit_lists.UnsignedNumber.{length-bits}
+use Rattle.arbitrary_base.proofs.bit_lists.Pointwise.{pointwise, and-same, not-not, xor-assoc, xor-none, xor-zeros}
+use Rattle.arbitrary_base.proofs.operations.Definition.{and-is, or-is, xor-is, not-is, bits-and, bits-or, bits-xor, bits-not, bits-zero, of-bits, zero-in_range}
+
+-- one of B places. The type is shut, so that the search leaves a place whole
+pub Place : ℕ → Type 0
+Place B = (i : ℕ) × (i < B)
+
+-- the bit of x at a place
+pub bit_at : (B : ℕ) → ℤ → Place B → Bool
+unfolding Place
+bit_at B x i = get_or (bits B x) i.0 false
+
+-- whether x is the number of its own bits, as each number of the type is
+pub is_own_bits : Bool → ℕ → ℤ → Bool
+is_own_bits s B x = int_eq (val s (bits B x)) x
+
+own : (s : Bool) (B : ℕ) (x : ℤ) → is_own_bits s B x ≡ true → val s (bits B x) ≡ x
+unfolding is_own_bits
+own s B x h = (Decides-int_eq _ _).0 h
+
+pub own_bits : (s : Bool) (B : ℕ) (x : ℤ) → val s (bits B x) ≡ x → is_own_bits s B x ≡ true
+unfolding is_own_bits
+own_bits s B x h = (Decides-int_eq _ _).1 h
+
+pub own_bits-zero : (s : Bool) (B : ℕ) → 1 ≤ B → is_own_bits s B (pos 0) ≡ true
+own_bits-zero s B h = own_bits s B _ (sym (of-bits s B (pos 0) h (zero-in_range s B)))
+
+-- ---- two numbers of the type are equal, or differ in a bit
+
+differ : (l m : List Bool) → length l ≡ length m → (l ≡ m) ⊎ ((i : ℕ) × (i < length l) × (get_or l i false ≡ not (get_or m i false)))
+differ [] [] e = inl refl
+differ [] (b ∷ m) e = absurd (omega arith)
+differ (a ∷ l) [] e = absurd (omega arith)
+differ (true ∷ l) (false ∷ m) e = inr (0, omega arith, refl)
+differ (false ∷ l) (true ∷ m) e = inr (0, omega arith, refl)
+differ (true ∷ l) (true ∷ m) e = elim (differ l m (omega arith)) [
+  | inl q ↦ inl (ap (λ (r : List Bool). true ∷ r) q)
+  | inr w ↦ inr (suc w.0, omega (arith, w.1), w.2)
+]
+differ (false ∷ l) (false ∷ m) e = elim (differ l m (omega arith)) [
+  | inl q ↦ inl (ap (λ (r : List Bool). false ∷ r) q)
+  | inr w ↦ inr (suc w.0, omega (arith, w.1), w.2)
+]
+
+pub equal-or_differ : (s : Bool) (B : ℕ) (x y : ℤ) → is_own_bits s B x ≡ true → is_own_bits s B y ≡ true
+    → (int_eq x y ≡ true) ⊎ ((i : Place B) × (bit_at B x i ≡ not (bit_at B y i)))
+unfolding Place bit_at
+equal-or_differ s B x y h g = elim (differ (bits B x) (bits B y) (length-bits B x ∙ sym (length-bits B y))) [
+  | inl e ↦ inl ((Decides-int_eq x y).1 (sym (own s B x h) ∙ ap (val s) e ∙ own s B y g))
+  | inr w ↦ inr ((w.0, omega (arith, w.1, length-bits B x)), w.2)
+]
+
+-- ---- the bits of a result
+
+bit-of_two : (f : Bool → Bool → Bool) (l m : List Bool) (i : ℕ) → length l ≡ length m → i < length l
+    → get_or (pointwise f l m) i false ≡ f (get_or l i false) (get_or m i false)
+bit-of_two f [] m i e h = absurd (omega arith)
+bit-of_two f (a ∷ l) [] i e h = absurd (omega arith)
+bit-of_two f (a ∷ l) (b ∷ m) zero e h = refl
+bit-of_two f (a ∷ l) (b ∷ m) (suc i) e h = bit-of_two f l m i (omega arith) (omega arith)
+
+bit-of_operands : (f : Bool → Bool → Bool) (B : ℕ) (x y r : ℤ) (i : Place B) → bits B r ≡ pointwise f (bits B x) (bits B y)
+    → bit_at B r i ≡ f (bit_at B x i) (bit_at B y i)
+unfolding Place bit_at
+bit-of_operands f B x y r i e = ap (λ (l : List Bool). get_or l i.0 false) e
+    ∙ bit-of_two f (bits B x) (bits B y) i.0 (length-bits B x ∙ sym (length-bits B y)) (omega (arith, i.1, length-bits B x))
+
+pub bit_at-zero : (B : ℕ) (i : Place B) → bit_at B (pos 0) i ≡ false
+unfolding Place bit_at
+bit_at-zero B i = ap (λ (l : List Bool). get_or l i.0 false) (bits-zero B) ∙ get_or-replicate B i.0 false false i.1
+
+pub bit_at-and : (s : Bool) (B : ℕ) (x y : ℤ) (i : Place B) → bit_at B (bitwise_and s B x y) i ≡ (bit_at B x i && bit_at B y i)
+bit_at-and s B x y i = bit-of_operands (λ a b. a && b) B x y _ i (bits-and s B x y)
+
+pub bit_at-or : (s : Bool) (B : ℕ) (x y : ℤ) (i : Place B) → bit_at B (bitwise_or s B x y) i ≡ (bit_at B x i || bit_at B y i)
+bit_at-or s B x y i = bit-of_operands (λ a b. a || b) B x y _ i (bits-or s B x y)
+
+pub bit_at-xor : (s : Bool) (B : ℕ) (x y : ℤ) (i : Place B) → bit_at B (bitwise_xor s B x y) i ≡ not (beq (bit_at B x i) (bit_at B y i))
+bit_at-xor s B x y i = bit-of_operands (λ a b. not (beq a b)) B x y _ i (bits-xor s B x y)
+
+pub bit_at-not : (s : Bool) (B : ℕ) (x : ℤ) (i : Place B) → bit_at B (bitwise_not s B x) i ≡ not (bit_at B x i)
+unfolding Place bit_at
+bit_at-not s B x i = ap (λ (l : List Bool). get_or l i.0 false) (bits-not s B x)
+    ∙ get_or-map not (bits B x) i.0 false false (omega (arith, i.1, length-bits B x))
+
+pub own_bits-and : (s : Bool) (B : ℕ) (x y : ℤ) → is_own_bits s B (bitwise_and s B x y) ≡ true
+own_bits-and s B x y = own_bits s B _ (ap (val s) (bits-and s B x y) ∙ sym (and-is s B x y))
+
+pub own_bits-or : (s : Bool) (B : ℕ) (x y : ℤ) → is_own_bits s B (bitwise_or s B x y) ≡ true
+own_bits-or s B x y = own_bits s B _ (ap (val s) (bits-or s B x y) ∙ sym (or-is s B x y))
+
+pub own_bits-xor : (s : Bool) (B : ℕ) (x y : ℤ) → is_own_bits s B (bitwise_xor s B x y) ≡ true
+own_bits-xor s B x y = own_bits s B _ (ap (val s) (bits-xor s B x y) ∙ sym (xor-is s B x y))
+
+pub own_bits-not : (s : Bool) (B : ℕ) (x : ℤ) → is_own_bits s B (bitwise_not s B x) ≡ true
+own_bits-not s B x = own_bits s B _ (ap (val s) (bits-not s B x) ∙ sym (not-is s B x))
+
+-- ---- results that are an operand, where a clause says it of numbers
+
+pub and-itself : (s : Bool) (B : ℕ) (x : ℤ) → is_own_bits s B x ≡ true → bitwise_and s B x x ≡ x
+and-itself s B x h = and-is s B x x ∙ ap (val s) (and-same (bits B x)) ∙ own s B x h
+
+pub not-twice : (s : Bool) (B : ℕ) (x : ℤ) → is_own_bits s B x ≡ true → bitwise_not s B (bitwise_not s B x) ≡ x
+not-twice s B x h = not-is s B _ ∙ ap (val s) (ap (map not) (bits-not s B x) ∙ not-not (bits B x)) ∙ own s B x h
+
+xor-list_twice : (l m : List Bool) → length l ≡ length m → bits_xor (bits_xor l m) m ≡ l
+xor-list_twice l m e = xor-assoc l m m ∙ ap (bits_xor l) (xor-none m ∙ ap (λ (n : ℕ). replicate n false) (sym e)) ∙ xor-zeros l
+
+pub xor-twice : (s : Bool) (B : ℕ) (x y : ℤ) → is_own_bits s B x ≡ true → bitwise_xor s B (bitwise_xor s B x y) y ≡ x
+xor-twice s B x y h = xor-is s B _ y
+    ∙ ap (val s) (ap (λ (l : List Bool). bits_xor l (bits B y)) (bits-xor s B x y) ∙ xor-list_twice (bits B x) (bits B y) (length-bits B x ∙ sym (length-bits B y)))
+    ∙ own s B x h

@@ -1,0 +1,4 @@
+use Rattle.arbitrary_core.proofs.bitwise.unsigned.UIntBitOr.TheImpl.Goals as goal
+
+pub bitor-tells : goal.bitor-tells
+bitor-tells g c = (c.ensures.bits, c.ensures.operands.0, c.ensures.operands.1)
