@@ -3,6 +3,7 @@ pub mod ShiftAsProduct
 pub mod Definition
 pub mod Bitwise
 pub mod BitByBit
+pub mod Amount
 pub mod WrappedRing
 pub mod Shift
 pub mod RotateAndReverse

@@ -1,6 +1,6 @@
 //! What every integer of fixed width can do, each call written once for both types.
 
-ghost use Rattle.std.specs.Prelude.{length, not, Bool, ◌&&◌, ◌||◌, ◌⊎◌, ◌≡◌, ◌≢◌, ◌↔◌, ◌≤◌, ◌<◌, ◌+◌, ◌-◌, ◌*◌, ◌%◌, ◌^◌, ◌≤ℤ◌, ◌<ℤ◌, ◌+ℤ◌, ◌-ℤ◌, ◌*ℤ◌, ℤ, pos, neg_ℤ, unsigned_abs, IsTrue, IsNone, IfSome, false, true, int_div, reverse, SomeIff, option_map};
+ghost use Rattle.std.specs.Prelude.{length, not, Bool, ℕ, ◌&&◌, ◌||◌, ◌⊎◌, ◌≡◌, ◌≢◌, ◌↔◌, ◌≤◌, ◌<◌, ◌+◌, ◌-◌, ◌*◌, ◌%◌, ◌^◌, ◌≤ℤ◌, ◌<ℤ◌, ◌+ℤ◌, ◌-ℤ◌, ◌*ℤ◌, ℤ, pos, neg_ℤ, unsigned_abs, IsTrue, IsNone, IfSome, false, true, int_div, reverse, SomeIff, option_map};
 ghost use Rattle.std.specs.Bool.{beq};
 ghost use Rattle.std.specs.Int.{int_pow};
 ghost use Rattle.std.specs.Int.Digits.{digits_of};
@@ -10,6 +10,7 @@ ghost use Rattle.arbitrary_base.specs.Residue.{Congruent, wrap};
 ghost use Rattle.arbitrary_base.specs.Saturation.{clamp};
 ghost use Rattle.arbitrary_base.specs.Operation.{bitwise_and, bitwise_not, bitwise_or, bitwise_xor, reversed, rotated_left, rotated_right, shifted_left, shifted_right, wrapped_difference, wrapped_product, wrapped_sum};
 ghost use Rattle.arbitrary_base.specs.BitList.{bits, val, fill, rotr, shl, shr};
+ghost use Rattle.arbitrary_base.proofs.operations.Amount.{Amount, amount, none, rest};
 ghost use Rattle.arbitrary_base.proofs.operations.BitByBit.{Place};
 
 use crate::low_bits::LowBits;
@@ -60,26 +61,37 @@ pub trait FixedWidth: Integer + LowBits {
     ghost complement_law: { (a r : Self) → Self.not_gives a r
         → Self.number r ≡ bitwise_not Self.IS_SIGNED Self.BITS (Self.number a) };
 
-    // For proofs in generic code, where the check knows of an operator what these laws say, and takes no set beside them. Values are compared
-    // bit by bit: two that are no other than their own bits are equal, or differ in a bit. A law that names a value twice says what keeps it
-    // from being a number out of range, since in a law each number is a value.
+    // For proofs in generic code, where the check knows of an operator or a call what these laws say, and takes no set beside them. They are
+    // over functions of values: a law on numbers would be tried at each number of equal value. None has a call in its conclusion that shows all
+    // variables and makes another of the same kind, or the search would not end: so some name a value twice, by an equation.
     ghost bit: { (a : Self) → Place Self.BITS → Bool };
 
     ghost value_of: { (x : ℤ) → Self };
 
-    ghost value_law: { (a : Self) → (Self.number a ≡ Self.number a) × (value_of (Self.number a) ≡ a) };
+    ghost value_law: { (a : Self)
+        → (Self.number a ≡ Self.number a) × (value_of (Self.number a) ≡ a) };
 
-    ghost equal_law: { (a b : Self) → (Self.eq a b ≡ Self.eq a b) × (Self.eq a b ≡ true → a ≡ b) };
+    ghost equal_law: { (a b : Self) → (Self.eq a b ≡ Self.eq a b) × (Self.eq a b ≡ true
+        → a ≡ b) × (a ≡ b → Self.eq a b ≡ true) };
 
+    // Whether a value is that of its own bits, as each is that is no other number, and that value.
     ghost fits: { (a : Self) → Bool };
 
-    ghost zero_fits: { Self.valid → fits (value_of (pos 0)) ≡ true };
+    ghost fits_law: { (a : Self) → Self.valid → InRange Self.IS_SIGNED Self.BITS (Self.number a)
+        → fits a ≡ true };
 
-    ghost zero_bit: { (i : Place Self.BITS) → bit (value_of (pos 0)) i ≡ false };
+    ghost own: { (a : Self) → Self };
+
+    ghost own_law: { (a b : Self) → b ≡ a → fits a ≡ true → own a ≡ b };
+
+    ghost zero_fits: { (a : Self) → Self.valid → a ≡ value_of (pos 0) → fits a ≡ true };
+
+    ghost zero_bit: { (a : Self) (i : Place Self.BITS) → a ≡ value_of (pos 0) → bit a i ≡ false };
 
     ghost differ_law: { (a b : Self) → fits a ≡ true → fits b ≡ true
         → (Self.eq a b ≡ true) ⊎ ((i : Place Self.BITS) × (bit a i ≡ not (bit b i))) };
 
+    // The operators bit by bit.
     ghost and_of: { (a b : Self) → Self };
 
     ghost and_gives: { (a b r : Self) → Self.bitand_gives a b r
@@ -87,7 +99,17 @@ pub trait FixedWidth: Integer + LowBits {
 
     ghost and_fits: { (a b : Self) → fits (and_of a b) ≡ true };
 
-    ghost and_bit: { (a b : Self) (i : Place Self.BITS) → bit (and_of a b) i ≡ (bit a i && bit b i) };
+    ghost and_bit: { (a b : Self) (i : Place Self.BITS)
+        → bit (and_of a b) i ≡ (bit a i && bit b i) };
+
+    ghost and_number: { (x y : ℤ)
+        → bitwise_and Self.IS_SIGNED Self.BITS x y
+        ≡ Self.number (and_of (value_of x) (value_of y)) };
+
+    ghost and_commutes: { (a b : Self) → and_of a b ≡ and_of b a };
+
+    ghost and_associates: { (a b c d : Self) → d ≡ and_of a b
+        → and_of d c ≡ and_of a (and_of b c) };
 
     ghost or_of: { (a b : Self) → Self };
 
@@ -98,6 +120,13 @@ pub trait FixedWidth: Integer + LowBits {
 
     ghost or_bit: { (a b : Self) (i : Place Self.BITS) → bit (or_of a b) i ≡ (bit a i || bit b i) };
 
+    ghost or_number: { (x y : ℤ)
+        → bitwise_or Self.IS_SIGNED Self.BITS x y ≡ Self.number (or_of (value_of x) (value_of y)) };
+
+    ghost or_commutes: { (a b : Self) → or_of a b ≡ or_of b a };
+
+    ghost or_associates: { (a b c d : Self) → d ≡ or_of a b → or_of d c ≡ or_of a (or_of b c) };
+
     ghost xor_of: { (a b : Self) → Self };
 
     ghost xor_gives: { (a b r : Self) → Self.bitxor_gives a b r
@@ -105,22 +134,266 @@ pub trait FixedWidth: Integer + LowBits {
 
     ghost xor_fits: { (a b : Self) → fits (xor_of a b) ≡ true };
 
-    ghost xor_bit: { (a b : Self) (i : Place Self.BITS) → bit (xor_of a b) i ≡ (not (beq (bit a i) (bit b i))) };
+    ghost xor_bit: { (a b : Self) (i : Place Self.BITS)
+        → bit (xor_of a b) i ≡ (not (beq (bit a i) (bit b i))) };
+
+    ghost xor_number: { (x y : ℤ)
+        → bitwise_xor Self.IS_SIGNED Self.BITS x y
+        ≡ Self.number (xor_of (value_of x) (value_of y)) };
+
+    ghost xor_commutes: { (a b : Self) → xor_of a b ≡ xor_of b a };
+
+    ghost xor_associates: { (a b c d : Self) → d ≡ xor_of a b
+        → xor_of d c ≡ xor_of a (xor_of b c) };
 
     ghost not_of: { (a : Self) → Self };
 
-    ghost complement_gives: { (a r : Self) → Self.not_gives a r → (r ≡ not_of a) × (fits a ≡ true) };
+    ghost complement_gives: { (a r : Self) → Self.not_gives a r
+        → (r ≡ not_of a) × (fits a ≡ true) };
 
     ghost not_fits: { (a : Self) → fits (not_of a) ≡ true };
 
-    ghost not_bit: { (a : Self) (i : Place Self.BITS) → bit (not_of a) i ≡ not (bit a i) };
+    ghost not_bit: { (a : Self) (i : Place Self.BITS) (b : Bool) → b ≡ bit a i
+        → bit (not_of a) i ≡ not b };
+
+    ghost not_number: { (x : ℤ) (a : Self) → a ≡ value_of x
+        → bitwise_not Self.IS_SIGNED Self.BITS x ≡ Self.number (not_of a) };
+
+    ghost and_of_or: { (a b c d : Self) → d ≡ or_of b c
+        → and_of a d ≡ or_of (and_of a b) (and_of a c) };
+
+    ghost or_of_and: { (a b c d : Self) → d ≡ and_of b c
+        → or_of a d ≡ and_of (or_of a b) (or_of a c) };
+
+    ghost not_of_and: { (a b c : Self) → c ≡ and_of a b → not_of c ≡ or_of (not_of a) (not_of b) };
+
+    ghost not_of_or: { (a b c : Self) → c ≡ or_of a b → not_of c ≡ and_of (not_of a) (not_of b) };
 
     // Where a clause says of numbers that a result is an operand.
-    ghost and_itself: { (a : Self) → fits a ≡ true → and_of a a ≡ a };
+    ghost and_itself: { (a b : Self) → b ≡ a → fits a ≡ true → and_of a b ≡ a };
 
-    ghost not_twice: { (a : Self) → fits a ≡ true → not_of (not_of a) ≡ a };
+    ghost not_twice: { (a b : Self) → b ≡ not_of a → fits a ≡ true → not_of b ≡ a };
 
-    ghost xor_twice: { (a b : Self) → fits a ≡ true → xor_of (xor_of a b) b ≡ a };
+    ghost xor_twice: { (a b c : Self) → c ≡ xor_of a b → fits a ≡ true → xor_of c b ≡ a };
+
+    ghost xor_none: { (a b : Self) → (xor_of a b ≡ xor_of a b) × (fits a ≡ true → fits b ≡ true → xor_of a b ≡ value_of (pos 0)
+        → a ≡ b) };
+
+    // Shifts.
+    ghost shl_of: { (a : Self) → Amount Self.BITS → Self };
+
+    ghost shl_law: { (x : ℤ) (m : ℕ) → Self.valid
+        → shifted_left Self.IS_SIGNED Self.BITS x m ≡ Self.number (shl_of (value_of x) (amount Self.BITS m)) };
+
+    ghost shl_fits: { (a : Self) (t : Amount Self.BITS) → fits (shl_of a t) ≡ true };
+
+    ghost shl_none: { (a b : Self) → b ≡ own a → shl_of a (none Self.BITS) ≡ b };
+
+    ghost shl_zero: { (a : Self) (t : Amount Self.BITS) → Self.valid → a ≡ value_of (pos 0)
+        → shl_of a t ≡ a };
+
+    ghost shl_of_and: { (a b c : Self) (t : Amount Self.BITS) → c ≡ and_of a b
+        → shl_of c t ≡ and_of (shl_of a t) (shl_of b t) };
+
+    ghost shl_of_or: { (a b c : Self) (t : Amount Self.BITS) → c ≡ or_of a b
+        → shl_of c t ≡ or_of (shl_of a t) (shl_of b t) };
+
+    ghost shl_of_xor: { (a b c : Self) (t : Amount Self.BITS) → c ≡ xor_of a b
+        → shl_of c t ≡ xor_of (shl_of a t) (shl_of b t) };
+
+    ghost shr_of: { (a : Self) → Amount Self.BITS → Self };
+
+    ghost shr_law: { (x : ℤ) (m : ℕ) → Self.valid
+        → shifted_right Self.IS_SIGNED Self.BITS x m ≡ Self.number (shr_of (value_of x) (amount Self.BITS m)) };
+
+    ghost shr_fits: { (a : Self) (t : Amount Self.BITS) → fits (shr_of a t) ≡ true };
+
+    ghost shr_none: { (a b : Self) → b ≡ own a → shr_of a (none Self.BITS) ≡ b };
+
+    ghost shr_zero: { (a : Self) (t : Amount Self.BITS) → Self.valid → a ≡ value_of (pos 0)
+        → shr_of a t ≡ a };
+
+    ghost shr_of_and: { (a b c : Self) (t : Amount Self.BITS) → c ≡ and_of a b
+        → shr_of c t ≡ and_of (shr_of a t) (shr_of b t) };
+
+    ghost shr_of_or: { (a b c : Self) (t : Amount Self.BITS) → c ≡ or_of a b
+        → shr_of c t ≡ or_of (shr_of a t) (shr_of b t) };
+
+    ghost shr_of_xor: { (a b c : Self) (t : Amount Self.BITS) → c ≡ xor_of a b
+        → shr_of c t ≡ xor_of (shr_of a t) (shr_of b t) };
+
+    ghost shl_of_shr: { (a c : Self) (t : Amount Self.BITS) → c ≡ shr_of a t
+        → shl_of c t ≡ and_of a (shl_of (not_of (value_of (pos 0))) t) };
+
+    // Rotations and reversal.
+    ghost rotl_of: { (a : Self) → Amount Self.BITS → Self };
+
+    ghost rotl_law: { (x : ℤ) (m : ℕ)
+        → rotated_left Self.IS_SIGNED Self.BITS x m ≡ Self.number (rotl_of (value_of x) (amount Self.BITS m)) };
+
+    ghost rotr_law: { (x : ℤ) (m : ℕ) → rotated_right Self.IS_SIGNED Self.BITS x m
+        ≡ Self.number (rotl_of (value_of x) (rest Self.BITS (amount Self.BITS m))) };
+
+    ghost rotl_fits: { (a : Self) (t : Amount Self.BITS) → fits (rotl_of a t) ≡ true };
+
+    ghost rotl_none: { (a b : Self) → b ≡ own a → rotl_of a (none Self.BITS) ≡ b };
+
+    ghost rotl_zero: { (a : Self) (t : Amount Self.BITS) → Self.valid → a ≡ value_of (pos 0)
+        → rotl_of a t ≡ a };
+
+    ghost rotl_ones: { (a : Self) (t : Amount Self.BITS) → Self.valid → a ≡ not_of (value_of (pos 0))
+        → rotl_of a t ≡ a };
+
+    ghost no_amount: { (m : ℕ) → m ≡ 0 → amount Self.BITS m ≡ none Self.BITS };
+
+    ghost rotl_of_and: { (a b c : Self) (t : Amount Self.BITS) → c ≡ and_of a b
+        → rotl_of c t ≡ and_of (rotl_of a t) (rotl_of b t) };
+
+    ghost rotl_of_or: { (a b c : Self) (t : Amount Self.BITS) → c ≡ or_of a b
+        → rotl_of c t ≡ or_of (rotl_of a t) (rotl_of b t) };
+
+    ghost rotl_of_xor: { (a b c : Self) (t : Amount Self.BITS) → c ≡ xor_of a b
+        → rotl_of c t ≡ xor_of (rotl_of a t) (rotl_of b t) };
+
+    ghost rotl_of_not: { (a c : Self) (t : Amount Self.BITS) → c ≡ not_of a
+        → rotl_of c t ≡ not_of (rotl_of a t) };
+
+    ghost rev_of: { (a : Self) → Self };
+
+    ghost rev_law: { (x : ℤ) (a : Self) → a ≡ value_of x
+        → reversed Self.IS_SIGNED Self.BITS x ≡ Self.number (rev_of a) };
+
+    ghost rev_fits: { (a : Self) → fits (rev_of a) ≡ true };
+
+    ghost rev_twice: { (a b c : Self) → b ≡ rev_of a → c ≡ own a → rev_of b ≡ c };
+
+    ghost rev_zero: { (a : Self) → Self.valid → a ≡ value_of (pos 0) → rev_of a ≡ a };
+
+    ghost rev_ones: { (a : Self) → Self.valid → a ≡ not_of (value_of (pos 0)) → rev_of a ≡ a };
+
+    ghost rev_of_and: { (a b c : Self) → c ≡ and_of a b → rev_of c ≡ and_of (rev_of a) (rev_of b) };
+
+    ghost rev_of_or: { (a b c : Self) → c ≡ or_of a b → rev_of c ≡ or_of (rev_of a) (rev_of b) };
+
+    ghost rev_of_xor: { (a b c : Self) → c ≡ xor_of a b → rev_of c ≡ xor_of (rev_of a) (rev_of b) };
+
+    ghost rev_of_not: { (a c : Self) → c ≡ not_of a → rev_of c ≡ not_of (rev_of a) };
+
+    ghost rev_of_rotl: { (a c : Self) (t : Amount Self.BITS) → c ≡ rotl_of a t
+        → rev_of c ≡ rotl_of (rev_of a) (rest Self.BITS t) };
+
+    // How many bits are one.
+    ghost ones_of: { (a : Self) → ℕ };
+
+    ghost ones_law: { (x : ℤ) (a : Self) → a ≡ value_of x
+        → count_by (λ b. b) (bits Self.BITS x) ≡ ones_of a };
+
+    ghost ones_of_zero: { (a : Self) → a ≡ value_of (pos 0) → ones_of a ≡ 0 };
+
+    ghost ones_of_not: { (a : Self) (n : ℕ) → n ≡ ones_of a → ones_of (not_of a) ≡ Self.BITS - n };
+
+    ghost ones_of_rev: { (a : Self) (n : ℕ) → n ≡ ones_of a → ones_of (rev_of a) ≡ n };
+
+    ghost ones_of_rotl: { (a : Self) (t : Amount Self.BITS) (n : ℕ) → n ≡ ones_of a
+        → ones_of (rotl_of a t) ≡ n };
+
+    // How many bits at an end are alike.
+    ghost leading_of: { (b : Bool) → Self → ℕ };
+
+    ghost leading_law: { (x : ℤ) (a : Self) (b : Bool) → a ≡ value_of x
+        → suffix_len (beq b) (bits Self.BITS x) ≡ leading_of b a };
+
+    ghost leading_ones_of_not: { (a : Self) (n : ℕ) → n ≡ leading_of false a
+        → leading_of true (not_of a) ≡ n };
+
+    ghost leading_zeros_of_not: { (a : Self) (n : ℕ) → n ≡ leading_of true a
+        → leading_of false (not_of a) ≡ n };
+
+    ghost trailing_of: { (b : Bool) → Self → ℕ };
+
+    ghost trailing_law: { (x : ℤ) (a : Self) (b : Bool) → a ≡ value_of x
+        → prefix_len (beq b) (bits Self.BITS x) ≡ trailing_of b a };
+
+    ghost trailing_ones_of_not: { (a : Self) (n : ℕ) → n ≡ trailing_of false a
+        → trailing_of true (not_of a) ≡ n };
+
+    ghost trailing_zeros_of_not: { (a : Self) (n : ℕ) → n ≡ trailing_of true a
+        → trailing_of false (not_of a) ≡ n };
+
+    ghost leading_of_rev: { (a : Self) (b : Bool) (n : ℕ) → n ≡ trailing_of b a
+        → leading_of b (rev_of a) ≡ n };
+
+    ghost trailing_of_rev: { (a : Self) (b : Bool) (n : ℕ) → n ≡ leading_of b a
+        → trailing_of b (rev_of a) ≡ n };
+
+    // Sums, differences and products that wrap.
+    ghost sum_of: { (a b : Self) → Self };
+
+    ghost sum_law: { (x y : ℤ)
+        → wrapped_sum Self.IS_SIGNED Self.BITS x y
+        ≡ Self.number (sum_of (value_of x) (value_of y)) };
+
+    ghost sum_fits: { (a b : Self) → Self.valid → fits (sum_of a b) ≡ true };
+
+    ghost sum_commutes: { (a b : Self) → Self.valid → sum_of a b ≡ sum_of b a };
+
+    ghost sum_associates: { (a b c d : Self) → Self.valid → d ≡ sum_of a b
+        → sum_of d c ≡ sum_of a (sum_of b c) };
+
+    ghost sum_zero: { (a b : Self) → Self.valid → b ≡ own a → sum_of a (value_of (pos 0)) ≡ b };
+
+    ghost difference_of: { (a b : Self) → Self };
+
+    ghost difference_law: { (x y : ℤ)
+        → wrapped_difference Self.IS_SIGNED Self.BITS x y ≡ Self.number (difference_of (value_of x) (value_of y)) };
+
+    ghost difference_fits: { (a b : Self) → Self.valid → fits (difference_of a b) ≡ true };
+
+    ghost difference_of_sum: { (a b c d : Self) → Self.valid → c ≡ sum_of a b → d ≡ own a
+        → difference_of c b ≡ d };
+
+    ghost sum_of_difference: { (a b c d : Self) → Self.valid → c ≡ difference_of a b → d ≡ own a
+        → sum_of c b ≡ d };
+
+    ghost difference_twice: { (a b c d : Self) → Self.valid → c ≡ difference_of a b → d ≡ own b
+        → difference_of a c ≡ d };
+
+    ghost difference_none: { (a b : Self) → Self.valid → b ≡ a
+        → difference_of a b ≡ value_of (pos 0) };
+
+    ghost difference_zero: { (a b : Self) → Self.valid → b ≡ own a
+        → difference_of a (value_of (pos 0)) ≡ b };
+
+    ghost sum_of_negated: { (a b c : Self) → Self.valid → c ≡ difference_of (value_of (pos 0)) b
+        → sum_of a c ≡ difference_of a b };
+
+    ghost difference_of_ones: { (a b : Self) → Self.valid → b ≡ not_of (value_of (pos 0))
+        → difference_of b a ≡ not_of a };
+
+    ghost sum_of_disjoint: { (a b c : Self) → Self.valid → and_of a b ≡ value_of (pos 0) → c ≡ sum_of a b
+        → c ≡ or_of a b };
+
+    ghost product_of: { (a b : Self) → Self };
+
+    ghost product_law: { (x y : ℤ)
+        → wrapped_product Self.IS_SIGNED Self.BITS x y
+        ≡ Self.number (product_of (value_of x) (value_of y)) };
+
+    ghost product_fits: { (a b : Self) → Self.valid → fits (product_of a b) ≡ true };
+
+    ghost product_commutes: { (a b : Self) → Self.valid → product_of a b ≡ product_of b a };
+
+    ghost product_associates: { (a b c d : Self) → Self.valid → d ≡ product_of a b
+        → product_of d c ≡ product_of a (product_of b c) };
+
+    ghost product_of_sum: { (a b c d : Self) → Self.valid → d ≡ sum_of b c
+        → product_of a d ≡ sum_of (product_of a b) (product_of a c) };
+
+    ghost product_zero: { (a : Self) → Self.valid
+        → product_of a (value_of (pos 0)) ≡ value_of (pos 0) };
+
+    ghost shl_of_sum: { (a b c : Self) (t : Amount Self.BITS) → Self.valid → c ≡ sum_of a b
+        → shl_of c t ≡ sum_of (shl_of a t) (shl_of b t) };
 
     /// The sum, wrapped.
     final fn wrapping_add(self, rhs: Self) -> Self
@@ -128,8 +401,9 @@ pub trait FixedWidth: Integer + LowBits {
         ensures value { Self.number result ≡ wrap Self.IS_SIGNED Self.BITS (Self.number self +ℤ Self.number rhs) }
         ensures exact { InRange Self.IS_SIGNED Self.BITS (Self.number self +ℤ Self.number rhs) → Self.number result ≡ Self.number self +ℤ Self.number rhs }
         ensures congruent { Congruent Self.BITS (Self.number result) (Self.number self +ℤ Self.number rhs) }
-        ensures undo { (y : ℤ) → InRange Self.IS_SIGNED Self.BITS y → Self.number self ≡ wrapped_difference Self.IS_SIGNED Self.BITS y (Self.number rhs) → Self.number result ≡ y }
+        ensures undo { wrapped_difference Self.IS_SIGNED Self.BITS (Self.number result) (Self.number rhs) ≡ Self.number self }
         ensures range { InRange Self.IS_SIGNED Self.BITS (Self.number self) }
+        ensures operand { InRange Self.IS_SIGNED Self.BITS (Self.number rhs) }
     {
         Self::from_u128_bits(self.low_bits().wrapping_add(rhs.low_bits()))
     }
@@ -177,8 +451,9 @@ pub trait FixedWidth: Integer + LowBits {
         ensures value { Self.number result ≡ wrap Self.IS_SIGNED Self.BITS (Self.number self -ℤ Self.number rhs) }
         ensures exact { InRange Self.IS_SIGNED Self.BITS (Self.number self -ℤ Self.number rhs) → Self.number result ≡ Self.number self -ℤ Self.number rhs }
         ensures congruent { Congruent Self.BITS (Self.number result) (Self.number self -ℤ Self.number rhs) }
-        ensures undo { (y : ℤ) → InRange Self.IS_SIGNED Self.BITS y → Self.number self ≡ wrapped_sum Self.IS_SIGNED Self.BITS y (Self.number rhs) → Self.number result ≡ y }
+        ensures undo { wrapped_sum Self.IS_SIGNED Self.BITS (Self.number result) (Self.number rhs) ≡ Self.number self }
         ensures range { InRange Self.IS_SIGNED Self.BITS (Self.number self) }
+        ensures operand { InRange Self.IS_SIGNED Self.BITS (Self.number rhs) }
     {
         Self::from_u128_bits(self.low_bits().wrapping_sub(rhs.low_bits()))
     }
@@ -356,10 +631,11 @@ pub trait FixedWidth: Integer + LowBits {
     /// The bits moved `amount` modulo `BITS` places toward the high end: zeros come in below, and what passes the end is lost.
     final fn wrapping_shl(self, amount: u32) -> Self
         ensures operation { Self.number result ≡ shifted_left Self.IS_SIGNED Self.BITS (Self.number self) (amount % Self.BITS) }
-        ensures value { Self.number result ≡ val Self.IS_SIGNED (shl (bits Self.BITS (Self.number self)) (amount % Self.BITS)) }
+        ensures value { (y : ℤ) → Self.number self ≡ y → Self.number result ≡ val Self.IS_SIGNED (shl (bits Self.BITS y) (amount % Self.BITS)) }
         ensures plain { Self.IS_SIGNED ≡ false → Self.number result ≡ pos (unsigned_abs (Self.number self) * 2 ^ (amount % Self.BITS) % 2 ^ Self.BITS) }
         ensures exact { InRange Self.IS_SIGNED Self.BITS (Self.number self *ℤ pos (2 ^ (amount % Self.BITS))) → Self.number result ≡ Self.number self *ℤ pos (2 ^ (amount % Self.BITS)) }
         ensures congruent { (y : ℤ) → y ≡ Self.number self *ℤ pos (2 ^ (amount % Self.BITS)) → Congruent Self.BITS (Self.number result) y }
+        ensures operand { InRange Self.IS_SIGNED Self.BITS (Self.number self) }
     {
         let storage = self.to_storage();
         Self::from_storage(shifts::shl(storage, shifts::places(amount, Self::BITS), Self::BITS))
@@ -395,11 +671,12 @@ pub trait FixedWidth: Integer + LowBits {
     /// The bits moved `amount` modulo `BITS` places toward the low end: copies of the sign come in above, or zeros where the type has none.
     final fn wrapping_shr(self, amount: u32) -> Self
         ensures operation { Self.number result ≡ shifted_right Self.IS_SIGNED Self.BITS (Self.number self) (amount % Self.BITS) }
-        ensures value { Self.number result ≡ val Self.IS_SIGNED (shr (bits Self.BITS (Self.number self)) (amount % Self.BITS) (fill Self.IS_SIGNED (bits Self.BITS (Self.number self)))) }
+        ensures value { (y : ℤ) → Self.number self ≡ y → Self.number result ≡ val Self.IS_SIGNED (shr (bits Self.BITS y) (amount % Self.BITS) (fill Self.IS_SIGNED (bits Self.BITS y))) }
         ensures quotient { Self.IS_SIGNED ≡ false → Self.number result ≡ int_div (Self.number self) (pos (2 ^ (amount % Self.BITS))) }
         ensures low { (Self.number result *ℤ pos (2 ^ (amount % Self.BITS))) ≤ℤ Self.number self }
         ensures high { (y : ℤ) → Self.number self ≡ y → y <ℤ (Self.number result *ℤ pos (2 ^ (amount % Self.BITS)) +ℤ pos (2 ^ (amount % Self.BITS))) }
         ensures range { InRange Self.IS_SIGNED (Self.BITS - (amount % Self.BITS)) (Self.number result) }
+        ensures operand { InRange Self.IS_SIGNED Self.BITS (Self.number self) }
     {
         let storage = self.to_storage();
         Self::from_storage(shifts::shr(storage, shifts::places(amount, Self::BITS), Self::BITS))
@@ -440,8 +717,8 @@ pub trait FixedWidth: Integer + LowBits {
     /// below.
     final fn rotate_left(self, amount: u32) -> Self
         ensures operation { Self.number result ≡ rotated_left Self.IS_SIGNED Self.BITS (Self.number self) (amount % Self.BITS) }
-        ensures value { Self.number result ≡ val Self.IS_SIGNED (slice_rotate_right (bits Self.BITS (Self.number self)) (amount % Self.BITS)) }
-        ensures undo { (y : ℤ) → InRange Self.IS_SIGNED Self.BITS y → Self.number self ≡ val Self.IS_SIGNED (rotr (bits Self.BITS y) (amount % Self.BITS)) → Self.number result ≡ y }
+        ensures value { (y : ℤ) → Self.number self ≡ y → Self.number result ≡ val Self.IS_SIGNED (slice_rotate_right (bits Self.BITS y) (amount % Self.BITS)) }
+        ensures undo { rotated_right Self.IS_SIGNED Self.BITS (Self.number result) (amount % Self.BITS) ≡ Self.number self }
         ensures range { InRange Self.IS_SIGNED Self.BITS (Self.number self) }
     {
         Self::from_u128_bits(patterns::rotate_left(self.low_bits(), Self::BITS, amount))
@@ -451,8 +728,8 @@ pub trait FixedWidth: Integer + LowBits {
     /// above.
     final fn rotate_right(self, amount: u32) -> Self
         ensures operation { Self.number result ≡ rotated_right Self.IS_SIGNED Self.BITS (Self.number self) (amount % Self.BITS) }
-        ensures value { Self.number result ≡ val Self.IS_SIGNED (rotr (bits Self.BITS (Self.number self)) (amount % Self.BITS)) }
-        ensures undo { (y : ℤ) → InRange Self.IS_SIGNED Self.BITS y → Self.number self ≡ val Self.IS_SIGNED (slice_rotate_right (bits Self.BITS y) (amount % Self.BITS)) → Self.number result ≡ y }
+        ensures value { (y : ℤ) → Self.number self ≡ y → Self.number result ≡ val Self.IS_SIGNED (rotr (bits Self.BITS y) (amount % Self.BITS)) }
+        ensures undo { rotated_left Self.IS_SIGNED Self.BITS (Self.number result) (amount % Self.BITS) ≡ Self.number self }
         ensures range { InRange Self.IS_SIGNED Self.BITS (Self.number self) }
     {
         Self::from_u128_bits(patterns::rotate_right(self.low_bits(), Self::BITS, amount))
@@ -461,8 +738,8 @@ pub trait FixedWidth: Integer + LowBits {
     /// The bits from the high end to the low one.
     final fn reverse_bits(self) -> Self
         ensures operation { Self.number result ≡ reversed Self.IS_SIGNED Self.BITS (Self.number self) }
-        ensures value { Self.number result ≡ val Self.IS_SIGNED (reverse (bits Self.BITS (Self.number self))) }
-        ensures undo { (y : ℤ) → InRange Self.IS_SIGNED Self.BITS y → Self.number self ≡ val Self.IS_SIGNED (reverse (bits Self.BITS y)) → Self.number result ≡ y }
+        ensures value { (y : ℤ) → Self.number self ≡ y → Self.number result ≡ val Self.IS_SIGNED (reverse (bits Self.BITS y)) }
+        ensures undo { reversed Self.IS_SIGNED Self.BITS (Self.number result) ≡ Self.number self }
         ensures range { InRange Self.IS_SIGNED Self.BITS (Self.number self) }
     {
         Self::from_u128_bits(patterns::reverse_bits(self.low_bits(), Self::BITS))

@@ -12,6 +12,7 @@ pub mod exact;
 pub mod fields;
 pub mod former_names;
 pub mod generic;
+pub mod generic_calls;
 pub mod masks;
 pub mod mixed;
 pub mod order;

@@ -9,7 +9,7 @@ use Rattle.std.proofs.lemmas.List.{get_or-map, get_or-replicate}
 use Rattle.arbitrary_base.specs.BitList.{bits, val, bits_xor}
 use Rattle.arbitrary_base.specs.Operation.{bitwise_and, bitwise_not, bitwise_or, bitwise_xor}
 use Rattle.arbitrary_base.proofs.bit_lists.UnsignedNumber.{length-bits}
-use Rattle.arbitrary_base.proofs.bit_lists.Pointwise.{pointwise, and-same, not-not, xor-assoc, xor-none, xor-zeros}
+use Rattle.arbitrary_base.proofs.bit_lists.Pointwise.{pointwise, and-same, not-not, xor-assoc, xor-comm, xor-none, xor-zeros}
 use Rattle.arbitrary_base.proofs.operations.Definition.{and-is, or-is, xor-is, not-is, bits-and, bits-or, bits-xor, bits-not, bits-zero, of-bits, zero-in_range}
 
 -- one of B places. The type is shut, so that the search leaves a place whole
@@ -25,7 +25,7 @@ bit_at B x i = get_or (bits B x) i.0 false
 pub is_own_bits : Bool → ℕ → ℤ → Bool
 is_own_bits s B x = int_eq (val s (bits B x)) x
 
-own : (s : Bool) (B : ℕ) (x : ℤ) → is_own_bits s B x ≡ true → val s (bits B x) ≡ x
+pub own : (s : Bool) (B : ℕ) (x : ℤ) → is_own_bits s B x ≡ true → val s (bits B x) ≡ x
 unfolding is_own_bits
 own s B x h = (Decides-int_eq _ _).0 h
 
@@ -121,3 +121,12 @@ pub xor-twice : (s : Bool) (B : ℕ) (x y : ℤ) → is_own_bits s B x ≡ true 
 xor-twice s B x y h = xor-is s B _ y
     ∙ ap (val s) (ap (λ (l : List Bool). bits_xor l (bits B y)) (bits-xor s B x y) ∙ xor-list_twice (bits B x) (bits B y) (length-bits B x ∙ sym (length-bits B y)))
     ∙ own s B x h
+
+xor-zero_left : (s : Bool) (B : ℕ) (y : ℤ) → is_own_bits s B y ≡ true → bitwise_xor s B (pos 0) y ≡ y
+xor-zero_left s B y h = xor-is s B (pos 0) y
+    ∙ ap (val s) (ap (λ (l : List Bool). bits_xor l (bits B y)) (bits-zero B ∙ ap (λ (n : ℕ). replicate n false) (sym (length-bits B y)))
+    ∙ xor-comm (replicate (length (bits B y)) false) (bits B y) ∙ xor-zeros (bits B y))
+    ∙ own s B y h
+
+pub xor-none_equal : (s : Bool) (B : ℕ) (x y : ℤ) → is_own_bits s B x ≡ true → is_own_bits s B y ≡ true → bitwise_xor s B x y ≡ pos 0 → x ≡ y
+xor-none_equal s B x y h g e = sym (xor-twice s B x y h) ∙ ap (λ (z : ℤ). bitwise_xor s B z y) e ∙ xor-zero_left s B y g

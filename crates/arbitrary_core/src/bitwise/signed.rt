@@ -109,7 +109,7 @@ where
             × (val T.SIGNED (bits BITS rhs) ≡ rhs) }
         ensures plain { (m n : ℕ) → self ≡ pos m → rhs ≡ pos n → result ≡ pos (bit_xor m n) }
         ensures same { self ≡ rhs → result ≡ pos 0 }
-        ensures undo { (y : ℤ) → InRange T.SIGNED BITS y → self ≡ bitwise_xor T.SIGNED BITS y rhs → result ≡ y }
+        ensures undo { bitwise_xor T.SIGNED BITS result rhs ≡ self }
     {
         Int::<T, BITS>::from_bits(bitwise::xor(self.to_bits(), rhs.to_bits(), BITS))
     }
@@ -128,7 +128,7 @@ where
         ensures bits { self.new ≡ val T.SIGNED (bits_xor (bits BITS self.old) (bits BITS rhs)) }
         ensures operands { (val T.SIGNED (bits BITS self.old) ≡ self.old)
             × (val T.SIGNED (bits BITS rhs) ≡ rhs) }
-        ensures undo { (y : ℤ) → InRange T.SIGNED BITS y → self.old ≡ bitwise_xor T.SIGNED BITS y rhs → self.new ≡ y }
+        ensures undo { bitwise_xor T.SIGNED BITS self.new rhs ≡ self.old }
     {
         *self = *self ^ rhs;
     }

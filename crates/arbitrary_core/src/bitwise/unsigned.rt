@@ -92,7 +92,7 @@ impl<T: UnsignedStorage, const BITS: usize> BitXor<UInt<T, BITS>> for UInt<T, BI
             × (val T.SIGNED (bits BITS rhs) ≡ rhs) }
         ensures plain { result ≡ pos (bit_xor (unsigned_abs self) (unsigned_abs rhs)) }
         ensures same { self ≡ rhs → result ≡ pos 0 }
-        ensures undo { (y : ℤ) → InRange T.SIGNED BITS y → self ≡ bitwise_xor T.SIGNED BITS y rhs → result ≡ y }
+        ensures undo { bitwise_xor T.SIGNED BITS result rhs ≡ self }
     {
         UInt::new(bitwise::xor(self.value(), rhs.value(), BITS))
     }
@@ -107,7 +107,7 @@ impl<T: UnsignedStorage, const BITS: usize> BitXorAssign<UInt<T, BITS>> for UInt
         ensures bits { self.new ≡ val T.SIGNED (bits_xor (bits BITS self.old) (bits BITS rhs)) }
         ensures operands { (val T.SIGNED (bits BITS self.old) ≡ self.old)
             × (val T.SIGNED (bits BITS rhs) ≡ rhs) }
-        ensures undo { (y : ℤ) → InRange T.SIGNED BITS y → self.old ≡ bitwise_xor T.SIGNED BITS y rhs → self.new ≡ y }
+        ensures undo { bitwise_xor T.SIGNED BITS self.new rhs ≡ self.old }
     {
         *self = *self ^ rhs;
     }

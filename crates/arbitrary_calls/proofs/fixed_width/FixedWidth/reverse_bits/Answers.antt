@@ -1,6 +1,6 @@
-use Rattle.std.specs.Prelude.{◌≡◌, pos, reverse}
-use Rattle.std.proofs.Common.{sym, ◌∙◌}
-use Rattle.arbitrary_base.specs.BitList.{bits, num}
+use Rattle.std.specs.Prelude.{◌≡◌, pos, reverse, ℤ}
+use Rattle.std.proofs.Common.{sym, ◌∙◌, subst}
+use Rattle.arbitrary_base.specs.BitList.{bits, num, val}
 use Rattle.arbitrary_base.proofs.bit_lists.ResultOfPattern.{reverse-value}
 use Rattle.arbitrary_base.proofs.modular.Inverse.{reverse-undoes}
 use Rattle.arbitrary_base.proofs.operations.Definition.{reversed-is}
@@ -12,7 +12,7 @@ returns g c =
     let e = reverse-value g.Self.Integer.IS_SIGNED g.Self.Integer.BITS _ _ _ _ c.low_bits.ensures.value q c.from_u128_bits.ensures in
     record {
       operation = e ∙ sym (reversed-is _ _ _);
-      value = e;
-      undo = λ y f d. reverse-undoes _ _ _ _ y c.low_bits.ensures.some f d e;
+      value = λ y d. subst (λ (y : ℤ). g.Self.Integer.number c.from_u128_bits.result ≡ val g.Self.Integer.IS_SIGNED (reverse (bits g.Self.Integer.BITS y))) d e;
+      undo = reverse-undoes _ _ _ _ _ c.low_bits.ensures.some c.low_bits.ensures.range e (reversed-is _ _ _);
       range = c.low_bits.ensures.range;
     }

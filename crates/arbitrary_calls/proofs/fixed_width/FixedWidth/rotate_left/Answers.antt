@@ -1,10 +1,10 @@
-use Rattle.std.specs.Prelude.{◌≡◌, pos, ◌%◌, ◌≤◌}
+use Rattle.std.specs.Prelude.{◌≡◌, pos, ◌%◌, ◌≤◌, ℤ}
 use Rattle.std.specs.List.{slice_rotate_right}
-use Rattle.std.proofs.Common.{arith, sym, ◌∙◌}
-use Rattle.arbitrary_base.specs.BitList.{bits, num}
+use Rattle.std.proofs.Common.{arith, sym, ◌∙◌, subst}
+use Rattle.arbitrary_base.specs.BitList.{bits, num, val}
 use Rattle.arbitrary_base.proofs.bit_lists.ResultOfPattern.{rotl-value}
-use Rattle.arbitrary_base.proofs.modular.Inverse.{rotl-undoes}
-use Rattle.arbitrary_base.proofs.operations.Definition.{rotl-is}
+use Rattle.arbitrary_base.proofs.modular.Inverse.{rotr-undoes}
+use Rattle.arbitrary_base.proofs.operations.Definition.{rotl-is, rotr-is}
 use Rattle.arbitrary_calls.proofs.fixed_width.FixedWidth.rotate_left.Goals as goal
 
 pub returns : goal.returns
@@ -15,7 +15,7 @@ returns g c =
     let e = rotl-value g.Self.Integer.IS_SIGNED g.Self.Integer.BITS _ _ (c.args.amount % g.Self.Integer.BITS) _ _ c.low_bits.ensures.value q c.from_u128_bits.ensures in
     record {
       operation = e ∙ sym (rotl-is _ _ _ _);
-      value = e;
-      undo = λ y f d. rotl-undoes _ _ (c.args.amount % g.Self.Integer.BITS) _ _ y o l f d e;
+      value = λ y d. subst (λ (y : ℤ). g.Self.Integer.number c.from_u128_bits.result ≡ val g.Self.Integer.IS_SIGNED (slice_rotate_right (bits g.Self.Integer.BITS y) (c.args.amount % g.Self.Integer.BITS))) d e;
+      undo = rotr-undoes _ _ (c.args.amount % g.Self.Integer.BITS) _ _ _ o l c.low_bits.ensures.range e (rotr-is _ _ _ _);
       range = c.low_bits.ensures.range;
     }

@@ -1,9 +1,9 @@
-use Rattle.std.specs.Prelude.{◌≡◌, pos, ◌%◌, ◌≤◌}
-use Rattle.std.proofs.Common.{arith, sym, ◌∙◌}
-use Rattle.arbitrary_base.specs.BitList.{bits, num, rotr}
+use Rattle.std.specs.Prelude.{◌≡◌, pos, ◌%◌, ◌≤◌, ℤ}
+use Rattle.std.proofs.Common.{arith, sym, ◌∙◌, subst}
+use Rattle.arbitrary_base.specs.BitList.{bits, num, rotr, val}
 use Rattle.arbitrary_base.proofs.bit_lists.ResultOfPattern.{rotr-value}
-use Rattle.arbitrary_base.proofs.modular.Inverse.{rotr-undoes}
-use Rattle.arbitrary_base.proofs.operations.Definition.{rotr-is}
+use Rattle.arbitrary_base.proofs.modular.Inverse.{rotl-undoes}
+use Rattle.arbitrary_base.proofs.operations.Definition.{rotl-is, rotr-is}
 use Rattle.arbitrary_calls.proofs.fixed_width.FixedWidth.rotate_right.Goals as goal
 
 pub returns : goal.returns
@@ -14,7 +14,7 @@ returns g c =
     let e = rotr-value g.Self.Integer.IS_SIGNED g.Self.Integer.BITS _ _ (c.args.amount % g.Self.Integer.BITS) _ _ c.low_bits.ensures.value q c.from_u128_bits.ensures in
     record {
       operation = e ∙ sym (rotr-is _ _ _ _);
-      value = e;
-      undo = λ y f d. rotr-undoes _ _ (c.args.amount % g.Self.Integer.BITS) _ _ y o l f d e;
+      value = λ y d. subst (λ (y : ℤ). g.Self.Integer.number c.from_u128_bits.result ≡ val g.Self.Integer.IS_SIGNED (rotr (bits g.Self.Integer.BITS y) (c.args.amount % g.Self.Integer.BITS))) d e;
+      undo = rotl-undoes _ _ (c.args.amount % g.Self.Integer.BITS) _ _ _ o l c.low_bits.ensures.range e (rotl-is _ _ _ _);
       range = c.low_bits.ensures.range;
     }

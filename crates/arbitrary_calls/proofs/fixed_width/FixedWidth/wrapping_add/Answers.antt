@@ -1,6 +1,6 @@
 use Rattle.std.proofs.Common.{refl, sym, ◌∙◌}
 use Rattle.arbitrary_base.proofs.modular.LowBitSums.{sum-of_patterns}
-use Rattle.arbitrary_base.proofs.modular.Inverse.{add-undoes}
+use Rattle.arbitrary_base.proofs.modular.Inverse.{sub-undoes}
 use Rattle.arbitrary_base.proofs.modular.ExactOrCongruent.{wrapped-congruent, wrapped-exact}
 use Rattle.arbitrary_base.proofs.operations.Definition.{difference-is, sum-is}
 use Rattle.arbitrary_calls.proofs.fixed_width.FixedWidth.wrapping_add.Goals as goal
@@ -14,6 +14,7 @@ returns g c =
       value = e;
       exact = λ f. wrapped-exact _ _ _ _ o f e;
       congruent = wrapped-congruent _ _ _ _ e;
-      undo = λ y f d. add-undoes _ _ _ (g.Self.Integer.number c.args.rhs) _ y o f (d ∙ difference-is _ _ _ _) e;
+      undo = sub-undoes _ _ _ (g.Self.Integer.number c.args.rhs) _ _ o c.low_bits.ensures.range e (difference-is _ _ _ _);
       range = c.low_bits.ensures.range;
+      operand = c.low_bits-2.ensures.range;
     }

@@ -1,4 +1,4 @@
-use Rattle.std.specs.Prelude.{◌≡◌, Bool, ◌<◌, ◌%◌}
+use Rattle.std.specs.Prelude.{◌≡◌, Bool, ◌<◌, ◌%◌, ℤ}
 use Rattle.std.proofs.Common.{arith, subst, sym, ◌∙◌}
 use Rattle.arbitrary_base.specs.Range.{InRange}
 use Rattle.arbitrary_base.specs.Residue.{Congruent}
@@ -16,8 +16,9 @@ returns g c =
     let e : g.Self.Integer.number c.from_storage.result ≡ val g.Self.Integer.IS_SIGNED (shl (bits g.Self.Integer.BITS (g.Self.Integer.number c.args.self)) (c.args.amount % g.Self.Integer.BITS)) = cc in
     record {
       operation = e ∙ sym (left-is _ _ _ _);
-      value = e;
+      value = λ y d. subst (λ (y : ℤ). g.Self.Integer.number c.from_storage.result ≡ val g.Self.Integer.IS_SIGNED (shl (bits g.Self.Integer.BITS y) (c.args.amount % g.Self.Integer.BITS))) d e;
       plain = λ d. shl-plain _ _ _ _ _ d o l r e;
       exact = λ f. shl-stays _ _ _ _ _ o l f e;
       congruent = λ y d. subst (Congruent g.Self.Integer.BITS (g.Self.Integer.number c.from_storage.result)) (sym d) (shl-congruent _ _ _ _ _ o l e);
+      operand = r;
     }

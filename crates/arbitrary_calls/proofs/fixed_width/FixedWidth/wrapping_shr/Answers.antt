@@ -15,9 +15,10 @@ returns g c =
     let e : g.Self.Integer.number c.from_storage.result ≡ val g.Self.Integer.IS_SIGNED (shr (bits g.Self.Integer.BITS (g.Self.Integer.number c.args.self)) (c.args.amount % g.Self.Integer.BITS) (fill g.Self.Integer.IS_SIGNED (bits g.Self.Integer.BITS (g.Self.Integer.number c.args.self)))) = cc in
     record {
       operation = e ∙ sym (right-is _ _ _ _);
-      value = e;
+      value = λ y d. subst (λ (y : ℤ). g.Self.Integer.number c.from_storage.result ≡ val g.Self.Integer.IS_SIGNED (shr (bits g.Self.Integer.BITS y) (c.args.amount % g.Self.Integer.BITS) (fill g.Self.Integer.IS_SIGNED (bits g.Self.Integer.BITS y)))) d e;
       quotient = λ d. shr-quotient _ _ _ _ _ d o l r e;
       low = shr-low _ _ _ _ _ o l r e;
       high = λ y d. subst (λ (x : ℤ). x <ℤ (g.Self.Integer.number c.from_storage.result *ℤ pos (2 ^ (c.args.amount % g.Self.Integer.BITS)) +ℤ pos (2 ^ (c.args.amount % g.Self.Integer.BITS)))) d (shr-high _ _ _ _ _ o l r e);
       range = shr-range _ _ _ _ _ o l r e;
+      operand = r;
     }

@@ -24,5 +24,5 @@ returns g c =
       operands = (sym (of-bits _ _ _ c.to_bits.ensures.width.0 c.to_bits.ensures.self_range), sym (of-bits _ _ _ c.to_bits-2.ensures.width.0 c.to_bits-2.ensures.self_range));
       plain = naturals bit_xor _ _ _ (xor-plain _ _ _ _ _ w x y e);
       same = xor-same _ _ _ _ _ w e;
-      undo = λ z f d. xor-undoes _ _ _ _ _ z w f (d ∙ xor-is _ _ _ _) e;
+      undo = xor-undoes _ _ _ c.args.rhs _ _ w x e (xor-is _ _ _ _);
     }

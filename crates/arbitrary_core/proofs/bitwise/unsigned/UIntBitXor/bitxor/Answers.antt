@@ -21,5 +21,5 @@ returns g c =
       operands = (sym (of-bits _ _ _ c.value.ensures.width.0 c.value.ensures.range), sym (of-bits _ _ _ c.value-2.ensures.width.0 c.value-2.ensures.range));
       plain = xor-plain _ _ _ _ _ w x y e a b;
       same = xor-same _ _ _ _ _ w e;
-      undo = λ z f d. xor-undoes _ _ _ _ _ z w f (d ∙ xor-is _ _ _ _) e;
+      undo = xor-undoes _ _ _ c.args.rhs _ _ w x e (xor-is _ _ _ _);
     }

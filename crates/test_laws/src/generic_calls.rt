@@ -1,0 +1,139 @@
+//! Laws of sums, shifts, rotations, reversals, counts and runs in code that is generic in the type, and clauses over numbers there. They need no
+//! set.
+#![tactic(auto)]
+
+ghost use Rattle.std.specs.Prelude.{◌≡◌, IsTrue};
+ghost use Rattle.arbitrary_int.specs.Operation.{bitwise_and, bitwise_not, bitwise_or};
+
+use arbitrary_int::prelude::*;
+
+pub fn sum_associates<V: FixedWidth>(x: V, y: V, z: V) -> bool
+    requires { V.valid }
+    ensures { IsTrue result }
+{
+    x.wrapping_add(y).wrapping_add(z) == x.wrapping_add(y.wrapping_add(z))
+}
+
+pub fn difference_is_sum<V: FixedWidth>(x: V, y: V) -> bool
+    requires { V.valid }
+    ensures { IsTrue result }
+{
+    x.wrapping_sub(y) == x.wrapping_add(V::zero().wrapping_sub(y))
+}
+
+pub fn product_distributes<V: FixedWidth>(x: V, y: V, z: V) -> bool
+    requires { V.valid }
+    ensures { IsTrue result }
+{
+    x.wrapping_mul(y.wrapping_add(z)) == x.wrapping_mul(y).wrapping_add(x.wrapping_mul(z))
+}
+
+pub fn left_shift_of_sum<V: FixedWidth>(x: V, y: V) -> bool
+    requires { V.valid }
+    ensures { IsTrue result }
+{
+    x.wrapping_add(y).wrapping_shl(2) == x.wrapping_shl(2).wrapping_add(y.wrapping_shl(2))
+}
+
+pub fn right_shift_of_xor<V: FixedWidth>(x: V, y: V) -> bool
+    requires { V.valid }
+    ensures { IsTrue result }
+{
+    (x ^ y).wrapping_shr(2) == x.wrapping_shr(2) ^ y.wrapping_shr(2)
+}
+
+pub fn right_and_left_shift_mask<V: FixedWidth>(x: V) -> bool
+    requires { V.valid }
+    ensures { IsTrue result }
+{
+    x.wrapping_shr(2).wrapping_shl(2) == x & (!V::zero()).wrapping_shl(2)
+}
+
+pub fn right_shift_of_zero<V: FixedWidth>() -> bool
+    requires { V.valid }
+    ensures { IsTrue result }
+{
+    V::zero().wrapping_shr(3) == V::zero()
+}
+
+pub fn rotation_of_and<V: FixedWidth>(x: V, y: V) -> bool
+    requires { V.valid }
+    ensures { IsTrue result }
+{
+    (x & y).rotate_left(3) == x.rotate_left(3) & y.rotate_left(3)
+}
+
+pub fn rotation_by_none<V: FixedWidth>(x: V) -> bool
+    requires { V.valid }
+    ensures { IsTrue result }
+{
+    x.rotate_left(0) == x
+}
+
+pub fn rotation_there_and_back<V: FixedWidth>(x: V, amount: u32) -> bool
+    requires { V.valid }
+    ensures { IsTrue result }
+{
+    x.rotate_right(amount).rotate_left(amount) == x
+}
+
+pub fn reversal_of_rotation<V: FixedWidth>(x: V) -> bool
+    requires { V.valid }
+    ensures { IsTrue result }
+{
+    x.rotate_left(3).reverse_bits() == x.reverse_bits().rotate_right(3)
+}
+
+pub fn reversed_twice<V: FixedWidth>(x: V) -> bool
+    requires { V.valid }
+    ensures { IsTrue result }
+{
+    x.reverse_bits().reverse_bits() == x
+}
+
+pub fn ones_of_complement<V: FixedWidth>(x: V) -> bool
+    requires { V.valid }
+    ensures { IsTrue result }
+{
+    (!x).count_ones() == x.count_zeros()
+}
+
+pub fn ones_of_reversal<V: FixedWidth>(x: V) -> bool
+    requires { V.valid }
+    ensures { IsTrue result }
+{
+    x.reverse_bits().count_ones() == x.count_ones()
+}
+
+pub fn leading_ones_of_complement<V: FixedWidth>(x: V) -> bool
+    requires { V.valid }
+    ensures { IsTrue result }
+{
+    (!x).leading_ones() == x.leading_zeros()
+}
+
+pub fn leading_zeros_of_reversal<V: FixedWidth>(x: V) -> bool
+    requires { V.valid }
+    ensures { IsTrue result }
+{
+    x.reverse_bits().leading_zeros() == x.trailing_zeros()
+}
+
+pub fn sum_of_disjoint<V: FixedWidth>(x: V, y: V) -> bool
+    requires { V.valid }
+    ensures { IsTrue result }
+{
+    x & y != V::zero() || x.wrapping_add(y) == x | y
+}
+
+pub fn turned_and<V: FixedWidth>(x: V, y: V) -> V
+    ensures { V.number result ≡ bitwise_and V.IS_SIGNED V.BITS (V.number y) (V.number x) }
+{
+    x & y
+}
+
+pub fn complement_of_and<V: FixedWidth>(x: V, y: V) -> V
+    ensures { V.number result ≡ bitwise_or V.IS_SIGNED V.BITS (bitwise_not V.IS_SIGNED V.BITS (V.number x)) (bitwise_not V.IS_SIGNED V.BITS (V.number y)) }
+{
+    !(x & y)
+}
