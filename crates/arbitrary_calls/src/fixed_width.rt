@@ -62,8 +62,8 @@ pub trait FixedWidth: Integer + LowBits {
         → Self.number r ≡ bitwise_not Self.IS_SIGNED Self.BITS (Self.number a) };
 
     // For proofs in generic code, where the check knows of an operator or a call what these laws say, and takes no set beside them. They are
-    // over functions of values: a law on numbers would be tried at each number of equal value. None has a call in its conclusion that shows all
-    // variables and makes another of the same kind, or the search would not end: so some name a value twice, by an equation.
+    // over functions of values: a law on numbers would be tried at each number of equal value. But for those that turn operands round, none
+    // makes a call of the kind that fires it, or the search would not end: so some name a value twice, by an equation.
     ghost bit: { (a : Self) → Place Self.BITS → Bool };
 
     ghost value_of: { (x : ℤ) → Self };
@@ -71,10 +71,10 @@ pub trait FixedWidth: Integer + LowBits {
     ghost value_law: { (a : Self)
         → (Self.number a ≡ Self.number a) × (value_of (Self.number a) ≡ a) };
 
-    ghost equal_law: { (a b : Self) → (Self.eq a b ≡ Self.eq a b) × (Self.eq a b ≡ true
-        → a ≡ b) × (a ≡ b → Self.eq a b ≡ true) };
+    ghost equal_law: { (a b : Self) → (Self.eq a b ≡ Self.eq a b)
+        × (Self.eq a b ≡ true → a ≡ b) × (a ≡ b → Self.eq a b ≡ true) };
 
-    // Whether a value is that of its own bits, as each is that is no other number, and that value.
+    // Whether a value is the number that its bits have, as each in range is; and the value of that number.
     ghost fits: { (a : Self) → Bool };
 
     ghost fits_law: { (a : Self) → Self.valid → InRange Self.IS_SIGNED Self.BITS (Self.number a)
@@ -176,8 +176,8 @@ pub trait FixedWidth: Integer + LowBits {
 
     ghost xor_twice: { (a b c : Self) → c ≡ xor_of a b → fits a ≡ true → xor_of c b ≡ a };
 
-    ghost xor_none: { (a b : Self) → (xor_of a b ≡ xor_of a b) × (fits a ≡ true → fits b ≡ true → xor_of a b ≡ value_of (pos 0)
-        → a ≡ b) };
+    ghost xor_none: { (a b : Self) → (xor_of a b ≡ xor_of a b)
+        × (fits a ≡ true → fits b ≡ true → xor_of a b ≡ value_of (pos 0) → a ≡ b) };
 
     // Shifts.
     ghost shl_of: { (a : Self) → Amount Self.BITS → Self };
