@@ -4,7 +4,7 @@ use Rattle.std.proofs.lemmas.Bool.Decides.{Decides-int_eq}
 use Rattle.arbitrary_base.proofs.operations.Bitwise.{and-absorbs, and-distributes_or, and-distributes_xor, bitwise_and-associates, bitwise_and-commutes, bitwise_and-complement, bitwise_and-highest, bitwise_and-minus_one, bitwise_and-not_zero, bitwise_and-same, bitwise_and-zero, bitwise_not-twice, bitwise_not-zero, bitwise_not-zero_signed, bitwise_or-associates, bitwise_or-commutes, bitwise_or-complement, bitwise_or-highest, bitwise_or-minus_one, bitwise_or-not_zero, bitwise_or-same, bitwise_or-zero, bitwise_xor-associates, bitwise_xor-commutes, bitwise_xor-equal, bitwise_xor-highest, bitwise_xor-minus_one, bitwise_xor-not_zero, bitwise_xor-same, bitwise_xor-undoes, bitwise_xor-zero, not-and_parts, not-or_parts, not-xor_left, or-absorbs, or-distributes_and, xor-is_and}
 use Rattle.arbitrary_base.proofs.storages.Clamp.{clamp-fits}
 use Rattle.arbitrary_base.proofs.operations.Complement.{difference-by_not, difference-of_nots, difference-of_or, negated-is_sum, negated-not, not-is_difference, not-is_negated, not-of_before, not-of_difference, not-of_sum, sum-by_not, sum-of_parts, sum-with_not}
-use Rattle.arbitrary_base.proofs.operations.KnownMask.{and-below, and-by_complement, and-by_negative, and-congruent, and-digits, and-multiple, and-multiple_by_negative, and-of_cleared, and-of_set, and-run, and-within, or-by_and, xor-by_and}
+use Rattle.arbitrary_base.proofs.operations.KnownMask.{and-below, and-by_complement, and-by_negative, and-congruent, and-digits, and-digits_signed, and-multiple, and-multiple_by_negative, and-of_cleared, and-of_set, and-run, and-within, or-by_and, xor-by_and}
 use Rattle.arbitrary_base.proofs.operations.Mask.{and-or_of_not, and_not-is_xor, choice-is_xor, majority-is_xor, or-and_of_not, or-is_xor, or-of_parts, xor-is_or}
 use Rattle.arbitrary_base.proofs.operations.PopulationAndRuns.{front-of_highest, front-of_not_zero, front-of_reversed, front-of_zero, front_ones-of_not, front_zeros-of_not, popcount-of_highest, popcount-of_left, popcount-of_minus_one, popcount-of_not, popcount-of_reversed, popcount-of_right, popcount-of_zero, tail-of_highest, tail-of_not_zero, tail-of_reversed, tail-of_zero, tail_ones-of_not, tail_zeros-of_not, no_ones-of_zero, zero-of_no_ones, popcount-of_and, popcount-of_and_or, popcount-of_or}
 use Rattle.arbitrary_base.proofs.operations.BitsAndSums.{difference-of_and, difference-of_or_and, or-above, sum-of_disjoint, sum-of_or_and, sum-of_xor_and, sum-twice}
@@ -66,7 +66,7 @@ pub ruleset carries = (Decides-int_eq, sum-with_carry, sum-less_xor, sum-less_or
 pub ruleset order = (Decides-int_eq, le-tested, lt-tested, ge-tested, gt-tested, or-above, and-below_or, xor-below_or, or-below_sum, difference-below_xor, shifted_right-keeps_order, and-negative, or-negative, xor-negative, bitwise_and-commutes, bitwise_or-commutes, bitwise_xor-commutes)
 
 -- a number under a mask that is written out: what stays, what is cleared, set and turned over, in sums, multiples and remainders
-pub ruleset known_masks = (Decides-int_eq, and-digits, and-run, and-congruent, and-multiple, and-multiple_by_negative, and-within, and-below, and-by_complement, and-by_negative, or-by_and, xor-by_and, and-of_cleared, and-of_set)
+pub ruleset known_masks = (Decides-int_eq, and-digits, and-digits_signed, and-run, and-congruent, and-multiple, and-multiple_by_negative, and-within, and-below, and-by_complement, and-by_negative, or-by_and, xor-by_and, and-of_cleared, and-of_set)
 
 -- an operand that both sides of a test of equality have
 pub ruleset cancellations = (Decides-int_eq, sums-equal, differences-equal, differences_from-equal, xors-equal, nots-equal, reversals-equal, left_rotations-equal, right_rotations-equal, wrapped_sum-commutes, bitwise_xor-commutes)

@@ -34,3 +34,4 @@ pub mod steps;
 pub mod streams;
 pub mod structs;
 pub mod texts;
+pub mod undone;

@@ -1,7 +1,7 @@
 //! Numbers under a mask that is known, each fact in one function. None has a proof of its own: the file names one set of laws.
 #![tactic(auto, using(arbitrary_int::proofs::BitVector::known_masks))]
 
-ghost use Rattle.std.specs.Prelude.{◌≡◌, ◌↔◌, ◌/◌, ◌%◌, ◌*◌, ◌+ℤ◌, ◌*ℤ◌, ◌≤ℤ◌, ◌<ℤ◌, pos, int_div, unsigned_abs, IsTrue};
+ghost use Rattle.std.specs.Prelude.{◌≡◌, ◌↔◌, ◌/◌, ◌%◌, ◌*◌, ◌+ℤ◌, ◌-ℤ◌, ◌*ℤ◌, ◌≤ℤ◌, ◌<ℤ◌, pos, int_div, unsigned_abs, IsTrue};
 ghost use Rattle.std.specs.Int.{int_rem_euclid};
 ghost use Rattle.arbitrary_int.specs.Residue.{Congruent};
 
@@ -73,6 +73,13 @@ pub fn field(x: u24) -> u24
     (x & u24::new(0xF00)) >> 8
 }
 
+pub fn field_from_zero_on(x: i24) -> i24
+    requires { pos 0 ≤ℤ x }
+    ensures { result ≡ pos (unsigned_abs x / 16 % 16 * 16) }
+{
+    x & i24::new(0xF0)
+}
+
 pub fn small(x: i48) -> i48
     ensures low { pos 0 ≤ℤ result }
     ensures high { result ≤ℤ pos 0xA5 }
@@ -90,6 +97,13 @@ pub fn bit(x: u12) -> bool
 
 pub fn odd(x: i12) -> bool
     ensures { IsTrue result ↔ (int_rem_euclid x (pos 2) ≡ pos 1) }
+{
+    x & i12::new(1) == i12::new(1)
+}
+
+pub fn odd_from_zero_on(x: i12) -> bool
+    requires { pos 0 ≤ℤ x }
+    ensures { IsTrue result ↔ (x -ℤ pos 2 *ℤ int_div x (pos 2) ≡ pos 1) }
 {
     x & i12::new(1) == i12::new(1)
 }

@@ -1,5 +1,5 @@
 -- The laws of numbers under a mask that is known: what stays, what is cleared, set and turned over, in sums, multiples and remainders.
-use Rattle.std.specs.Prelude.{◌≡◌, ℕ, ℤ, Bool, true, false, not, ◌&&◌, ◌||◌, pos, negsuc, int_lt, unsigned_abs, ◌≤◌, ◌<◌, ◌+◌, ◌-◌, ◌*◌, ◌/◌, ◌%◌, ◌^◌, ◌≤ℤ◌, ◌+ℤ◌, ◌-ℤ◌, ◌*ℤ◌}
+use Rattle.std.specs.Prelude.{◌≡◌, ℕ, ℤ, Bool, true, false, not, ◌&&◌, ◌||◌, pos, negsuc, int_lt, unsigned_abs, ◌≤◌, ◌<◌, ◌+◌, ◌-◌, ◌*◌, ◌/◌, ◌%◌, ◌^◌, ◌≤ℤ◌, ◌+ℤ◌, ◌-ℤ◌}
 use Rattle.std.specs.Bool.{beq}
 use Rattle.std.specs.Int.Bits.{bit_and}
 use Rattle.std.proofs.Common.{refl, sym, ap, ap₂, subst, ◌∙◌, arith, div-add-mod', lt_of_le_of_lt, mod-eq_of_lt, mod-lt, pow-add}
@@ -212,6 +212,15 @@ and-digits B n x h f g l e =
     let j = bit_length 128 n - k in
     and-natural false B n x h g ∙ ap pos (and-of_run (num (bits B x)) n k (bit_length 128 n) l e)
     ∙ ap (λ (N : ℕ). pos (N / 2 ^ k % 2 ^ j * 2 ^ k)) (num-plain false B x f f.low)
+
+-- the same where there is a sign and x is not below 0
+pub and-digits_signed : (B n : ℕ) (x : ℤ) → 1 ≤ B → InRange true B x → pos 0 ≤ℤ x → pos n ≤ℤ hi true B → low_zeros 128 n ≤ bit_length 128 n → n + 2 ^ low_zeros 128 n ≡ 2 ^ bit_length 128 n
+    → bitwise_and true B x (pos n) ≡ pos (unsigned_abs x / 2 ^ low_zeros 128 n % 2 ^ (bit_length 128 n - low_zeros 128 n) * 2 ^ low_zeros 128 n)
+and-digits_signed B n x h f z g l e =
+    let k = low_zeros 128 n in
+    let j = bit_length 128 n - k in
+    and-natural true B n x h g ∙ ap pos (and-of_run (num (bits B x)) n k (bit_length 128 n) l e)
+    ∙ ap (λ (N : ℕ). pos (N / 2 ^ k % 2 ^ j * 2 ^ k)) (num-plain true B x f z)
 
 -- where there is a sign: z is the field of x, b over it, and r under it
 pub and-run : (B n : ℕ) (x : ℤ) → 1 ≤ B → pos n ≤ℤ hi true B → bit_length 128 n ≤ B → low_zeros 128 n ≤ bit_length 128 n → n + 2 ^ low_zeros 128 n ≡ 2 ^ bit_length 128 n

@@ -1,0 +1,47 @@
+//! An operand that is known to come from a call, and the call that undoes it, each fact in one function. A function names the set of
+//! its word.
+
+ghost use Rattle.std.specs.Prelude.{◌≡◌, false};
+ghost use Rattle.arbitrary_int.specs.Operation.{bitwise_xor, reversed, rotated_right, wrapped_difference, wrapped_sum};
+
+use arbitrary_int::prelude::*;
+
+#[tactic(auto, using(arbitrary_int::proofs::BitVector::ring))]
+pub fn sum(c: u12, p: u12, k: u12) -> u12
+    requires { c ≡ wrapped_sum false 12 p k }
+    ensures { result ≡ p }
+{
+    c.wrapping_sub(k)
+}
+
+#[tactic(auto, using(arbitrary_int::proofs::BitVector::ring))]
+pub fn difference(c: u12, p: u12, k: u12) -> u12
+    requires { c ≡ wrapped_difference false 12 p k }
+    ensures { result ≡ p }
+{
+    c.wrapping_add(k)
+}
+
+#[tactic(auto, using(arbitrary_int::proofs::BitVector::bits))]
+pub fn exclusive_or(c: u12, p: u12, k: u12) -> u12
+    requires { c ≡ bitwise_xor false 12 p k }
+    ensures { result ≡ p }
+{
+    c ^ k
+}
+
+#[tactic(auto, using(arbitrary_int::proofs::BitVector::rotations))]
+pub fn left_rotation(c: u12, p: u12) -> u12
+    requires { c ≡ rotated_right false 12 p 5 }
+    ensures { result ≡ p }
+{
+    c.rotate_left(5)
+}
+
+#[tactic(auto, using(arbitrary_int::proofs::BitVector::reversals))]
+pub fn reversal(c: u12, p: u12) -> u12
+    requires { c ≡ reversed false 12 p }
+    ensures { result ≡ p }
+{
+    c.reverse_bits()
+}
