@@ -1,54 +1,65 @@
 #!/usr/bin/env python3
 """refused_memory.py
 
-Runs `bitrun` with its first growth of memory refused, then with its second, and so on until a run meets none. Each run
-before that has to print the fault alone and end with status 3, and the last has to do as if nothing had been refused.
-The growths are refused by `rt try --fail-alloc`, which builds the program for each run: that takes 10 to 20 seconds each time.
+Runs `bitrun` on each input with its first growth of memory refused, then with its second, and so on until a run meets none.
+Each run before that has to print the fault alone and end with status 3, and the last has to do as if nothing had been refused.
+The growths are refused by `rt try --fail-alloc`, which builds the program for each growth: that takes 10 to 20 seconds each time.
 """
-import os
 import re
 import subprocess
 import sys
+import tempfile
 from concurrent.futures import ThreadPoolExecutor
+from pathlib import Path
 
 from program import ROOT
 
 # What stands in the input, what is printed for it, and the status.
-ROWS = [
-    (b'run u7\n100 50 0\nwadd 2 0 1\nwadd 3 0 1\n', b'fault: line 4\n', 2),
-    (b'wide u14 i7\n200 300\nwmul 0 0 1\nnot 1 1\n', b'10848 16083\n-32 -45\ndone\n', 0),
-]
+ROWS = {
+    'refused': (b'run u7\n100 50 0\nwadd 2 0 1\nwadd 3 0 1\n', b'fault: line 4\n', 2),
+    'wide': (b'wide u14 i7\n200 300\nwmul 0 0 1\nnot 1 1\n', b'10848 16083\n-32 -45\ndone\n', 0),
+}
 REFUSED = b'fault: memory\n', 3
 # More growths than any of these inputs takes.
 MOST = 40
 
 
-def ending(data, growth):
-    """What is printed and the status, where that growth is refused. The first is number 1."""
-    words = ['rt', 'try', '--fail-alloc', str(growth)]
-    done = subprocess.run(words, cwd=ROOT / 'crates/bitrun', input=data, capture_output=True)
-    ended = re.search(rb'^run=ended status=(\d+) ', done.stderr, re.M)
-    if not ended:
+def endings(growth):
+    """What is printed for each input, and the status, where that growth is refused. The first is number 1."""
+    with tempfile.TemporaryDirectory() as folder:
+        for name, (data, _, _) in ROWS.items():
+            Path(folder, name).write_bytes(data)
+        words = ['rt', 'try', '--fail-alloc', str(growth), '--cases', folder]
+        done = subprocess.run(words, cwd=ROOT / 'crates/bitrun', capture_output=True)
+    statuses = dict(re.findall(rb'^case=(\w+) run=ended status=(\d+) ', done.stderr, re.M))
+    printed = dict(re.findall(rb'^== (\w+)\n((?:(?!== ).*\n)*)', done.stdout, re.M))
+    try:
+        return {name: (printed[name.encode()], int(statuses[name.encode()])) for name in ROWS}
+    except KeyError:
         sys.exit(f'rt try did not run the program:\n{done.stderr.decode()}')
-    return done.stdout, int(ended[1])
 
 
 def main():
+    # of each input, how many growths were refused, and how the run ended that met none
+    refused, ended = dict.fromkeys(ROWS, 0), {}
+    with ThreadPoolExecutor(3) as pool:
+        # asked for three at a time, until none is refused
+        for first in range(1, MOST, 3):
+            for found in pool.map(endings, range(first, first + 3)):
+                for name in ROWS.keys() - ended.keys():
+                    if found[name] == REFUSED:
+                        refused[name] += 1
+                    else:
+                        ended[name] = found[name]
+            if len(ended) == len(ROWS):
+                break
     failed = 0
-    with ThreadPoolExecutor(os.cpu_count()) as pool:
-        for data, printed, status in ROWS:
-            # asked for some at a time, until one is not refused
-            growth, found = 0, REFUSED
-            while found == REFUSED and growth < MOST:
-                for found in pool.map(lambda it: ending(data, it), range(growth + 1, growth + 5)):
-                    if found != REFUSED:
-                        break
-                    growth += 1
-            if growth == 0 or found != (printed, status):
-                failed += 1
-                print(f'on {data}, where growth {growth + 1} is refused: {found}, should be {(printed, status)}')
-            else:
-                print(f'{growth} growths of memory refused, one at a time, on {data}')
+    for name, (data, printed, status) in ROWS.items():
+        if refused[name] == 0 or ended.get(name) != (printed, status):
+            failed += 1
+            print(f'on {data}, where growth {refused[name] + 1} is refused: {ended.get(name)}, should be {(printed, status)}')
+        else:
+            print(f'{refused[name]} growths of memory refused, one at a time, on {data}')
     return 1 if failed else 0
 
 
