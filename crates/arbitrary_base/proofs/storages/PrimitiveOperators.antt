@@ -1,5 +1,5 @@
 -- How the operators of the primitives, as std tells them, speak of numbers: the impls of `arbitrary_traits` cite these.
-use Rattle.std.specs.Prelude.{◌≡◌, ◌≢◌, ◌-◌, ◌^◌, ◌<◌, ◌≤◌, ◌-ℤ◌, ℕ, ℤ, zero, suc, pos, negsuc, true, false, nat_eq}
+use Rattle.std.specs.Prelude.{◌≡◌, ◌≢◌, ◌-◌, ◌^◌, ◌<◌, ◌≤◌, ◌-ℤ◌, ℕ, ℤ, zero, suc, pos, negsuc, int_div, FitsSigned, true, false, nat_eq}
 use Rattle.std.specs.Int.{Width, IsNonZero}
 use Rattle.std.specs.Ordering.{int_eq}
 use Rattle.std.proofs.Common.{arith, refl}
@@ -26,6 +26,10 @@ pub nonzero-pos : (n : ℕ) → pos n ≢ pos 0 → 0 < n
 nonzero-pos zero h = absurd (h refl)
 nonzero-pos (suc n) h = omega arith
 
-pub signed-nonzero : (w : Width) (x : ℤ) → InRange true (bits w) x → x ≢ pos 0 → IsNonZero w x
+signed-nonzero : (w : Width) (x : ℤ) → InRange true (bits w) x → x ≢ pos 0 → IsNonZero w x
 signed-nonzero w (pos n) f h = nonzero-pos n h
 signed-nonzero w (negsuc n) f h = let s = signed-fits w (negsuc n) f in let p = pow_bits w in omega (arith, ints)
+
+-- what a primitive's quotient needs, from that it is in range
+pub signed-divides : (w : Width) (a b : ℤ) → InRange true (bits w) b → b ≢ pos 0 → InRange true (bits w) (int_div a b) → IsNonZero w b × FitsSigned w (int_div a b)
+signed-divides w a b f n g = (signed-nonzero w b f n, signed-fits w (int_div a b) g)

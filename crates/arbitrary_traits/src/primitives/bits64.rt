@@ -1,10 +1,10 @@
 //! What the operators of the integers of 64 bits do.
 
-ghost use Rattle.std.specs.Prelude.{◌+◌, ◌*◌, ◌+ℤ◌, ◌-ℤ◌, ◌*ℤ◌, pos, neg_ℤ, int_div, refl};
+ghost use Rattle.std.specs.Prelude.{◌+◌, ◌*◌, ◌+ℤ◌, ◌-ℤ◌, ◌*ℤ◌, pos, neg_ℤ, refl};
 ghost use Rattle.std.specs.Int.{w64};
 ghost use Rattle.std.proofs.Common.{ap};
 ghost use Rattle.arbitrary_traits.specs.Assigned.{is_assigned};
-ghost use Rattle.arbitrary_base.proofs.storages.PrimitiveOperators.{lt-of_in_range, nat_eq-pos, nonzero-pos, signed-fits, signed-nonzero, sub-in_range, sub-pos};
+ghost use Rattle.arbitrary_base.proofs.storages.PrimitiveOperators.{lt-of_in_range, nat_eq-pos, nonzero-pos, signed-divides, signed-fits, sub-in_range, sub-pos};
 ghost use Rattle.arbitrary_base.proofs.storages.PrimitiveBits.{bitand-signed, bitand-unsigned, bitor-signed, bitor-unsigned, bitxor-signed, bitxor-unsigned, not-signed, not-unsigned};
 
 use crate::integer::{SignedInteger, UnsignedInteger};
@@ -79,7 +79,7 @@ impl Primitive for i64 {
 
     ghost mul_law = { λ a b r h f. h };
 
-    ghost can_div_law = { λ a b f n g. (signed-nonzero w64 b f n, signed-fits w64 (int_div a b) g) };
+    ghost can_div_law = { signed-divides w64 };
 
     ghost div_law = { λ a b r h. h };
 
