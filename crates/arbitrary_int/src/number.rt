@@ -1,7 +1,7 @@
 //! Unsigned integers as the first version of the original crate saw them. New code takes `Integer`, which has
 //! the same calls and signed integers too.
 
-ghost use Rattle.std.specs.Prelude.{◌≡◌, ℕ, pos, false, refl, MatchResult};
+ghost use Rattle.std.specs.Prelude.{◌≡◌, ◌≤◌, ℕ, pos, false, refl, MatchResult};
 ghost use Rattle.arbitrary_base.specs.Range.{lo, hi, InRange};
 ghost use Rattle.arbitrary_base.specs.Residue.{wrap};
 
@@ -81,49 +81,56 @@ pub trait Number: UnsignedInteger + Integer<UnderlyingType = <Self as Number>::U
     /// The truncation of `value` at this width: high bits are dropped. The width is valid.
     final fn masked_new<T: Number>(value: T) -> Self
         requires { Self.valid }
-        ensures { Self.number result ≡ wrap Self.IS_SIGNED Self.Integer.BITS (T.number value) }
+        ensures value { Self.number result ≡ wrap Self.IS_SIGNED Self.Integer.BITS (T.number value) }
+        ensures wider { T.Integer.BITS ≤ Self.Integer.BITS → Self.number result ≡ T.number value }
     {
         <Self as Integer>::masked_new(value)
     }
 
     /// The low 8 bits.
     final fn as_u8(&self) -> u8
-        ensures { pos result ≡ wrap false 8 (Self.number self.now) }
+        ensures value { pos result ≡ wrap false 8 (Self.number self.now) }
+        ensures wider { Self.Integer.BITS ≤ 8 → pos result ≡ Self.number self.now }
     {
         Integer::as_u8(*self)
     }
 
     /// The low 16 bits.
     final fn as_u16(&self) -> u16
-        ensures { pos result ≡ wrap false 16 (Self.number self.now) }
+        ensures value { pos result ≡ wrap false 16 (Self.number self.now) }
+        ensures wider { Self.Integer.BITS ≤ 16 → pos result ≡ Self.number self.now }
     {
         Integer::as_u16(*self)
     }
 
     /// The low 32 bits.
     final fn as_u32(&self) -> u32
-        ensures { pos result ≡ wrap false 32 (Self.number self.now) }
+        ensures value { pos result ≡ wrap false 32 (Self.number self.now) }
+        ensures wider { Self.Integer.BITS ≤ 32 → pos result ≡ Self.number self.now }
     {
         Integer::as_u32(*self)
     }
 
     /// The low 64 bits.
     final fn as_u64(&self) -> u64
-        ensures { pos result ≡ wrap false 64 (Self.number self.now) }
+        ensures value { pos result ≡ wrap false 64 (Self.number self.now) }
+        ensures wider { Self.Integer.BITS ≤ 64 → pos result ≡ Self.number self.now }
     {
         Integer::as_u64(*self)
     }
 
     /// The low 128 bits.
     final fn as_u128(&self) -> u128
-        ensures { pos result ≡ wrap false 128 (Self.number self.now) }
+        ensures value { pos result ≡ wrap false 128 (Self.number self.now) }
+        ensures wider { Self.Integer.BITS ≤ 128 → pos result ≡ Self.number self.now }
     {
         Integer::as_u128(*self)
     }
 
     /// The low 64 bits.
     final fn as_usize(&self) -> usize
-        ensures { pos result ≡ wrap false 64 (Self.number self.now) }
+        ensures value { pos result ≡ wrap false 64 (Self.number self.now) }
+        ensures wider { Self.Integer.BITS ≤ 64 → pos result ≡ Self.number self.now }
     {
         Integer::as_usize(*self)
     }
@@ -131,7 +138,8 @@ pub trait Number: UnsignedInteger + Integer<UnderlyingType = <Self as Number>::U
     /// `T::masked_new` of the value. The width of `T` is valid.
     final fn as_<T: Number>(self) -> T
         requires { T.valid }
-        ensures { T.number result ≡ wrap T.IS_SIGNED T.Integer.BITS (Self.number self) }
+        ensures value { T.number result ≡ wrap T.IS_SIGNED T.Integer.BITS (Self.number self) }
+        ensures wider { Self.Integer.BITS ≤ T.Integer.BITS → T.number result ≡ Self.number self }
     {
         <T as Integer>::masked_new(self)
     }

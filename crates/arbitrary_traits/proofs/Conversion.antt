@@ -6,7 +6,7 @@ use Rattle.std.proofs.lemmas.Nat.{pow_pos}
 use Rattle.arbitrary_base.specs.Range.{InRange}
 use Rattle.arbitrary_base.specs.Residue.{residue, wrap}
 use Rattle.arbitrary_base.proofs.modular.Congruence.{pow_le}
-use Rattle.arbitrary_base.proofs.modular.Truncation.{wrap-residue}
+use Rattle.arbitrary_base.proofs.modular.Truncation.{InRange-signed, wrap-residue}
 use Rattle.arbitrary_base.proofs.storages.Primitive.{residue-pos}
 use Rattle.arbitrary_base.proofs.modular.ExactOrCongruent.{wrapped-congruent}
 
@@ -15,6 +15,8 @@ pub wrap-to_u128_bits : (s : Bool) (B p : ℕ) (x z : ℤ) → (1 ≤ B) × (B �
 wrap-to_u128_bits s B p x z h e f = wrap-residue s B p x z h.0 h.1 e f
 
 pub ruleset conversions = (wrap-to_u128_bits)
+
+pub ruleset wider_types = (InRange-signed)
 
 -- the truncation of x at a width that is known to be B
 pub wrap-at : (s : Bool) {W B : ℕ} (x : ℤ) {z : ℤ} → W ≡ B → z ≡ wrap s W x → z ≡ wrap s B x

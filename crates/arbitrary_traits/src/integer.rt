@@ -2,7 +2,7 @@
 //! meet it in `primitives`, and `UInt` and `Int` in `arbitrary_core`. A new call is final over those that a type has to
 //! give, so that no impl changes; a new required one needs a body in each of them.
 
-ghost use Rattle.std.specs.Prelude.{◌≡◌, ◌≢◌, ◌≤◌, ◌+ℤ◌, ◌-ℤ◌, ◌*ℤ◌, ℕ, ℤ, Bool, true, false, pos, neg_ℤ, Some, MatchResult, int_div, map, not};
+ghost use Rattle.std.specs.Prelude.{◌≡◌, ◌≢◌, ◌≤◌, ◌<◌, ◌+ℤ◌, ◌-ℤ◌, ◌*ℤ◌, ℕ, ℤ, Bool, true, false, pos, neg_ℤ, Some, MatchResult, int_div, map, not};
 ghost use Rattle.std.specs.Ordering.{int_cmp, int_eq};
 ghost use Rattle.std.specs.Fmt.{signed_decimal};
 ghost use Rattle.arbitrary_base.specs.Range.{lo, hi, InRange};
@@ -156,7 +156,11 @@ pub trait Integer: Copy
         requires { valid }
         ensures value { number result ≡ wrap IS_SIGNED BITS (T.number value) }
         ensures exact { InRange IS_SIGNED BITS (T.number value) → number result ≡ T.number value }
-        ensures congruent { Congruent BITS (number result) (T.number value) }
+        ensures as_wide { T.IS_SIGNED ≡ IS_SIGNED → T.BITS ≤ BITS → number result ≡ T.number value }
+        ensures wider { T.IS_SIGNED ≡ false → T.BITS < BITS → number result ≡ T.number value }
+        ensures narrower { BITS ≤ T.BITS → Congruent BITS (number result) (T.number value) }
+        ensures other_sign { T.IS_SIGNED ≡ not IS_SIGNED → Congruent BITS (number result) (T.number value) }
+        ensures congruent { (y : ℤ) → T.number value ≡ y → Congruent BITS (number result) y }
         ensures range { InRange T.IS_SIGNED T.BITS (T.number value) }
         ensures width { T.valid }
     {
@@ -168,7 +172,11 @@ pub trait Integer: Copy
         requires { T.valid }
         ensures value { T.number result ≡ wrap T.IS_SIGNED T.BITS (number self) }
         ensures exact { InRange T.IS_SIGNED T.BITS (number self) → T.number result ≡ number self }
-        ensures congruent { Congruent T.BITS (T.number result) (number self) }
+        ensures as_wide { IS_SIGNED ≡ T.IS_SIGNED → BITS ≤ T.BITS → T.number result ≡ number self }
+        ensures wider { IS_SIGNED ≡ false → BITS < T.BITS → T.number result ≡ number self }
+        ensures narrower { T.BITS ≤ BITS → Congruent T.BITS (T.number result) (number self) }
+        ensures other_sign { IS_SIGNED ≡ not T.IS_SIGNED → Congruent T.BITS (T.number result) (number self) }
+        ensures congruent { (y : ℤ) → number self ≡ y → Congruent T.BITS (T.number result) y }
         ensures range { InRange IS_SIGNED BITS (number self) }
         ensures width { valid }
     {
@@ -179,7 +187,10 @@ pub trait Integer: Copy
     final fn as_u8(self) -> u8
         ensures value { pos result ≡ wrap false 8 (number self) }
         ensures exact { InRange false 8 (number self) → pos result ≡ number self }
-        ensures congruent { Congruent 8 (pos result) (number self) }
+        ensures wider { IS_SIGNED ≡ false → BITS ≤ 8 → pos result ≡ number self }
+        ensures narrower { 8 < BITS → Congruent 8 (pos result) (number self) }
+        ensures signed { IS_SIGNED ≡ true → Congruent 8 (pos result) (number self) }
+        ensures congruent { (y : ℤ) → number self ≡ y → Congruent 8 (pos result) y }
         ensures range { InRange IS_SIGNED BITS (number self) }
         ensures width { valid }
     {
@@ -190,7 +201,10 @@ pub trait Integer: Copy
     final fn as_u16(self) -> u16
         ensures value { pos result ≡ wrap false 16 (number self) }
         ensures exact { InRange false 16 (number self) → pos result ≡ number self }
-        ensures congruent { Congruent 16 (pos result) (number self) }
+        ensures wider { IS_SIGNED ≡ false → BITS ≤ 16 → pos result ≡ number self }
+        ensures narrower { 16 < BITS → Congruent 16 (pos result) (number self) }
+        ensures signed { IS_SIGNED ≡ true → Congruent 16 (pos result) (number self) }
+        ensures congruent { (y : ℤ) → number self ≡ y → Congruent 16 (pos result) y }
         ensures range { InRange IS_SIGNED BITS (number self) }
         ensures width { valid }
     {
@@ -201,7 +215,10 @@ pub trait Integer: Copy
     final fn as_u32(self) -> u32
         ensures value { pos result ≡ wrap false 32 (number self) }
         ensures exact { InRange false 32 (number self) → pos result ≡ number self }
-        ensures congruent { Congruent 32 (pos result) (number self) }
+        ensures wider { IS_SIGNED ≡ false → BITS ≤ 32 → pos result ≡ number self }
+        ensures narrower { 32 < BITS → Congruent 32 (pos result) (number self) }
+        ensures signed { IS_SIGNED ≡ true → Congruent 32 (pos result) (number self) }
+        ensures congruent { (y : ℤ) → number self ≡ y → Congruent 32 (pos result) y }
         ensures range { InRange IS_SIGNED BITS (number self) }
         ensures width { valid }
     {
@@ -212,7 +229,10 @@ pub trait Integer: Copy
     final fn as_u64(self) -> u64
         ensures value { pos result ≡ wrap false 64 (number self) }
         ensures exact { InRange false 64 (number self) → pos result ≡ number self }
-        ensures congruent { Congruent 64 (pos result) (number self) }
+        ensures wider { IS_SIGNED ≡ false → BITS ≤ 64 → pos result ≡ number self }
+        ensures narrower { 64 < BITS → Congruent 64 (pos result) (number self) }
+        ensures signed { IS_SIGNED ≡ true → Congruent 64 (pos result) (number self) }
+        ensures congruent { (y : ℤ) → number self ≡ y → Congruent 64 (pos result) y }
         ensures range { InRange IS_SIGNED BITS (number self) }
         ensures width { valid }
     {
@@ -223,7 +243,10 @@ pub trait Integer: Copy
     final fn as_u128(self) -> u128
         ensures value { pos result ≡ wrap false 128 (number self) }
         ensures exact { InRange false 128 (number self) → pos result ≡ number self }
-        ensures congruent { Congruent 128 (pos result) (number self) }
+        ensures wider { IS_SIGNED ≡ false → BITS ≤ 128 → pos result ≡ number self }
+        ensures narrower { 128 < BITS → Congruent 128 (pos result) (number self) }
+        ensures signed { IS_SIGNED ≡ true → Congruent 128 (pos result) (number self) }
+        ensures congruent { (y : ℤ) → number self ≡ y → Congruent 128 (pos result) y }
         ensures range { InRange IS_SIGNED BITS (number self) }
         ensures width { valid }
     {
@@ -234,7 +257,10 @@ pub trait Integer: Copy
     final fn as_usize(self) -> usize
         ensures value { pos result ≡ wrap false 64 (number self) }
         ensures exact { InRange false 64 (number self) → pos result ≡ number self }
-        ensures congruent { Congruent 64 (pos result) (number self) }
+        ensures wider { IS_SIGNED ≡ false → BITS ≤ 64 → pos result ≡ number self }
+        ensures narrower { 64 < BITS → Congruent 64 (pos result) (number self) }
+        ensures signed { IS_SIGNED ≡ true → Congruent 64 (pos result) (number self) }
+        ensures congruent { (y : ℤ) → number self ≡ y → Congruent 64 (pos result) y }
         ensures range { InRange IS_SIGNED BITS (number self) }
         ensures width { valid }
     {
@@ -242,10 +268,13 @@ pub trait Integer: Copy
     }
 
     /// The low 8 bits, in two's complement.
+    #[tactic(auto, using(crate::proofs::Conversion::wider_types))]
     final fn as_i8(self) -> i8
         ensures value { result ≡ wrap true 8 (number self) }
         ensures exact { InRange true 8 (number self) → result ≡ number self }
-        ensures congruent { Congruent 8 result (number self) }
+        ensures wider { BITS < 8 → result ≡ number self }
+        ensures narrower { 8 ≤ BITS → Congruent 8 result (number self) }
+        ensures congruent { (y : ℤ) → number self ≡ y → Congruent 8 result y }
         ensures range { InRange IS_SIGNED BITS (number self) }
         ensures width { valid }
     {
@@ -253,10 +282,13 @@ pub trait Integer: Copy
     }
 
     /// The low 16 bits, in two's complement.
+    #[tactic(auto, using(crate::proofs::Conversion::wider_types))]
     final fn as_i16(self) -> i16
         ensures value { result ≡ wrap true 16 (number self) }
         ensures exact { InRange true 16 (number self) → result ≡ number self }
-        ensures congruent { Congruent 16 result (number self) }
+        ensures wider { BITS < 16 → result ≡ number self }
+        ensures narrower { 16 ≤ BITS → Congruent 16 result (number self) }
+        ensures congruent { (y : ℤ) → number self ≡ y → Congruent 16 result y }
         ensures range { InRange IS_SIGNED BITS (number self) }
         ensures width { valid }
     {
@@ -264,10 +296,13 @@ pub trait Integer: Copy
     }
 
     /// The low 32 bits, in two's complement.
+    #[tactic(auto, using(crate::proofs::Conversion::wider_types))]
     final fn as_i32(self) -> i32
         ensures value { result ≡ wrap true 32 (number self) }
         ensures exact { InRange true 32 (number self) → result ≡ number self }
-        ensures congruent { Congruent 32 result (number self) }
+        ensures wider { BITS < 32 → result ≡ number self }
+        ensures narrower { 32 ≤ BITS → Congruent 32 result (number self) }
+        ensures congruent { (y : ℤ) → number self ≡ y → Congruent 32 result y }
         ensures range { InRange IS_SIGNED BITS (number self) }
         ensures width { valid }
     {
@@ -275,10 +310,13 @@ pub trait Integer: Copy
     }
 
     /// The low 64 bits, in two's complement.
+    #[tactic(auto, using(crate::proofs::Conversion::wider_types))]
     final fn as_i64(self) -> i64
         ensures value { result ≡ wrap true 64 (number self) }
         ensures exact { InRange true 64 (number self) → result ≡ number self }
-        ensures congruent { Congruent 64 result (number self) }
+        ensures wider { BITS < 64 → result ≡ number self }
+        ensures narrower { 64 ≤ BITS → Congruent 64 result (number self) }
+        ensures congruent { (y : ℤ) → number self ≡ y → Congruent 64 result y }
         ensures range { InRange IS_SIGNED BITS (number self) }
         ensures width { valid }
     {
@@ -286,10 +324,13 @@ pub trait Integer: Copy
     }
 
     /// The low 128 bits, in two's complement.
+    #[tactic(auto, using(crate::proofs::Conversion::wider_types))]
     final fn as_i128(self) -> i128
         ensures value { result ≡ wrap true 128 (number self) }
         ensures exact { InRange true 128 (number self) → result ≡ number self }
-        ensures congruent { Congruent 128 result (number self) }
+        ensures wider { BITS < 128 → result ≡ number self }
+        ensures narrower { 128 ≤ BITS → Congruent 128 result (number self) }
+        ensures congruent { (y : ℤ) → number self ≡ y → Congruent 128 result y }
         ensures range { InRange IS_SIGNED BITS (number self) }
         ensures width { valid }
     {
@@ -297,10 +338,13 @@ pub trait Integer: Copy
     }
 
     /// The low 64 bits, in two's complement.
+    #[tactic(auto, using(crate::proofs::Conversion::wider_types))]
     final fn as_isize(self) -> isize
         ensures value { result ≡ wrap true 64 (number self) }
         ensures exact { InRange true 64 (number self) → result ≡ number self }
-        ensures congruent { Congruent 64 result (number self) }
+        ensures wider { BITS < 64 → result ≡ number self }
+        ensures narrower { 64 ≤ BITS → Congruent 64 result (number self) }
+        ensures congruent { (y : ℤ) → number self ≡ y → Congruent 64 result y }
         ensures range { InRange IS_SIGNED BITS (number self) }
         ensures width { valid }
     {

@@ -49,6 +49,27 @@ pub fn by_value(mode: u2, channel: u2, level: u4) -> u8
     (mode.value() << 6) | (channel.value() << 4) | level.value()
 }
 
+pub fn colour_by_as(red: u5, green: u6, blue: u5) -> u16
+    ensures { pos result ≡ pos 2048 *ℤ red +ℤ pos 32 *ℤ green +ℤ blue }
+{
+    (red.as_u16() << 11) | (green.as_u16() << 5) | blue.as_u16()
+}
+
+pub fn four_by_as_low_first(operation: u7, target: u5, function: u3, source: u5) -> u32
+    ensures { pos result ≡ operation +ℤ pos 128 *ℤ target +ℤ pos 4096 *ℤ function +ℤ pos 32768 *ℤ source }
+{
+    operation.as_u32()
+        | (target.as_u32() << 7)
+        | (function.as_u32() << 12)
+        | (source.as_u32() << 15)
+}
+
+pub fn three_in_a_wide_word(a: u20, b: u20, c: u20) -> u64
+    ensures { pos result ≡ pos 1099511627776 *ℤ a +ℤ pos 1048576 *ℤ b +ℤ c }
+{
+    (a.as_u64() << 40) | (b.as_u64() << 20) | c.as_u64()
+}
+
 pub fn five_of_an_instruction(
     operation: u6,
     source: u5,

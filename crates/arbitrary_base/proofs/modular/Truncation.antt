@@ -36,6 +36,17 @@ InRange-wider true A B x h g f =
     let p = pow_le (A - 1) (B - 1) (omega arith) in
     record { low = let e = f.low in omega (arith, ints); high = let e = f.high in omega (arith, ints) }
 
+-- a type with a bit more has each number of an unsigned one, and a signed one with a bit more has each number of either sign
+pub InRange-of_unsigned : (s : Bool) (A B : ℕ) (x : ℤ) → 1 ≤ A → A < B → InRange false A x → InRange s B x
+InRange-of_unsigned false A B x h g f = InRange-wider false A B x h (omega arith) f
+InRange-of_unsigned true A B x h g f =
+    let p = pow_le A (B - 1) (omega arith) in
+    record { low = let e = f.low in let o = pow_pos (B - 1) in omega (arith, ints); high = let e = f.high in omega (arith, ints) }
+
+pub InRange-signed : (s : Bool) (A B : ℕ) (x : ℤ) → 1 ≤ A → A < B → InRange s A x → InRange true B x
+InRange-signed false A B x h g f = InRange-of_unsigned true A B x h g f
+InRange-signed true A B x h g f = InRange-wider true A B x h (omega arith) f
+
 pub widened : (s : Bool) (B R : ℕ) (x z : ℤ) → 1 ≤ B → B < R → InRange s B x → z ≡ x → InRange s R z
 widened s B R x z h g f e = subst (λ (y : ℤ). InRange s R y) (sym e) (InRange-wider s B R x h (omega arith) f)
 
