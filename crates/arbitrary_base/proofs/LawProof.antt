@@ -1,5 +1,5 @@
 -- The laws of specs/Laws: those that no other proof needs are proved here, and `laws` cites all by these names.
-use Rattle.std.specs.Prelude.{◌≡◌, ◌≢◌, ◌↔◌, ℕ, zero, suc, ℤ, Bool, true, false, pos, Option, Some, None, int_div, IsTrue, if◌then◌else◌, ◌||◌, ◌+ℤ◌, ◌-ℤ◌, ◌*ℤ◌, ◌≤◌, List, [], ◌∷◌, SomeIff, option_map}
+use Rattle.std.specs.Prelude.{◌≡◌, ◌≢◌, ◌↔◌, ℕ, zero, suc, ℤ, Bool, true, false, pos, Option, Some, None, int_div, IsTrue, if◌then◌else◌, ◌||◌, ◌+ℤ◌, ◌-ℤ◌, ◌*ℤ◌, ◌≤◌, List, [], ◌∷◌, SomeIff}
 use Rattle.std.specs.Ordering.{int_eq}
 use Rattle.std.specs.List.{fold, last_or, scan}
 use Rattle.std.proofs.Common.{arith, refl, ap, sym, ◌∙◌}

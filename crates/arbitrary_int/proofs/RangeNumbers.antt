@@ -1,10 +1,9 @@
 -- The first number of a range, the others, and how many there are.
-use Rattle.std.specs.Prelude.{◌≡◌, ℕ, ℤ, pos, ◌∷◌, length, ◌+ℤ◌, ◌-ℤ◌, ◌≤ℤ◌, ◌<ℤ◌}
+use Rattle.std.specs.Prelude.{◌≡◌, ℤ, pos, ◌∷◌, length, ◌+ℤ◌, ◌-ℤ◌, ◌≤ℤ◌}
 use Rattle.std.proofs.Common.{refl, ap, ◌∙◌, arith}
 use Rattle.std.proofs.lemmas.Int.{ints}
-use Rattle.std.specs.Int.{int_gap}
 use Rattle.arbitrary_int.specs.Row.{numbers}
-use Rattle.arbitrary_int.proofs.Rows.{gap-some, numbers-first, numbers-none, length-numbers}
+use Rattle.arbitrary_int.proofs.Rows.{gap-some, numbers-first, length-numbers}
 
 pub numbers-head : (a b : ℤ) → a ≤ℤ b → numbers a b ≡ a ∷ numbers (a +ℤ pos 1) b
 numbers-head a b h = numbers-first a b (a +ℤ pos 1) h refl

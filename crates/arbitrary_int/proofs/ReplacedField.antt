@@ -10,7 +10,7 @@ use Rattle.arbitrary_base.specs.Range.{InRange, hi}
 use Rattle.arbitrary_base.specs.Operation.{bitwise_and, bitwise_not, bitwise_or}
 use Rattle.arbitrary_base.proofs.operations.Bitwise.{bitwise_and-associates, bitwise_and-commutes, bitwise_and-zero}
 use Rattle.arbitrary_base.proofs.operations.BitsAndSums.{and-in_range}
-use Rattle.arbitrary_base.proofs.operations.KnownMask.{and-by_complement, and-digits, and-of_cleared, or-by_and}
+use Rattle.arbitrary_base.proofs.operations.KnownMask.{and-digits, and-of_cleared, or-by_and}
 use Rattle.arbitrary_int.proofs.SideBySide.{beside}
 
 -- ---- in a primitive, where the mask is a number that is written out

@@ -1,9 +1,9 @@
 -- Bit lists taken together item by item, whatever is done to two items, and the laws of `and`, `or`, `xor` and `not` on them.
-use Rattle.std.specs.Prelude.{◌≡◌, ℕ, zero, suc, ◌-◌, ◌≤◌, Bool, true, false, not, ◌&&◌, ◌||◌, List, [], ◌∷◌, ◌++◌, map, reverse, length, take, drop, replicate}
+use Rattle.std.specs.Prelude.{◌≡◌, ℕ, zero, suc, ◌-◌, Bool, true, false, not, ◌&&◌, ◌||◌, List, [], ◌∷◌, ◌++◌, map, reverse, length, take, drop, replicate}
 use Rattle.std.specs.Bool.{beq}
 use Rattle.std.specs.List.{zip, slice_rotate_right}
-use Rattle.std.proofs.Common.{refl, sym, ap, ap₂, ◌∙◌, arith, length-take, length-drop}
-use Rattle.std.proofs.lemmas.List.{length-replicate, length-reverse, map-append, take-map, drop-map}
+use Rattle.std.proofs.Common.{refl, sym, ap, ap₂, ◌∙◌, arith, length-drop}
+use Rattle.std.proofs.lemmas.List.{length-reverse, map-append, take-map, drop-map}
 use Rattle.arbitrary_base.specs.BitList.{bits_and, bits_or, bits_xor, shl, shr, rotr}
 use Rattle.arbitrary_base.proofs.bit_lists.UnsignedNumber.{length-not}
 use Rattle.arbitrary_base.proofs.bit_lists.Movement.{reverse-cons}

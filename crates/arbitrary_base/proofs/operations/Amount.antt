@@ -1,6 +1,6 @@
 -- Shifts and rotations by an amount of at most the width, as one shut type, and the other operations as `FixedWidth` has them for generic
 -- code: no premise but the width, and where a result is an operand, that operand's value of its own bits.
-use Rattle.std.specs.Prelude.{◌≡◌, ◌≤◌, ◌-◌, ◌++◌, ◌⊎◌, reverse, ℕ, ℤ, Bool, true, false, List, [], drop, length, pos, negsuc, replicate, take}
+use Rattle.std.specs.Prelude.{◌≡◌, ◌≤◌, ◌-◌, ◌++◌, ◌⊎◌, reverse, ℕ, ℤ, Bool, true, false, List, length, pos, negsuc, replicate, take}
 use Rattle.std.specs.Bool.{beq}
 use Rattle.std.specs.List.{count_by, prefix_len, suffix_len}
 use native.Mathlib.Bridge.{le_prop}
@@ -11,7 +11,6 @@ use Rattle.arbitrary_base.specs.Range.{InRange}
 use Rattle.arbitrary_base.specs.Residue.{Congruent, wrap}
 use Rattle.arbitrary_base.specs.BitList.{bits, val, fill, rotr}
 use Rattle.arbitrary_base.specs.Operation.{bitwise_and, bitwise_not, bitwise_or, bitwise_xor, reversed, rotated_left, rotated_right, shifted_left, shifted_right, wrapped_difference, wrapped_product, wrapped_sum}
-use Rattle.arbitrary_base.proofs.bit_lists.Movement.{length-rotl}
 use Rattle.arbitrary_base.proofs.bit_lists.Rotation.{rotl-none, shl-none, shr-none}
 use Rattle.arbitrary_base.proofs.bit_lists.TwosComplement.{val-bits}
 use Rattle.arbitrary_base.proofs.bit_lists.UnsignedNumber.{length-bits}

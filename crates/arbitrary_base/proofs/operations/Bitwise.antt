@@ -1,5 +1,5 @@
 -- The laws of `and`, `or`, `xor` and `not` on the numbers of a type.
-use Rattle.std.specs.Prelude.{◌≡◌, ℕ, ℤ, Bool, true, false, List, length, replicate, pos, negsuc, ◌≤◌, ◌-◌, ◌^◌, ◌-ℤ◌, map, not}
+use Rattle.std.specs.Prelude.{◌≡◌, ℕ, ℤ, Bool, true, false, List, length, replicate, pos, negsuc, ◌≤◌, ◌^◌, ◌-ℤ◌, map, not}
 use Rattle.std.proofs.Common.{sym, ap, ap₂, ◌∙◌, arith}
 use Rattle.std.proofs.lemmas.Int.{ints}
 use Rattle.std.proofs.lemmas.Nat.{pow_pos}

@@ -1,5 +1,5 @@
 -- What the counts of ones at an end say of the number: they are the zeros of its complement.
-use Rattle.std.specs.Prelude.{◌≡◌, ◌≢◌, ℕ, ℤ, zero, suc, Bool, true, false, ◌∷◌, pos, negsuc, neg_ℤ, ◌+◌, ◌-◌, ◌*◌, ◌%◌, ◌^◌, ◌<◌, ◌≤◌, ◌-ℤ◌, ◌*ℤ◌, ◌<ℤ◌, ◌≤ℤ◌, ◌==◌, unsigned_abs}
+use Rattle.std.specs.Prelude.{◌≡◌, ◌≢◌, ℕ, ℤ, zero, suc, Bool, true, false, ◌∷◌, pos, negsuc, neg_ℤ, ◌+◌, ◌-◌, ◌%◌, ◌^◌, ◌<◌, ◌≤◌, ◌-ℤ◌, ◌*ℤ◌, ◌<ℤ◌, ◌≤ℤ◌, ◌==◌, unsigned_abs}
 use Rattle.std.specs.Bool.{beq}
 use Rattle.std.specs.List.{suffix_len, prefix_len, count_by}
 use Rattle.std.specs.Int.{int_div_euclid}

@@ -3,8 +3,7 @@
 use Rattle.std.specs.Prelude.{◌≡◌, ℕ, ℤ, zero, suc, Bool, true, false, not, ◌&&◌, ◌||◌, List, [], ◌∷◌, ◌++◌, drop, length, replicate, reverse, take, pos, negsuc, ◌≤◌, ◌+◌, ◌-◌, ◌^◌, ◌-ℤ◌, map}
 use Rattle.std.specs.Bool.{beq}
 use Rattle.std.specs.List.{count_by, prefix_len, suffix_len}
-use Rattle.std.proofs.Common.{refl, sym, ap, ap₂, ◌∙◌, arith, take-append-drop}
-use Rattle.std.proofs.lemmas.Int.{ints}
+use Rattle.std.proofs.Common.{refl, sym, ap, ◌∙◌, arith, take-append-drop}
 use Rattle.std.proofs.lemmas.List.{reverse-reverse}
 use Rattle.std.proofs.lemmas.List.Sums.{sum_by-append}
 use Rattle.arbitrary_base.specs.Range.{InRange}
@@ -13,7 +12,6 @@ use Rattle.arbitrary_base.specs.Operation.{bitwise_and, bitwise_not, bitwise_or,
 use Rattle.arbitrary_base.proofs.bit_lists.Count.{front-not, popcount-cons, popcount-not, tail-not}
 use Rattle.arbitrary_base.proofs.bit_lists.UnsignedNumber.{digit, length-bits, same_length}
 use Rattle.arbitrary_base.proofs.bit_lists.Movement.{reverse-cons}
-use Rattle.arbitrary_base.proofs.operations.Bitwise.{bitwise_not-twice}
 use Rattle.arbitrary_base.proofs.operations.Definition.{bits-and, bits-highest, bits-minus_one, bits-not, bits-not_zero, bits-or, bits-reversed, bits-rotl, bits-rotr, bits-zero, of-bits, zero-is}
 use Rattle.arbitrary_base.proofs.bit_lists.Pointwise.{and-comm, not-not}
 use Rattle.arbitrary_base.proofs.bit_lists.Rotation.{reverse-alike}

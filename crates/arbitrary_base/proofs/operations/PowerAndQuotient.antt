@@ -1,7 +1,7 @@
 -- The laws of powers and quotients at small exponents and equal numbers, and of what is extended to 128 bits.
-use Rattle.std.specs.Prelude.{◌≡◌, ◌≢◌, ℕ, ℤ, Bool, zero, suc, pos, negsuc, ◌+◌, ◌≤◌, ◌*ℤ◌, int_div}
+use Rattle.std.specs.Prelude.{◌≡◌, ◌≢◌, ℕ, ℤ, Bool, zero, suc, pos, negsuc, ◌≤◌, ◌*ℤ◌, int_div}
 use Rattle.std.specs.Int.{int_pow}
-use Rattle.std.proofs.Common.{refl, ap, sym, ◌∙◌, arith}
+use Rattle.std.proofs.Common.{refl, ap, ◌∙◌, arith}
 use Rattle.std.proofs.Math.Nat.{div_self}
 use Rattle.std.proofs.lemmas.Int.{ints}
 use Rattle.arbitrary_base.specs.Range.{InRange}

@@ -1,14 +1,14 @@
 -- The laws of rotations and of the reversal on the numbers of a type.
-use Rattle.std.specs.Prelude.{◌≡◌, ℕ, ℤ, zero, suc, Bool, true, false, not, ◌&&◌, ◌||◌, List, ◌∷◌, ◌++◌, drop, length, replicate, reverse, take, pos, negsuc, ◌≤◌, ◌+◌, ◌-◌, ◌^◌, ◌-ℤ◌, map}
+use Rattle.std.specs.Prelude.{◌≡◌, ℕ, ℤ, Bool, true, false, not, ◌&&◌, ◌||◌, List, ◌++◌, replicate, reverse, pos, negsuc, ◌≤◌, ◌+◌, ◌-◌, ◌^◌, ◌-ℤ◌, map}
 use Rattle.std.specs.List.{slice_rotate_right}
 use Rattle.std.specs.Bool.{beq}
-use Rattle.std.proofs.Common.{refl, sym, ap, ap₂, ◌∙◌, arith}
+use Rattle.std.proofs.Common.{sym, ap, ap₂, ◌∙◌, arith}
 use Rattle.std.proofs.lemmas.List.{drop-replicate, length-replicate, replicate-append-replicate, reverse-reverse, take-replicate}
 use Rattle.arbitrary_base.specs.Range.{InRange}
-use Rattle.arbitrary_base.specs.BitList.{bits, val, bits_and, bits_or, bits_xor, rotr, shl, shr}
+use Rattle.arbitrary_base.specs.BitList.{bits, bits_and, bits_or, bits_xor, rotr, shl, shr}
 use Rattle.arbitrary_base.specs.Operation.{bitwise_and, bitwise_not, bitwise_or, bitwise_xor, reversed, rotated_left, rotated_right, shifted_left, shifted_right}
 use Rattle.arbitrary_base.proofs.bit_lists.UnsignedNumber.{length-bits, same_length}
-use Rattle.arbitrary_base.proofs.bit_lists.Pointwise.{not-reverse, not-rotl, not-rotr, pointwise, reverse-pointwise, rotl-pointwise, rotr-pointwise}
+use Rattle.arbitrary_base.proofs.bit_lists.Pointwise.{not-reverse, not-rotl, not-rotr, reverse-pointwise, rotl-pointwise, rotr-pointwise}
 use Rattle.arbitrary_base.proofs.bit_lists.Rotation.{reverse-alike, reverse-rotl, reverse-rotr, reverse-shl, reverse-shr, rotl-long, rotl-none, rotl-shifts, rotl-short, rotr-as_rotl, rotr-long, rotr-none, rotr-short}
 use Rattle.arbitrary_base.proofs.modular.Inverse.{rotl-rotr}
 use Rattle.arbitrary_base.proofs.bit_lists.Movement.{rotr-rotl}

@@ -3,7 +3,7 @@ use Rattle.std.specs.Prelude.{◌≡◌, ◌≢◌, ℕ, ℤ, Bool, true, false,
 use Rattle.std.specs.Bool.{beq}
 use Rattle.std.specs.List.{suffix_len, prefix_len, count_by}
 use Rattle.std.specs.Int.Count.{count_leading_zeros}
-use Rattle.std.proofs.Common.{refl, sym, ap, arith, ◌∙◌, zero, suc, ◌⊎◌, inl, inr}
+use Rattle.std.proofs.Common.{refl, sym, ap, arith, ◌∙◌, zero, suc, inl, inr}
 use Rattle.std.proofs.Math.Nat.{pow-suc}
 use Rattle.std.proofs.lemmas.Int.{ints}
 use Rattle.std.proofs.lemmas.Bool.{cases_lt}

@@ -1,9 +1,9 @@
 -- The least and the greatest number of a type, and what saturates, as `num_traits` asks for them.
 use Rattle.std.specs.Prelude.{◌≡◌, ◌↔◌, ◌≤ℤ◌, ◌<ℤ◌, ◌≤◌, ℕ, ℤ, Bool, pos}
 use Rattle.std.specs.Int.{IsInRange}
-use Rattle.std.proofs.Common.{arith, sym, ◌∙◌}
+use Rattle.std.proofs.Common.{arith, ◌∙◌}
 use Rattle.std.proofs.lemmas.Int.{ints}
-use Rattle.arbitrary_base.specs.Range.{lo, hi, InRange}
+use Rattle.arbitrary_base.specs.Range.{lo, hi}
 use Rattle.arbitrary_base.specs.Residue.{wrap}
 use Rattle.arbitrary_base.specs.Saturation.{clamp}
 use Rattle.arbitrary_base.proofs.modular.Residue.{wrap-in_range}
