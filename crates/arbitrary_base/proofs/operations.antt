@@ -7,6 +7,7 @@ pub mod Amount
 pub mod WrappedRing
 pub mod Shift
 pub mod RotateAndReverse
+pub mod RotatedNumber
 pub mod PopulationAndRuns
 pub mod ZeroRunBounds
 pub mod OneRunBounds

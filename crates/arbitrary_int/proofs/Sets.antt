@@ -6,6 +6,7 @@ use Rattle.std.proofs.lemmas.List.{map-id, reverse-reverse}
 use Rattle.arbitrary_base.proofs.LawProof.{in_range-tells}
 use Rattle.arbitrary_base.proofs.modular.Residue.{wrap-congruent, wrap-of_in_range}
 use Rattle.arbitrary_base.proofs.operations.KnownMask.{and-by_complement, and-digits}
+use Rattle.arbitrary_base.proofs.operations.RotatedNumber.{rotated_left-number, rotated_right-number}
 use Rattle.arbitrary_base.proofs.storages.Clamp.{clamp-fits}
 use Rattle.arbitrary_int.proofs.EmptyWord.{with_field-of_nothing}
 use Rattle.arbitrary_int.proofs.Everyday.{or_three}
@@ -36,6 +37,9 @@ pub ruleset streams = (Borsh-told, number-of_Borsh, number-of_Borsh_signed, firs
 
 -- bytes in the other order, and a test of two arrays of bytes
 pub ruleset byte_orders = (bytes-compared, reverse-reverse)
+
+-- what a rotation makes of a number from 0 up, by quotient and remainder
+pub ruleset rotated_numbers = (rotated_left-number, rotated_right-number)
 
 -- how long the text of a number is
 pub ruleset texts = (length-of_text)

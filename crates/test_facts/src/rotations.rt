@@ -2,7 +2,7 @@
 //! None has a proof of its own: the file names one set of laws.
 #![tactic(auto, using(arbitrary_int::proofs::BitVector::rotations))]
 
-ghost use Rattle.std.specs.Prelude.{◌≡◌, IsTrue};
+ghost use Rattle.std.specs.Prelude.{◌≡◌, ◌+◌, ◌*◌, ◌/◌, ◌%◌, ◌*ℤ◌, ◌<ℤ◌, pos, unsigned_abs, IsTrue};
 
 use arbitrary_int::prelude::*;
 
@@ -42,4 +42,35 @@ pub fn two_shifts(x: u12) -> bool
     ensures { IsTrue result }
 {
     x.rotate_left(4) == (x << 4) | (x >> 8)
+}
+
+// ---- by quotient and remainder
+
+#[tactic(auto, using(arbitrary_int::proofs::Sets::rotated_numbers))]
+pub fn halves_swapped(x: u12) -> u12
+    ensures { result ≡ pos (unsigned_abs x % 64 * 64 + unsigned_abs x / 64) }
+{
+    x.rotate_left(6)
+}
+
+#[tactic(auto, using(arbitrary_int::proofs::Sets::rotated_numbers))]
+pub fn low_byte_first(x: u24) -> u24
+    ensures { result ≡ pos (unsigned_abs x % 256 * 65536 + unsigned_abs x / 256) }
+{
+    x.rotate_right(8)
+}
+
+#[tactic(auto, using(arbitrary_int::proofs::Sets::rotated_numbers))]
+pub fn doubled_below_the_half(x: u12) -> u12
+    requires { x <ℤ pos 2048 }
+    ensures { result ≡ pos 2 *ℤ x }
+{
+    x.rotate_left(1)
+}
+
+#[tactic(auto, using(arbitrary_int::proofs::Sets::rotated_numbers))]
+pub fn highest_bit_comes_in_below(x: u12) -> u1
+    ensures { result ≡ pos (unsigned_abs x / 2048) }
+{
+    u1::extract_u16(x.rotate_left(1).value(), 0)
 }

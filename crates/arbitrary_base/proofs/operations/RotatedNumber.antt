@@ -1,0 +1,32 @@
+-- A rotation of a number from 0 up, by quotient and remainder: what is pushed out at one end comes in at the other.
+use Rattle.std.specs.Prelude.{◌≡◌, ℕ, ℤ, Bool, List, length, false, pos, unsigned_abs, ◌≤◌, ◌+◌, ◌-◌, ◌*◌, ◌/◌, ◌%◌, ◌^◌}
+use Rattle.std.proofs.Common.{refl, ap, subst, sym, ◌∙◌, arith}
+use Rattle.arbitrary_base.specs.Range.{InRange}
+use Rattle.arbitrary_base.specs.BitList.{bits, num, val}
+use Rattle.arbitrary_base.specs.Operation.{rotated_left, rotated_right}
+use Rattle.arbitrary_base.proofs.modular.Residue.{wrap-in_range}
+use Rattle.arbitrary_base.proofs.bit_lists.Movement.{length-rotl, length-rotr, num-rotl, num-rotr}
+use Rattle.arbitrary_base.proofs.bit_lists.StdBitwise.{num-plain}
+use Rattle.arbitrary_base.proofs.bit_lists.TwosComplement.{val-num}
+use Rattle.arbitrary_base.proofs.bit_lists.UnsignedNumber.{length-bits}
+use Rattle.arbitrary_base.proofs.operations.BitsAndSums.{plain}
+use Rattle.arbitrary_base.proofs.operations.Definition.{bits-rotl, bits-rotr, rotl-is, rotr-is}
+
+value-in_range : (s : Bool) (B : ℕ) (l : List Bool) (x : ℤ) → 1 ≤ B → length l ≡ B → x ≡ val s l → InRange s B x
+value-in_range s B l x h n e = subst (InRange s B) (sym (e ∙ val-num s B l n)) (wrap-in_range s B _ h)
+
+pub rotated_left-number : (B k : ℕ) (x : ℤ) → 1 ≤ B → k ≤ B → InRange false B x
+    → rotated_left false B x k ≡ pos (unsigned_abs x / 2 ^ (B - k) + unsigned_abs x * 2 ^ k % 2 ^ B)
+rotated_left-number B k x h g f =
+    let n = length-bits B x in
+    let m = num-plain false B x f f.low in
+    plain B _ (value-in_range false B _ _ h (length-rotl (bits B x) k ∙ n) (rotl-is false B x k))
+    ∙ ap pos (ap num (bits-rotl false B x k) ∙ num-rotl (bits B x) k (omega arith) ∙ rw (n, m) refl)
+
+pub rotated_right-number : (B k : ℕ) (x : ℤ) → 1 ≤ B → k ≤ B → InRange false B x
+    → rotated_right false B x k ≡ pos (unsigned_abs x / 2 ^ k + unsigned_abs x * 2 ^ (B - k) % 2 ^ B)
+rotated_right-number B k x h g f =
+    let n = length-bits B x in
+    let m = num-plain false B x f f.low in
+    plain B _ (value-in_range false B _ _ h (length-rotr (bits B x) k ∙ n) (rotr-is false B x k))
+    ∙ ap pos (ap num (bits-rotr false B x k) ∙ num-rotr (bits B x) k (omega arith) ∙ rw (n, m) refl)
