@@ -5,6 +5,7 @@ pub mod Bitwise
 pub mod BitByBit
 pub mod Amount
 pub mod WrappedRing
+pub mod Multiple
 pub mod Shift
 pub mod RotateAndReverse
 pub mod RotatedNumber

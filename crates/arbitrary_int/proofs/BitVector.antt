@@ -17,6 +17,7 @@ use Rattle.arbitrary_base.proofs.integers.Powers.{power-one, power-zero}
 use Rattle.arbitrary_base.proofs.operations.PowerAndQuotient.{to_u128_bits-back, power-twice, quotient-self, power-of_one, power-of_zero}
 use Rattle.arbitrary_base.proofs.modular.Residue.{wrap-of_in_range}
 use Rattle.arbitrary_int.proofs.BitTests.{low-of_right_cleared, low-of_right_other_cleared, low-of_right_other_set, masked-of_other_cleared, masked-of_other_set}
+use Rattle.arbitrary_base.proofs.operations.Multiple.{multiple-before, multiple-next, multiples-added, multiples-apart, sum-doubles}
 use Rattle.arbitrary_int.proofs.KnownCount.{popcount-of_numeral}
 use Rattle.arbitrary_int.proofs.QuotientAndCube.{negated-is_difference, power-thrice, quotient-times}
 use Rattle.arbitrary_int.proofs.SingleBit.{and-one_bit, left-of_one, low-of_right, low-of_right_set}
@@ -46,6 +47,9 @@ pub ruleset ring = (Decides-int_eq, wrapped_sum-commutes, wrapped_sum-associates
 
 -- products that wrap, also of sums and differences
 pub ruleset products = (Decides-int_eq, wrapped_product-commutes, wrapped_product-associates, wrapped_product-zero, wrapped_product-one, wrapped_product-two, products-of_sums, products-of_differences, product-of_sum, product-of_difference, product-of_negated, product-of_negated_both, shifted_left-is_product, difference-of_squares)
+
+-- multiples of one number by written factors, also made by shifts and by adding it to itself
+pub ruleset multiples = (Decides-int_eq, multiples-added, multiples-apart, multiple-next, multiple-before, sum-doubles, shifted_left-is_product, wrapped_sum-commutes, wrapped_product-commutes)
 
 -- small powers, a number by itself, and a number that is extended and cut again
 pub ruleset exact = (power-zero, power-one, power-twice, quotient-self, to_u128_bits-back, wrap-of_in_range, clamp-fits, power-of_one, power-of_zero)

@@ -8,12 +8,14 @@ use Rattle.std.proofs.lemmas.Grind.{low_zeros}
 use Rattle.std.proofs.lemmas.List.{length-reverse}
 use Rattle.std.proofs.lemmas.List.Sums.{sum_by-append}
 use Rattle.arbitrary_base.specs.BitList.{bits, bits_and, bits_or, bits_xor}
-use Rattle.arbitrary_base.specs.Operation.{bitwise_and, bitwise_xor, shifted_left, shifted_right}
+use Rattle.arbitrary_base.specs.Operation.{bitwise_and, bitwise_xor, reversed, shifted_left, shifted_right}
 use Rattle.arbitrary_base.proofs.bit_lists.Count.{popcount-cons}
 use Rattle.arbitrary_base.proofs.bit_lists.Movement.{reverse-cons}
 use Rattle.arbitrary_base.proofs.bit_lists.UnsignedNumber.{digit, length-bits, same_length}
 use Rattle.arbitrary_base.proofs.operations.Definition.{bits-and, bits-left, bits-or, bits-right, bits-xor, bits-zero}
-use Rattle.arbitrary_base.proofs.operations.PopulationAndRuns.{popcount-of_and_or}
+use Rattle.arbitrary_base.proofs.operations.PopulationAndRuns.{front-of_reversed, popcount-of_and, popcount-of_and_or}
+use Rattle.arbitrary_base.proofs.operations.RotateAndReverse.{reversed-shifted_right}
+use Rattle.arbitrary_int.proofs.KnownCount.{popcount-of_numeral}
 
 append-ones : (l m : List Bool) → count_by (λ b. b) (l ++ m) ≡ count_by (λ b. b) l + count_by (λ b. b) m
 append-ones l m = sum_by-append digit l m
@@ -78,6 +80,12 @@ pub front-of_shifted_left : (s : Bool) (B k : ℕ) (x : ℤ) → k ≤ B → k �
 front-of_shifted_left s B k x h =
     let e = ap (prefix_len (beq false)) (bits-left s B x k h) in
     omega (arith, front-after k (take (length (bits B x) - k) (bits B x)))
+
+pub tail-of_shifted_right : (B k : ℕ) (x : ℤ) → k ≤ B → k ≤ suffix_len (beq false) (bits B (shifted_right false B x k))
+tail-of_shifted_right B k x h =
+    let e = ap (λ (z : ℤ). prefix_len (beq false) (bits B z)) (reversed-shifted_right B x k h) in
+    let f = front-of_reversed false false B (shifted_right false B x k) in
+    omega (arith, front-of_shifted_left false B k (reversed false B x) h)
 
 -- ---- one bit
 
@@ -175,4 +183,4 @@ front-alike_one B x = one-end (bits B x)
 pub tail-alike_one : (B : ℕ) (x : ℤ) → (suffix_len (beq false) (bits B x) ≡ 0) ⊎ (suffix_len (beq true) (bits B x) ≡ 0)
 tail-alike_one B x = one-end (reverse (bits B x))
 
-pub ruleset count_bounds = (front-of_numeral, popcount-of_and_or, popcount-of_xor, popcount-of_shifted_left, popcount-of_shifted_right, front-of_shifted_left, popcount-of_one_bit, front-of_one_bit, front_zeros-beside_ones, tail_zeros-beside_ones, front_ones-below_ones, tail_ones-below_ones, front-alike_one, tail-alike_one)
+pub ruleset count_bounds = (front-of_numeral, popcount-of_numeral, popcount-of_and, popcount-of_and_or, popcount-of_xor, popcount-of_shifted_left, popcount-of_shifted_right, front-of_shifted_left, tail-of_shifted_right, popcount-of_one_bit, front-of_one_bit, front_zeros-beside_ones, tail_zeros-beside_ones, front_ones-below_ones, tail_ones-below_ones, front-alike_one, tail-alike_one)

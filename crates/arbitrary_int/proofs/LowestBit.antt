@@ -15,6 +15,7 @@ use Rattle.arbitrary_base.proofs.modular.Congruence.{Congruent-sub, Congruent-re
 use Rattle.arbitrary_base.proofs.modular.Residue.{wrap-of_in_range}
 use Rattle.arbitrary_base.proofs.operations.BitsAndSums.{and-in_range, natural}
 use Rattle.arbitrary_base.proofs.bit_lists.Count.{popcount-cons}
+use Rattle.arbitrary_base.proofs.operations.Bitwise.{bitwise_and-commutes, bitwise_and-zero}
 use Rattle.arbitrary_base.proofs.operations.Complement.{not-of_before}
 use Rattle.arbitrary_base.proofs.operations.Definition.{and-is, bits-and, bits-left, bits-not, by-bits, difference-is, left-is}
 use Rattle.arbitrary_int.proofs.CountBounds.{bits-one_bit, front-of_one_bit, popcount-of_one_bit}
@@ -143,7 +144,23 @@ and-of_negated s B x h f d =
     left-again : (k : ℕ) → k < B → shifted_left s B (pos 1) k ≡ val s (bits B (shifted_left s B (pos 1) k))
     left-again k g = left-is s B (pos 1) k ∙ ap (val s) (sym (bits-left s B (pos 1) k (omega arith)))
 
-pub ruleset lowest_bits = (Decides-int_eq, popcount-of_lowest_cleared, and-of_negated, negated-is_difference, popcount-of_one_bit, front-of_one_bit, and-below, no_ones-of_zero, zero-of_no_ones)
+-- how many zeros stand below it, also where there is none
+pub front-of_lowest : (s : Bool) (B : ℕ) (x : ℤ) → 1 ≤ B → InRange s B x
+    → prefix_len (beq false) (bits B (bitwise_and s B x (wrapped_difference s B (pos 0) x))) ≡ prefix_len (beq false) (bits B x)
+front-of_lowest s B x h f = by-count (count_by (λ b. b) (bits B x)) refl
+  where
+    by-count : (n : ℕ) → n ≡ count_by (λ b. b) (bits B x)
+        → prefix_len (beq false) (bits B (bitwise_and s B x (wrapped_difference s B (pos 0) x))) ≡ prefix_len (beq false) (bits B x)
+    by-count zero e =
+        let z = zero-of_no_ones s B x h f (sym e) in
+        ap (λ (c : ℤ). prefix_len (beq false) (bits B c)) (bitwise_and-commutes s B x _ ∙ ap (bitwise_and s B _) z ∙ bitwise_and-zero s B _ h ∙ sym z)
+    by-count (suc n) e =
+        let d : x ≢ pos 0 = λ z. let g = no_ones-of_zero B x z in absurd (omega arith) in
+        let l = length-bits B x in
+        let k : prefix_len (beq false) (bits B x) < B = omega (arith, front-below (bits B x) (omega arith)) in
+        ap (λ (c : ℤ). prefix_len (beq false) (bits B c)) (and-of_negated s B x h f d) ∙ front-of_one_bit s B _ k
+
+pub ruleset lowest_bits = (Decides-int_eq, popcount-of_lowest_cleared, front-of_lowest, and-of_negated, negated-is_difference, popcount-of_one_bit, front-of_one_bit, and-below, no_ones-of_zero, zero-of_no_ones)
 
 -- a test of a power of two: `x & (x - 1) == 0`
 pub ruleset powers_of_two = (Decides-int_eq, none-left_by_before, popcount-of_one_bit)

@@ -15,6 +15,7 @@ pub mod generic;
 pub mod generic_calls;
 pub mod masks;
 pub mod mixed;
+pub mod multiples;
 pub mod order;
 pub mod products;
 pub mod reversals;

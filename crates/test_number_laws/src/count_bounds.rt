@@ -85,3 +85,15 @@ pub fn trailing_zeros_of_a_number() -> bool
 {
     u24::new(24).trailing_zeros() == 3
 }
+
+pub fn ones_of_a_masked_number(x: u24) -> bool
+    ensures { IsTrue result }
+{
+    (x & u24::new(0xFF)).count_ones() <= 8
+}
+
+pub fn leading_zeros_of_right_shift(x: u24) -> bool
+    ensures { IsTrue result }
+{
+    (x >> 4).leading_zeros() >= 4
+}
