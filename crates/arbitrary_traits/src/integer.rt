@@ -149,6 +149,8 @@ pub trait Integer: Copy
         Self::masked_new(value)
     }
 
+    // Here and in `as_` to `as_isize` premises on signs and widths bring the equation, or the congruence
+    // where the number may change. `congruent` is for each equal `y`, so that no search opens it unasked.
     /// The type's number that is congruent to that of `value` modulo `2 ^ BITS`: high bits are
     /// dropped, and the sign is extended. The width is valid.
     #[tactic(auto, using(crate::proofs::Conversion::conversions))]
