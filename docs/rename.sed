@@ -60,3 +60,7 @@ s/\b(arbitrary_int\.proofs)\.ByteNumber\b/\1.NumberOfBytes/g
 # ---- the libraries under the program
 s/\bstep_text\b/bitrun_text/g
 s/\bstep_service\b/bitrun_service/g
+# ---- the traits below `Integer` and `FixedWidth`, where a path names them
+s/\bInteger\.(BITS|IS_SIGNED|valid|number|width_law)\b/Numbered.\1/g
+s/\bInteger(>?::)(BITS|IS_SIGNED|to_u128_bits|from_u128_bits|from_|masked_new|as_\w*)\b/Numbered\1\2/g
+s/\bFixedWidth(>?::)([a-z])/FixedWidthCalls\1\2/g

@@ -1,4 +1,4 @@
-//! The bits of the values of `UInt` and `Int`, with none above them. `FixedWidth` takes these for the calls on bits and
+//! The bits of the values of `UInt` and `Int`, with none above them. `FixedWidthCalls` takes these for the calls on bits and
 //! for sums and products that wrap, and else the number in its storage (`representation`). A further representation needs
 //! an impl in both.
 
@@ -6,16 +6,14 @@ ghost use Rattle.std.specs.Prelude.{◌≡◌, ◌≤◌, ◌<◌, ◌^◌};
 ghost use Rattle.arbitrary_base.specs.Range.{InRange};
 ghost use Rattle.arbitrary_base.specs.Residue.{residue};
 
-use arbitrary_base::storage::{
-    BuiltinInteger, SignedOf, SignedStorage, UnsignedOf, UnsignedStorage,
-};
+use arbitrary_base::storage::{BuiltinInteger, SignedStorage, UnsignedOf, UnsignedStorage};
 use arbitrary_base::truncation::low_bits_in_range;
 use arbitrary_core::signed::Int;
 use arbitrary_core::unsigned::UInt;
-use arbitrary_traits::integer::Integer;
+use arbitrary_traits::numbered::Numbered;
 
-/// An integer whose bits are at hand.
-pub trait LowBits: Integer {
+/// A value whose bits are at hand.
+pub trait LowBits: Numbered {
     /// The `BITS` bits of the number: its residue modulo `2 ^ BITS`.
     fn low_bits(self) -> u128
         ensures value { result ≡ residue Self.BITS (Self.number self) }
@@ -26,11 +24,7 @@ pub trait LowBits: Integer {
         ensures high { Self.BITS ≤ 128 };
 }
 
-impl<T: BuiltinInteger + UnsignedStorage, const BITS: usize> LowBits for UInt<T, BITS>
-where
-    T::Signed: BuiltinInteger + SignedOf<T>,
-    <T::Signed as BuiltinInteger>::Unsigned: UnsignedOf<T::Signed>,
-{
+impl<T: BuiltinInteger + UnsignedStorage, const BITS: usize> LowBits for UInt<T, BITS> {
     fn low_bits(self) -> u128 {
         low_bits_in_range(UInt::<T, BITS>::value(self), BITS)
     }

@@ -7,16 +7,16 @@ ghost use Rattle.arbitrary_base.specs.Residue.{wrap};
 ghost use Rattle.arbitrary_base.specs.Bytes.{bytes, bytes_number};
 
 use arbitrary_base::byte_lists::{all_bytes, pattern_of};
-use arbitrary_calls::fixed_width::FixedWidth;
 use arbitrary_core::signed::Int;
 use arbitrary_core::unsigned::UInt;
+use arbitrary_traits::numbered::Numbered;
 
 /// An integer of `N` whole bytes: `BITS` is `8 * N`, and the storage has more bits than that.
 ///
 /// The bytes are those of two's complement in `BITS` bits. In the contracts `bytes N` of a number lists them,
 /// the lowest first: the little-endian order. The big-endian order is the same list reversed. The machine's own
 /// order is little-endian. Nothing is refused: each list of `N` bytes is that of one value.
-pub trait ByteOrders<const N: usize>: FixedWidth {
+pub trait ByteOrders<const N: usize>: Numbered {
     ghost width_law: { Self.BITS ≡ 8 * N };
 
     ghost valid_law: { Self.valid };

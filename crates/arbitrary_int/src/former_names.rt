@@ -8,10 +8,10 @@ pub use arbitrary_base::storage::UnsignedOf as PatternOf;
 pub use arbitrary_traits::counterparts::{
     SignedCounterpart as SignedMate, UnsignedCounterpart as UnsignedMate,
 };
-use arbitrary_traits::integer::Integer;
+use arbitrary_traits::numbered::Numbered;
 
 /// Calls by their former names.
-pub trait FormerNames: Integer {
+pub trait FormerNames: Numbered {
     /// The number's 128 bits: `to_u128_bits`.
     final fn extended(self) -> u128
         ensures value { result ≡ residue 128 (Self.number self) }
@@ -30,4 +30,4 @@ pub trait FormerNames: Integer {
     }
 }
 
-impl<T: Integer> FormerNames for T {}
+impl<T: Numbered> FormerNames for T {}

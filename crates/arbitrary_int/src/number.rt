@@ -9,6 +9,7 @@ use arbitrary_base::error::TryNewError;
 use arbitrary_base::storage::{BuiltinInteger, SignedOf, UnsignedOf, UnsignedStorage};
 use arbitrary_core::unsigned::UInt;
 use arbitrary_traits::integer::{Integer, UnsignedInteger};
+use arbitrary_traits::numbered::Numbered;
 
 /// An unsigned integer type. Each call does as that of `Integer` of the same name.
 ///
@@ -23,12 +24,12 @@ pub trait Number: UnsignedInteger + Integer<UnderlyingType = <Self as Number>::U
 
     ghost BITS: { ℕ };
 
-    ghost bits_law: { BITS ≡ Self.Integer.BITS };
+    ghost bits_law: { BITS ≡ Self.Numbered.BITS };
 
     /// The least number, which is 0. The width is valid.
     final fn min_value() -> Self
         requires { Self.valid }
-        ensures { Self.number result ≡ lo Self.IS_SIGNED Self.Integer.BITS }
+        ensures { Self.number result ≡ lo Self.IS_SIGNED Self.Numbered.BITS }
     {
         <Self as Integer>::min_value()
     }
@@ -36,7 +37,7 @@ pub trait Number: UnsignedInteger + Integer<UnderlyingType = <Self as Number>::U
     /// The greatest number. The width is valid.
     final fn max_value() -> Self
         requires { Self.valid }
-        ensures { Self.number result ≡ hi Self.IS_SIGNED Self.Integer.BITS }
+        ensures { Self.number result ≡ hi Self.IS_SIGNED Self.Numbered.BITS }
     {
         <Self as Integer>::max_value()
     }
@@ -44,7 +45,7 @@ pub trait Number: UnsignedInteger + Integer<UnderlyingType = <Self as Number>::U
     /// The number of `value`, which is in range. The width is valid.
     final fn new(value: <Self as Number>::UnderlyingType) -> Self
         requires width { Self.valid }
-        requires range { InRange Self.IS_SIGNED Self.Integer.BITS (Self.underlying value) }
+        requires range { InRange Self.IS_SIGNED Self.Numbered.BITS (Self.underlying value) }
         ensures { Self.number result ≡ Self.underlying value }
     {
         <Self as Integer>::new(value)
@@ -54,8 +55,8 @@ pub trait Number: UnsignedInteger + Integer<UnderlyingType = <Self as Number>::U
     final fn try_new(value: <Self as Number>::UnderlyingType) -> Result<Self, TryNewError>
         requires { Self.valid }
         ensures { MatchResult result
-            (λ x. InRange Self.IS_SIGNED Self.Integer.BITS (Self.underlying value) × (Self.number x ≡ Self.underlying value))
-            (λ _. ¬ (InRange Self.IS_SIGNED Self.Integer.BITS (Self.underlying value))) }
+            (λ x. InRange Self.IS_SIGNED Self.Numbered.BITS (Self.underlying value) × (Self.number x ≡ Self.underlying value))
+            (λ _. ¬ (InRange Self.IS_SIGNED Self.Numbered.BITS (Self.underlying value))) }
     {
         <Self as Integer>::try_new(value)
     }
@@ -63,7 +64,7 @@ pub trait Number: UnsignedInteger + Integer<UnderlyingType = <Self as Number>::U
     /// The number, in the storage.
     final fn value(self) -> <Self as Number>::UnderlyingType
         ensures value { Self.underlying result ≡ Self.number self }
-        ensures range { InRange Self.IS_SIGNED Self.Integer.BITS (Self.number self) }
+        ensures range { InRange Self.IS_SIGNED Self.Numbered.BITS (Self.number self) }
         ensures width { Self.valid }
     {
         <Self as Integer>::value(self)
@@ -72,76 +73,76 @@ pub trait Number: UnsignedInteger + Integer<UnderlyingType = <Self as Number>::U
     /// The same number, which is in range of this type, from any other. The width is valid.
     final fn from_<T: Number>(value: T) -> Self
         requires width { Self.valid }
-        requires range { InRange Self.IS_SIGNED Self.Integer.BITS (T.number value) }
+        requires range { InRange Self.IS_SIGNED Self.Numbered.BITS (T.number value) }
         ensures { Self.number result ≡ T.number value }
     {
-        <Self as Integer>::from_(value)
+        <Self as Numbered>::from_(value)
     }
 
     /// The truncation of `value` at this width: high bits are dropped. The width is valid.
     final fn masked_new<T: Number>(value: T) -> Self
         requires { Self.valid }
-        ensures value { Self.number result ≡ wrap Self.IS_SIGNED Self.Integer.BITS (T.number value) }
-        ensures wider { T.Integer.BITS ≤ Self.Integer.BITS → Self.number result ≡ T.number value }
+        ensures value { Self.number result ≡ wrap Self.IS_SIGNED Self.Numbered.BITS (T.number value) }
+        ensures wider { T.Numbered.BITS ≤ Self.Numbered.BITS → Self.number result ≡ T.number value }
     {
-        <Self as Integer>::masked_new(value)
+        <Self as Numbered>::masked_new(value)
     }
 
     /// The low 8 bits.
     final fn as_u8(&self) -> u8
         ensures value { pos result ≡ wrap false 8 (Self.number self.now) }
-        ensures wider { Self.Integer.BITS ≤ 8 → pos result ≡ Self.number self.now }
+        ensures wider { Self.Numbered.BITS ≤ 8 → pos result ≡ Self.number self.now }
     {
-        Integer::as_u8(*self)
+        Numbered::as_u8(*self)
     }
 
     /// The low 16 bits.
     final fn as_u16(&self) -> u16
         ensures value { pos result ≡ wrap false 16 (Self.number self.now) }
-        ensures wider { Self.Integer.BITS ≤ 16 → pos result ≡ Self.number self.now }
+        ensures wider { Self.Numbered.BITS ≤ 16 → pos result ≡ Self.number self.now }
     {
-        Integer::as_u16(*self)
+        Numbered::as_u16(*self)
     }
 
     /// The low 32 bits.
     final fn as_u32(&self) -> u32
         ensures value { pos result ≡ wrap false 32 (Self.number self.now) }
-        ensures wider { Self.Integer.BITS ≤ 32 → pos result ≡ Self.number self.now }
+        ensures wider { Self.Numbered.BITS ≤ 32 → pos result ≡ Self.number self.now }
     {
-        Integer::as_u32(*self)
+        Numbered::as_u32(*self)
     }
 
     /// The low 64 bits.
     final fn as_u64(&self) -> u64
         ensures value { pos result ≡ wrap false 64 (Self.number self.now) }
-        ensures wider { Self.Integer.BITS ≤ 64 → pos result ≡ Self.number self.now }
+        ensures wider { Self.Numbered.BITS ≤ 64 → pos result ≡ Self.number self.now }
     {
-        Integer::as_u64(*self)
+        Numbered::as_u64(*self)
     }
 
     /// The low 128 bits.
     final fn as_u128(&self) -> u128
         ensures value { pos result ≡ wrap false 128 (Self.number self.now) }
-        ensures wider { Self.Integer.BITS ≤ 128 → pos result ≡ Self.number self.now }
+        ensures wider { Self.Numbered.BITS ≤ 128 → pos result ≡ Self.number self.now }
     {
-        Integer::as_u128(*self)
+        Numbered::as_u128(*self)
     }
 
     /// The low 64 bits.
     final fn as_usize(&self) -> usize
         ensures value { pos result ≡ wrap false 64 (Self.number self.now) }
-        ensures wider { Self.Integer.BITS ≤ 64 → pos result ≡ Self.number self.now }
+        ensures wider { Self.Numbered.BITS ≤ 64 → pos result ≡ Self.number self.now }
     {
-        Integer::as_usize(*self)
+        Numbered::as_usize(*self)
     }
 
     /// `T::masked_new` of the value. The width of `T` is valid.
     final fn as_<T: Number>(self) -> T
         requires { T.valid }
-        ensures value { T.number result ≡ wrap T.IS_SIGNED T.Integer.BITS (Self.number self) }
-        ensures wider { Self.Integer.BITS ≤ T.Integer.BITS → T.number result ≡ Self.number self }
+        ensures value { T.number result ≡ wrap T.IS_SIGNED T.Numbered.BITS (Self.number self) }
+        ensures wider { Self.Numbered.BITS ≤ T.Numbered.BITS → T.number result ≡ Self.number self }
     {
-        <T as Integer>::masked_new(self)
+        <T as Numbered>::masked_new(self)
     }
 }
 

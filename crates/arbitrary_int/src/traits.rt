@@ -3,10 +3,12 @@
 pub use arbitrary_base::storage::{
     BuiltinInteger, SignedOf, SignedStorage, Storage, UnsignedOf, UnsignedStorage,
 };
+pub use arbitrary_calls::calls::FixedWidthCalls;
 pub use arbitrary_calls::extraction::Extraction;
 pub use arbitrary_calls::fixed_width::FixedWidth;
 pub use arbitrary_core::widths::HasWidth;
 pub use arbitrary_core::widths::valid::ValidWidth;
 pub use arbitrary_traits::counterparts::{SignedCounterpart, UnsignedCounterpart};
 pub use arbitrary_traits::integer::{Integer, SignedInteger, UnsignedInteger};
+pub use arbitrary_traits::numbered::Numbered;
 pub use arbitrary_traits::shift_amount::ShiftAmount;

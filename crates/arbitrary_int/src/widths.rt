@@ -9,10 +9,10 @@ ghost use Rattle.arbitrary_int.specs.Run.{RunOf};
 use crate::runs::run;
 use crate::steps::{Step, Stop};
 use arbitrary_calls::fixed_width::FixedWidth;
-use arbitrary_traits::integer::Integer;
+use arbitrary_traits::numbered::Numbered;
 
 /// The low bits of `wide`, at the type of `narrow`.
-fn low_bits_of<W: Integer, N: Integer>(wide: W, narrow: N) -> N
+fn low_bits_of<W: Numbered, N: Numbered>(wide: W, narrow: N) -> N
     ensures number { N.number result ≡ wrap N.IS_SIGNED N.BITS (W.number wide) }
     ensures width { 1 ≤ N.BITS }
 {
@@ -23,7 +23,7 @@ fn low_bits_of<W: Integer, N: Integer>(wide: W, narrow: N) -> N
 
 /// Each narrow register becomes the truncation of the wide one.
 #[tactic(auto, using(crate::proofs::LowBitRuns::narrowed))]
-fn narrow_all<W: Integer, N: Integer>(wide: &[W], narrow: &mut [N])
+fn narrow_all<W: Numbered, N: Numbered>(wide: &[W], narrow: &mut [N])
     requires { length wide.now ≡ length narrow.old }
     ensures low { map N.number narrow.new ≡ map (wrap N.IS_SIGNED N.BITS) (map W.number wide.now) }
     ensures width { 0 < length narrow.old → 1 ≤ N.BITS }

@@ -4,5 +4,6 @@
 
 pub mod counterparts;
 pub mod integer;
+pub mod numbered;
 pub mod primitives;
 pub mod shift_amount;

@@ -8,6 +8,7 @@ ghost use Rattle.arbitrary_base.specs.BitList.{bits, bits_and, bits_or, bits_xor
 ghost use Rattle.arbitrary_traits.specs.Assigned.{IsAssigned};
 
 use crate::integer::Integer;
+use crate::numbered::Numbered;
 use arbitrary_base::ends::{highest, lowest, zero};
 use arbitrary_base::error::TryNewError;
 use arbitrary_base::storage::{BuiltinInteger, UnsignedOf};
@@ -105,16 +106,7 @@ pub trait Primitive: BuiltinInteger
         × IsAssigned Self.can_bitxor Self.can_bitxor_assign Self.bitxor_gives Self.bitxor_assign_gives };
 }
 
-impl<T: Primitive> Integer for T
-where
-    T::Unsigned: UnsignedOf<T>,
-{
-    type UnderlyingType = T;
-
-    type UnsignedInteger = T::Unsigned;
-
-    type SignedInteger = T::Signed;
-
+impl<T: Primitive> Numbered for T {
     const BITS: usize = T::WIDTH;
 
     const IS_SIGNED: bool = T::SIGNED;
@@ -126,6 +118,28 @@ where
     ghost valid = { ⊤ };
 
     ghost number = { T.number };
+
+    fn to_u128_bits(self) -> u128 {
+        let _pattern = self.storage_bits();
+        to_u128_bits(self)
+    }
+
+    fn from_u128_bits(pattern: u128) -> T {
+        from_low_bits(pattern, T::WIDTH)
+    }
+
+    ghost width_law = { λ h. T.width_law };
+}
+
+impl<T: Primitive> Integer for T
+where
+    T::Unsigned: UnsignedOf<T>,
+{
+    type UnderlyingType = T;
+
+    type UnsignedInteger = T::Unsigned;
+
+    type SignedInteger = T::Signed;
 
     ghost underlying = { T.number };
 
@@ -158,15 +172,6 @@ where
         self
     }
 
-    fn to_u128_bits(self) -> u128 {
-        let _pattern = self.storage_bits();
-        to_u128_bits(self)
-    }
-
-    fn from_u128_bits(pattern: u128) -> T {
-        from_low_bits(pattern, T::WIDTH)
-    }
-
     #[tactic(auto, using(crate::proofs::Conversion::counterparts))]
     fn to_unsigned(self) -> T::Unsigned {
         let _pattern = self.storage_bits();
@@ -177,8 +182,6 @@ where
     fn from_unsigned(value: T::Unsigned) -> T {
         cast(value, T::WIDTH)
     }
-
-    ghost width_law = { λ h. T.width_law };
 
     ghost clone_law = { T.clone_law };
 

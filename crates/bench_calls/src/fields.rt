@@ -4,11 +4,11 @@
 use crate::rounds::values;
 use arbitrary_core::aliases::signed::i14;
 use arbitrary_core::aliases::unsigned::{u5, u9};
-use arbitrary_traits::integer::Integer;
+use arbitrary_traits::numbered::Numbered;
 use bit_fields::Record;
 
 /// The type of a field, which stands at one place.
-pub trait Field: Integer {
+pub trait Field: Numbered {
     /// The field's value in the word.
     fn get(word: u128) -> Self;
 

@@ -1,14 +1,14 @@
 //! The calls on integers of fixed width.
 
 use crate::rounds::{Call, Nothing, Operands, repeat};
+use arbitrary_calls::calls::FixedWidthCalls;
 use arbitrary_calls::extraction::Extraction;
-use arbitrary_calls::fixed_width::FixedWidth;
 use arbitrary_core::aliases::signed::{i7, i14};
 use arbitrary_core::aliases::unsigned::{u7, u14};
 
 struct WrappingSum;
 
-impl<V: FixedWidth> Call<V> for WrappingSum {
+impl<V: FixedWidthCalls> Call<V> for WrappingSum {
     fn result(x: V, y: V, _amount: u32) -> V {
         x.wrapping_add(y)
     }
@@ -16,7 +16,7 @@ impl<V: FixedWidth> Call<V> for WrappingSum {
 
 struct CheckedSum;
 
-impl<V: FixedWidth> Call<V> for CheckedSum {
+impl<V: FixedWidthCalls> Call<V> for CheckedSum {
     fn result(x: V, y: V, _amount: u32) -> V {
         x.checked_add(y).unwrap_or(y)
     }
@@ -24,7 +24,7 @@ impl<V: FixedWidth> Call<V> for CheckedSum {
 
 struct SaturatingSum;
 
-impl<V: FixedWidth> Call<V> for SaturatingSum {
+impl<V: FixedWidthCalls> Call<V> for SaturatingSum {
     fn result(x: V, y: V, _amount: u32) -> V {
         x.saturating_add(y)
     }
@@ -32,7 +32,7 @@ impl<V: FixedWidth> Call<V> for SaturatingSum {
 
 struct OverflowingSum;
 
-impl<V: FixedWidth> Call<V> for OverflowingSum {
+impl<V: FixedWidthCalls> Call<V> for OverflowingSum {
     fn result(x: V, y: V, _amount: u32) -> V {
         let (sum, overflow) = x.overflowing_add(y);
         if overflow { y } else { sum }
@@ -41,7 +41,7 @@ impl<V: FixedWidth> Call<V> for OverflowingSum {
 
 struct WrappingProduct;
 
-impl<V: FixedWidth> Call<V> for WrappingProduct {
+impl<V: FixedWidthCalls> Call<V> for WrappingProduct {
     fn result(x: V, y: V, _amount: u32) -> V {
         x.wrapping_mul(y)
     }
@@ -49,7 +49,7 @@ impl<V: FixedWidth> Call<V> for WrappingProduct {
 
 struct CheckedProduct;
 
-impl<V: FixedWidth> Call<V> for CheckedProduct {
+impl<V: FixedWidthCalls> Call<V> for CheckedProduct {
     fn result(x: V, y: V, _amount: u32) -> V {
         x.checked_mul(y).unwrap_or(y)
     }
@@ -57,7 +57,7 @@ impl<V: FixedWidth> Call<V> for CheckedProduct {
 
 struct SaturatingProduct;
 
-impl<V: FixedWidth> Call<V> for SaturatingProduct {
+impl<V: FixedWidthCalls> Call<V> for SaturatingProduct {
     fn result(x: V, y: V, _amount: u32) -> V {
         x.saturating_mul(y)
     }
@@ -65,7 +65,7 @@ impl<V: FixedWidth> Call<V> for SaturatingProduct {
 
 struct OverflowingProduct;
 
-impl<V: FixedWidth> Call<V> for OverflowingProduct {
+impl<V: FixedWidthCalls> Call<V> for OverflowingProduct {
     fn result(x: V, y: V, _amount: u32) -> V {
         let (product, overflow) = x.overflowing_mul(y);
         if overflow { y } else { product }
@@ -74,7 +74,7 @@ impl<V: FixedWidth> Call<V> for OverflowingProduct {
 
 struct SaturatingPower;
 
-impl<V: FixedWidth> Call<V> for SaturatingPower {
+impl<V: FixedWidthCalls> Call<V> for SaturatingPower {
     fn result(_x: V, y: V, amount: u32) -> V {
         y.saturating_pow(amount)
     }
@@ -82,7 +82,7 @@ impl<V: FixedWidth> Call<V> for SaturatingPower {
 
 struct Shifted;
 
-impl<V: FixedWidth> Call<V> for Shifted {
+impl<V: FixedWidthCalls> Call<V> for Shifted {
     fn result(_x: V, y: V, amount: u32) -> V {
         y.wrapping_shl(amount)
     }
@@ -90,7 +90,7 @@ impl<V: FixedWidth> Call<V> for Shifted {
 
 struct Rotated;
 
-impl<V: FixedWidth> Call<V> for Rotated {
+impl<V: FixedWidthCalls> Call<V> for Rotated {
     fn result(_x: V, y: V, amount: u32) -> V {
         y.rotate_left(amount)
     }
@@ -98,7 +98,7 @@ impl<V: FixedWidth> Call<V> for Rotated {
 
 struct Reversed;
 
-impl<V: FixedWidth> Call<V> for Reversed {
+impl<V: FixedWidthCalls> Call<V> for Reversed {
     fn result(_x: V, y: V, _amount: u32) -> V {
         y.reverse_bits()
     }
@@ -106,7 +106,7 @@ impl<V: FixedWidth> Call<V> for Reversed {
 
 struct OnesCounted;
 
-impl<V: FixedWidth> Call<V> for OnesCounted {
+impl<V: FixedWidthCalls> Call<V> for OnesCounted {
     fn result(x: V, y: V, _amount: u32) -> V {
         if y.count_ones() < 4 { x } else { y }
     }
@@ -139,7 +139,11 @@ impl Call<i14> for Extracted {
 }
 
 /// The last results of the call of that name, and `None` where there is no such call.
-pub fn results<V: FixedWidth>(call: &str, operands: &Operands<V>, rounds: u32) -> Option<[V; 16]> {
+pub fn results<V: FixedWidthCalls>(
+    call: &str,
+    operands: &Operands<V>,
+    rounds: u32,
+) -> Option<[V; 16]> {
     match call {
         "nothing" => Some(repeat::<V, Nothing>(operands, rounds)),
         "wrapping_add" => Some(repeat::<V, WrappingSum>(operands, rounds)),

@@ -4,8 +4,9 @@
 
 ghost use Rattle.std.specs.Prelude.{◌≤◌};
 
+use arbitrary_calls::calls::FixedWidthCalls;
 use arbitrary_calls::fixed_width::FixedWidth;
-use arbitrary_traits::integer::Integer;
+use arbitrary_traits::numbered::Numbered;
 
 /// A call on two values.
 pub trait Call<V> {
@@ -32,10 +33,10 @@ pub struct Operands<V> {
 }
 
 /// Values of all sizes. The width is valid.
-pub fn values<V: Integer>(seed: u128) -> [V; 16]
+pub fn values<V: Numbered>(seed: u128) -> [V; 16]
     requires { V.valid }
 {
-    let mut values = [V::zero(); 16];
+    let mut values = [V::from_u128_bits(0); 16];
     let mut pattern = seed;
     for i in 0..16 {
         pattern = pattern.wrapping_mul(0x9e37_79b9_7f4a_7c15_f39c_c060_5ced_c835);
@@ -57,7 +58,7 @@ fn amounts_below(limit: u32) -> [u32; 16]
     amounts
 }
 
-impl<V: Integer> Operands<V> {
+impl<V: Numbered> Operands<V> {
     /// Values of all sizes, and amounts below the limit. The width is valid.
     pub fn new(limit: u32) -> Self
         requires width { V.valid }
@@ -71,7 +72,7 @@ impl<V: Integer> Operands<V> {
     }
 }
 
-impl<V: FixedWidth> Operands<V> {
+impl<V: FixedWidthCalls> Operands<V> {
     /// The same values, moved so many places toward 0.
     pub fn moved(&mut self, places: u32) {
         for i in 0..16 {
@@ -79,7 +80,9 @@ impl<V: FixedWidth> Operands<V> {
             self.right[i] = self.right[i].wrapping_shr(places);
         }
     }
+}
 
+impl<V: FixedWidth> Operands<V> {
     /// Values next to the ends of the range, those of a pair next to the same end.
     pub fn at_ends(&mut self)
         requires { V.valid }

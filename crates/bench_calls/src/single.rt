@@ -5,8 +5,8 @@ ghost use Rattle.arbitrary_base.specs.Range.{InRange};
 
 use crate::rounds::Operands;
 use arbitrary_base::storage::Storage;
+use arbitrary_calls::calls::FixedWidthCalls;
 use arbitrary_calls::extraction::Extraction;
-use arbitrary_calls::fixed_width::FixedWidth;
 use arbitrary_core::aliases::signed::{i7, i14};
 use arbitrary_core::aliases::unsigned::{u7, u14};
 
@@ -30,7 +30,7 @@ pub trait Flagged<V> {
 
 struct WrappingSum;
 
-impl<V: FixedWidth> Plain<V> for WrappingSum {
+impl<V: FixedWidthCalls> Plain<V> for WrappingSum {
     fn result(x: V, y: V, _amount: u32) -> V {
         x.wrapping_add(y)
     }
@@ -38,7 +38,7 @@ impl<V: FixedWidth> Plain<V> for WrappingSum {
 
 struct WrappingProduct;
 
-impl<V: FixedWidth> Plain<V> for WrappingProduct {
+impl<V: FixedWidthCalls> Plain<V> for WrappingProduct {
     fn result(x: V, y: V, _amount: u32) -> V {
         x.wrapping_mul(y)
     }
@@ -46,7 +46,7 @@ impl<V: FixedWidth> Plain<V> for WrappingProduct {
 
 struct SaturatingSum;
 
-impl<V: FixedWidth> Plain<V> for SaturatingSum {
+impl<V: FixedWidthCalls> Plain<V> for SaturatingSum {
     fn result(x: V, y: V, _amount: u32) -> V {
         x.saturating_add(y)
     }
@@ -54,7 +54,7 @@ impl<V: FixedWidth> Plain<V> for SaturatingSum {
 
 struct SaturatingProduct;
 
-impl<V: FixedWidth> Plain<V> for SaturatingProduct {
+impl<V: FixedWidthCalls> Plain<V> for SaturatingProduct {
     fn result(x: V, y: V, _amount: u32) -> V {
         x.saturating_mul(y)
     }
@@ -62,7 +62,7 @@ impl<V: FixedWidth> Plain<V> for SaturatingProduct {
 
 struct SaturatingPower;
 
-impl<V: FixedWidth> Plain<V> for SaturatingPower {
+impl<V: FixedWidthCalls> Plain<V> for SaturatingPower {
     fn result(x: V, _y: V, amount: u32) -> V {
         x.saturating_pow(amount)
     }
@@ -70,7 +70,7 @@ impl<V: FixedWidth> Plain<V> for SaturatingPower {
 
 struct Shifted;
 
-impl<V: FixedWidth> Plain<V> for Shifted {
+impl<V: FixedWidthCalls> Plain<V> for Shifted {
     fn result(x: V, _y: V, amount: u32) -> V {
         x.wrapping_shl(amount)
     }
@@ -78,7 +78,7 @@ impl<V: FixedWidth> Plain<V> for Shifted {
 
 struct Rotated;
 
-impl<V: FixedWidth> Plain<V> for Rotated {
+impl<V: FixedWidthCalls> Plain<V> for Rotated {
     fn result(x: V, _y: V, amount: u32) -> V {
         x.rotate_left(amount)
     }
@@ -86,7 +86,7 @@ impl<V: FixedWidth> Plain<V> for Rotated {
 
 struct Reversed;
 
-impl<V: FixedWidth> Plain<V> for Reversed {
+impl<V: FixedWidthCalls> Plain<V> for Reversed {
     fn result(x: V, _y: V, _amount: u32) -> V {
         x.reverse_bits()
     }
@@ -94,13 +94,13 @@ impl<V: FixedWidth> Plain<V> for Reversed {
 
 struct Sum;
 
-impl<V: FixedWidth> Checked<V> for Sum {
+impl<V: FixedWidthCalls> Checked<V> for Sum {
     fn result(x: V, y: V) -> Option<V> {
         x.checked_add(y)
     }
 }
 
-impl<V: FixedWidth> Flagged<V> for Sum {
+impl<V: FixedWidthCalls> Flagged<V> for Sum {
     fn result(x: V, y: V) -> (V, bool) {
         x.overflowing_add(y)
     }
@@ -108,20 +108,20 @@ impl<V: FixedWidth> Flagged<V> for Sum {
 
 struct Product;
 
-impl<V: FixedWidth> Checked<V> for Product {
+impl<V: FixedWidthCalls> Checked<V> for Product {
     fn result(x: V, y: V) -> Option<V> {
         x.checked_mul(y)
     }
 }
 
-impl<V: FixedWidth> Flagged<V> for Product {
+impl<V: FixedWidthCalls> Flagged<V> for Product {
     fn result(x: V, y: V) -> (V, bool) {
         x.overflowing_mul(y)
     }
 }
 
 #[inline(never)]
-fn counted_plain<V: FixedWidth, C: Plain<V>>(
+fn counted_plain<V: FixedWidthCalls, C: Plain<V>>(
     x: V::Representation,
     y: V::Representation,
     amount: u32,
@@ -135,7 +135,7 @@ fn counted_plain<V: FixedWidth, C: Plain<V>>(
 }
 
 #[inline(never)]
-fn counted_checked<V: FixedWidth, C: Checked<V>>(
+fn counted_checked<V: FixedWidthCalls, C: Checked<V>>(
     x: V::Representation,
     y: V::Representation,
     out: &mut V::Representation,
@@ -155,7 +155,7 @@ fn counted_checked<V: FixedWidth, C: Checked<V>>(
 }
 
 #[inline(never)]
-fn counted_flagged<V: FixedWidth, C: Flagged<V>>(
+fn counted_flagged<V: FixedWidthCalls, C: Flagged<V>>(
     x: V::Representation,
     y: V::Representation,
     out: &mut bool,
@@ -171,7 +171,7 @@ fn counted_flagged<V: FixedWidth, C: Flagged<V>>(
 }
 
 #[inline(never)]
-fn counted_ones<V: FixedWidth>(x: V::Representation) -> u32
+fn counted_ones<V: FixedWidthCalls>(x: V::Representation) -> u32
     requires some { 1 ≤ V.BITS }
     requires storage { V.BITS ≤ V.Representation.WIDTH }
     requires x_in { InRange V.Representation.SIGNED V.BITS (V.Representation.number x) }
@@ -180,7 +180,7 @@ fn counted_ones<V: FixedWidth>(x: V::Representation) -> u32
 }
 
 /// A type whose values stand in words of 32 bits.
-pub trait Word: FixedWidth {
+pub trait Word: FixedWidthCalls {
     /// The value of the bits of the word from that place on.
     fn taken(word: u32, place: usize) -> Self
         requires { place ≤ 15 };
@@ -217,7 +217,7 @@ fn counted_taken<V: Word>(word: u32, place: usize) -> V::Representation
     V::taken(word, place).to_storage()
 }
 
-fn plain_results<V: FixedWidth, C: Plain<V>>(
+fn plain_results<V: FixedWidthCalls, C: Plain<V>>(
     operands: &Operands<V>,
     rounds: u32,
 ) -> [V::Representation; 16] {
@@ -231,7 +231,7 @@ fn plain_results<V: FixedWidth, C: Plain<V>>(
     results
 }
 
-fn checked_results<V: FixedWidth, C: Checked<V>>(
+fn checked_results<V: FixedWidthCalls, C: Checked<V>>(
     operands: &Operands<V>,
     rounds: u32,
 ) -> [V::Representation; 16] {
@@ -250,7 +250,7 @@ fn checked_results<V: FixedWidth, C: Checked<V>>(
     results
 }
 
-fn flagged_results<V: FixedWidth, C: Flagged<V>>(
+fn flagged_results<V: FixedWidthCalls, C: Flagged<V>>(
     operands: &Operands<V>,
     rounds: u32,
 ) -> [V::Representation; 16] {
@@ -266,7 +266,10 @@ fn flagged_results<V: FixedWidth, C: Flagged<V>>(
     results
 }
 
-fn ones_results<V: FixedWidth>(operands: &Operands<V>, rounds: u32) -> [V::Representation; 16] {
+fn ones_results<V: FixedWidthCalls>(
+    operands: &Operands<V>,
+    rounds: u32,
+) -> [V::Representation; 16] {
     let mut results = [operands.left[0].to_storage(); 16];
     for i in 0..rounds {
         let at = (i % 16) as usize;
@@ -291,7 +294,7 @@ pub fn taken<V: Word>(operands: &Operands<V>, rounds: u32) -> [V::Representation
 }
 
 /// The last results of the call of that name, and `None` where there is no such call.
-pub fn results<V: FixedWidth>(
+pub fn results<V: FixedWidthCalls>(
     call: &str,
     operands: &Operands<V>,
     rounds: u32,

@@ -9,7 +9,7 @@ ghost use Rattle.arbitrary_int.specs.Range.{InRange};
 ghost use Rattle.arbitrary_int.specs.Residue.{residue, Congruent};
 ghost use Rattle.bit_fields.specs.HasNumber.{HasNumber};
 
-use arbitrary_int::traits::Integer;
+use arbitrary_int::traits::Numbered;
 
 #[cfg(test)]
 mod vectors;
@@ -23,7 +23,7 @@ pub struct Record {
 impl Record {
     /// The value of the field of `F::BITS` bits from bit `start` on, of any of the types and of a primitive. The
     /// field ends at or before bit 128, and the width is valid.
-    pub fn get<F: Integer>(&self, start: usize) -> F
+    pub fn get<F: Numbered>(&self, start: usize) -> F
         requires width { F.valid }
         requires within { start + F.BITS ≤ 128 }
         ensures value { F.number result ≡ val F.IS_SIGNED (field_bits self.now.bits start F.BITS) }
@@ -35,7 +35,7 @@ impl Record {
 
     /// Puts the value's bits into the field of `F::BITS` bits from bit `start` on, of any of the types and of a
     /// primitive. The field ends at or before bit 128. All other bits stay.
-    pub fn put<F: Integer>(&mut self, start: usize, value: F)
+    pub fn put<F: Numbered>(&mut self, start: usize, value: F)
         requires { start + F.BITS ≤ 128 }
         ensures bits { self.new.bits ≡ with_field self.old.bits start (bits_of F.BITS (F.number value)) }
         ensures read_back { HasNumber F.IS_SIGNED self.new.bits start F.BITS (F.number value) }
@@ -67,7 +67,7 @@ fn low_mask(count: usize) -> u128
 
 /// The value's bits, and none above them.
 // A number of a type with no sign has none above, so nothing is masked there.
-fn bits_alone<F: Integer>(value: F) -> u128
+fn bits_alone<F: Numbered>(value: F) -> u128
     ensures value { result ≡ residue F.BITS (F.number value) }
     ensures short { result < 2 ^ F.BITS }
     ensures range { InRange F.IS_SIGNED F.BITS (F.number value) }

@@ -10,7 +10,7 @@ ghost use Rattle.bitrun_text.specs.Form.{IsStep, IsValue, LinesFault, FormFault}
 ghost use Rattle.bitrun_service.specs.Output.{output_text, wide_output_text, text_for, IsOutput, IsOutputAt};
 
 use crate::running::{run_text, wide_run_text};
-use arbitrary_int::traits::{FixedWidth, Integer};
+use arbitrary_int::traits::{FixedWidth, Numbered};
 use arbitrary_int::{Step, i1, i7, i14, i120, u1, u7, u14, u120};
 use bitrun_text::fault::Fault;
 use bitrun_text::kind::{Kind, RegisterType, WidePair, kind_named};

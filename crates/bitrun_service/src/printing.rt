@@ -6,7 +6,7 @@ ghost use Rattle.std.specs.Fmt.{signed_decimal};
 ghost use Rattle.bitrun_service.specs.Output.{after_space, cause_text, ending_text, output_text};
 
 use crate::decimal::push_decimal;
-use arbitrary_int::traits::{FixedWidth, Integer};
+use arbitrary_int::traits::{FixedWidth, Numbered};
 use arbitrary_int::{Stop, Why};
 use std::alloc::{AllocError, Allocator};
 

@@ -6,7 +6,7 @@ ghost use Rattle.arbitrary_int.specs.Run.{RunOf};
 ghost use Rattle.bitrun_service.specs.Output.{output_text, wide_output_text};
 
 use crate::printing::{push_output, push_wide_output};
-use arbitrary_int::traits::{FixedWidth, Integer};
+use arbitrary_int::traits::{FixedWidth, Numbered};
 use arbitrary_int::{Step, run, run_wide};
 use std::alloc::{AllocError, Allocator};
 

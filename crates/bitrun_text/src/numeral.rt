@@ -5,7 +5,7 @@ ghost use Rattle.std.specs.Bool.{then_some};
 ghost use Rattle.arbitrary_int.specs.Range.{in_range};
 ghost use Rattle.bitrun_text.specs.Numeral.{number_in, integer_in, number_below, value_named, IsFar};
 
-use arbitrary_int::traits::{FixedWidth, Integer};
+use arbitrary_int::traits::{FixedWidth, Numbered};
 
 /// The number that the word's digits write, if it is below the limit.
 pub fn number_below(word: &[u8], limit: u128) -> Option<u128>

@@ -2,7 +2,7 @@
 //! those of the storage.
 
 use arbitrary_core::aliases::unsigned::{u5, u20};
-use arbitrary_traits::integer::Integer;
+use arbitrary_traits::numbered::Numbered;
 
 /// The greatest number that a byte has.
 pub fn greatest_byte() -> u8 {

@@ -57,7 +57,7 @@ where
         Int::<T, BITS>::new(saturating::add(self.value(), v.value(), BITS))
     }
 
-    ghost saturating_add_law = { λ a b r h. saturates T.SIGNED BITS T.WIDTH (a +ℤ b) r T.valid_law h };
+    ghost saturating_add_law = { λ a b r. saturates T.SIGNED BITS T.WIDTH (a +ℤ b) r T.valid_law };
 }
 
 impl<T: BuiltinInteger + SignedStorage + HasWidth<BITS>, const BITS: usize> SaturatingSub
@@ -77,7 +77,7 @@ where
         Int::<T, BITS>::new(saturating::sub(self.value(), v.value(), BITS))
     }
 
-    ghost saturating_sub_law = { λ a b r h. saturates T.SIGNED BITS T.WIDTH (a -ℤ b) r T.valid_law h };
+    ghost saturating_sub_law = { λ a b r. saturates T.SIGNED BITS T.WIDTH (a -ℤ b) r T.valid_law };
 }
 
 impl<T: BuiltinInteger + SignedStorage + HasWidth<BITS>, const BITS: usize> Default for Int<T, BITS>

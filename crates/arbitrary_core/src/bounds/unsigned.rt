@@ -50,7 +50,7 @@ impl<T: UnsignedStorage + HasWidth<BITS>, const BITS: usize> SaturatingAdd for U
         UInt::<T, BITS>::new(saturating::add(self.value(), v.value(), BITS))
     }
 
-    ghost saturating_add_law = { λ a b r h. saturates T.SIGNED BITS T.WIDTH (a +ℤ b) r T.valid_law h };
+    ghost saturating_add_law = { λ a b r. saturates T.SIGNED BITS T.WIDTH (a +ℤ b) r T.valid_law };
 }
 
 impl<T: UnsignedStorage + HasWidth<BITS>, const BITS: usize> SaturatingSub for UInt<T, BITS> {
@@ -66,7 +66,7 @@ impl<T: UnsignedStorage + HasWidth<BITS>, const BITS: usize> SaturatingSub for U
         UInt::<T, BITS>::new(saturating::sub(self.value(), v.value(), BITS))
     }
 
-    ghost saturating_sub_law = { λ a b r h. saturates T.SIGNED BITS T.WIDTH (a -ℤ b) r T.valid_law h };
+    ghost saturating_sub_law = { λ a b r. saturates T.SIGNED BITS T.WIDTH (a -ℤ b) r T.valid_law };
 }
 
 impl<T: UnsignedStorage + HasWidth<BITS>, const BITS: usize> Default for UInt<T, BITS> {

@@ -16,22 +16,17 @@ use arbitrary_base::storage::{
 use arbitrary_base::truncation::{from_low_bits, to_u128_bits};
 use arbitrary_traits::counterparts::{SignedCounterpart, UnsignedCounterpart};
 use arbitrary_traits::integer::{Integer, SignedInteger};
+use arbitrary_traits::numbered::Numbered;
 
 impl<T: BuiltinInteger + SignedStorage, const BITS: usize> Sealed for Int<T, BITS>
 where
     T::Unsigned: UnsignedOf<T>,
 {}
 
-impl<T: BuiltinInteger + SignedStorage, const BITS: usize> Integer for Int<T, BITS>
+impl<T: BuiltinInteger + SignedStorage, const BITS: usize> Numbered for Int<T, BITS>
 where
     T::Unsigned: UnsignedOf<T>,
 {
-    type UnderlyingType = T;
-
-    type UnsignedInteger = UInt<T::Unsigned, BITS>;
-
-    type SignedInteger = Int<T, BITS>;
-
     const BITS: usize = BITS;
 
     const IS_SIGNED: bool = T::SIGNED;
@@ -43,6 +38,27 @@ where
     ghost valid = { IsInRange 1 T.WIDTH BITS };
 
     ghost number = { λ x. x };
+
+    fn to_u128_bits(self) -> u128 {
+        to_u128_bits(Int::<T, BITS>::value(self))
+    }
+
+    fn from_u128_bits(pattern: u128) -> Int<T, BITS> {
+        Int::<T, BITS>::from_bits(from_low_bits(pattern, BITS))
+    }
+
+    ghost width_law = { λ h. (h.0, le_trans h.1 (T.width_law.1)) };
+}
+
+impl<T: BuiltinInteger + SignedStorage, const BITS: usize> Integer for Int<T, BITS>
+where
+    T::Unsigned: UnsignedOf<T>,
+{
+    type UnderlyingType = T;
+
+    type UnsignedInteger = UInt<T::Unsigned, BITS>;
+
+    type SignedInteger = Int<T, BITS>;
 
     ghost underlying = { T.number };
 
@@ -73,14 +89,6 @@ where
         Int::<T, BITS>::value(self)
     }
 
-    fn to_u128_bits(self) -> u128 {
-        to_u128_bits(Int::<T, BITS>::value(self))
-    }
-
-    fn from_u128_bits(pattern: u128) -> Int<T, BITS> {
-        Int::<T, BITS>::from_bits(from_low_bits(pattern, BITS))
-    }
-
     fn to_unsigned(self) -> UInt<T::Unsigned, BITS> {
         UInt::<T::Unsigned, BITS>::new(self.to_bits())
     }
@@ -88,8 +96,6 @@ where
     fn from_unsigned(value: UInt<T::Unsigned, BITS>) -> Int<T, BITS> {
         Int::<T, BITS>::from_bits(UInt::<T::Unsigned, BITS>::value(value))
     }
-
-    ghost width_law = { λ h. (h.0, le_trans h.1 (T.width_law.1)) };
 
     ghost clone_law = { λ a b h. h };
 

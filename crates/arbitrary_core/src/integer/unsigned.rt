@@ -16,20 +16,11 @@ use arbitrary_base::storage::{
 use arbitrary_base::truncation::{from_low_bits, to_u128_bits};
 use arbitrary_traits::counterparts::{SignedCounterpart, UnsignedCounterpart};
 use arbitrary_traits::integer::{Integer, UnsignedInteger};
+use arbitrary_traits::numbered::Numbered;
 
 impl<T: UnsignedStorage, const BITS: usize> Sealed for UInt<T, BITS> {}
 
-impl<T: BuiltinInteger + UnsignedStorage, const BITS: usize> Integer for UInt<T, BITS>
-where
-    T::Signed: BuiltinInteger + SignedOf<T>,
-    <T::Signed as BuiltinInteger>::Unsigned: UnsignedOf<T::Signed>,
-{
-    type UnderlyingType = T;
-
-    type UnsignedInteger = UInt<T, BITS>;
-
-    type SignedInteger = Int<T::Signed, BITS>;
-
+impl<T: BuiltinInteger + UnsignedStorage, const BITS: usize> Numbered for UInt<T, BITS> {
     const BITS: usize = BITS;
 
     const IS_SIGNED: bool = T::SIGNED;
@@ -41,6 +32,28 @@ where
     ghost valid = { IsInRange 1 T.WIDTH BITS };
 
     ghost number = { λ x. x };
+
+    fn to_u128_bits(self) -> u128 {
+        to_u128_bits(UInt::<T, BITS>::value(self))
+    }
+
+    fn from_u128_bits(pattern: u128) -> UInt<T, BITS> {
+        UInt::<T, BITS>::new(from_low_bits(pattern, BITS))
+    }
+
+    ghost width_law = { λ h. (h.0, le_trans h.1 (T.width_law.1)) };
+}
+
+impl<T: BuiltinInteger + UnsignedStorage, const BITS: usize> Integer for UInt<T, BITS>
+where
+    T::Signed: BuiltinInteger + SignedOf<T>,
+    <T::Signed as BuiltinInteger>::Unsigned: UnsignedOf<T::Signed>,
+{
+    type UnderlyingType = T;
+
+    type UnsignedInteger = UInt<T, BITS>;
+
+    type SignedInteger = Int<T::Signed, BITS>;
 
     ghost underlying = { T.number };
 
@@ -71,14 +84,6 @@ where
         UInt::<T, BITS>::value(self)
     }
 
-    fn to_u128_bits(self) -> u128 {
-        to_u128_bits(UInt::<T, BITS>::value(self))
-    }
-
-    fn from_u128_bits(pattern: u128) -> UInt<T, BITS> {
-        UInt::<T, BITS>::new(from_low_bits(pattern, BITS))
-    }
-
     fn to_unsigned(self) -> UInt<T, BITS> {
         UInt::<T, BITS>::new(UInt::<T, BITS>::value(self))
     }
@@ -86,8 +91,6 @@ where
     fn from_unsigned(value: UInt<T, BITS>) -> UInt<T, BITS> {
         UInt::<T, BITS>::new(UInt::<T, BITS>::value(value))
     }
-
-    ghost width_law = { λ h. (h.0, le_trans h.1 (T.width_law.1)) };
 
     ghost clone_law = { λ a b h. h };
 

@@ -9,5 +9,5 @@ returns-clause-count g c = c.div_ceil.ensures ∙ ap (λ (b : ℕ). div_ceil b 8
 
 pub returns-clause-bytes : goal.returns-clause-bytes
 returns-clause-bytes g c =
-    let e : c.low_bits.result ≡ residue g.V.Integer.BITS (g.V.Integer.number c.args.value) = c.low_bits.ensures.value ∙ (λ i. residue (c.BITS.ensures i) (c.to_storage.ensures.number i)) in
+    let e : c.low_bits.result ≡ residue g.V.Numbered.BITS (g.V.Numbered.number c.args.value) = c.low_bits.ensures.value ∙ (λ i. residue (c.BITS.ensures i) (c.to_storage.ensures.number i)) in
     take-Borsh _ _ _ _ _ e (le_trans c.to_storage.ensures.storage g.met.V.Representation.Storage.width_law.1) (c.div_ceil.ensures ∙ ap (λ (b : ℕ). div_ceil b 8) c.BITS-2.ensures) c.all_bytes-all.ensures

@@ -5,6 +5,6 @@ use Rattle.arbitrary_int.proofs.runs.run.Given as goal
 abbrev pub invariant-loop-at : goal.invariant-loop-at
 invariant-loop-at g l = record {
   same_length : length l.registers ≡ length l.initial.registers;
-  rest : RunOf g.R.Integer.IS_SIGNED g.R.Integer.BITS l.steps (map g.R.Integer.number l.initial.registers)
-      ≡ later l.at (RunOf g.R.Integer.IS_SIGNED g.R.Integer.BITS (drop l.at l.steps) (map g.R.Integer.number l.registers));
+  rest : RunOf g.R.Numbered.IS_SIGNED g.R.Numbered.BITS l.steps (map g.R.Numbered.number l.initial.registers)
+      ≡ later l.at (RunOf g.R.Numbered.IS_SIGNED g.R.Numbered.BITS (drop l.at l.steps) (map g.R.Numbered.number l.registers));
 }

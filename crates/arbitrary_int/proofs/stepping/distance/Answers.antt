@@ -3,5 +3,5 @@ use Rattle.arbitrary_int.proofs.stepping.distance.Goals as goal
 
 pub returns : goal.returns
 returns g c =
-    let w = g.met.V.Integer.width_law c.to_u128_bits-first.ensures.width in
+    let w = g.met.V.Numbered.width_law c.to_u128_bits-first.ensures.width in
     apart_by _ _ _ _ _ _ _ w.0 w.1 c.to_u128_bits-first.ensures.range c.to_u128_bits-last.ensures.range c.requires c.as_u128.ensures.value c.as_u128-2.ensures.value c.wrapping_sub.ensures

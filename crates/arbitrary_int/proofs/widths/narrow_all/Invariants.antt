@@ -5,6 +5,6 @@ use Rattle.arbitrary_int.proofs.widths.narrow_all.Given as goal
 abbrev pub invariant-loop-at : goal.invariant-loop-at
 invariant-loop-at g l = record {
   same_length : length l.wide ≡ length l.narrow;
-  low : map g.N.Integer.number (take l.at l.narrow) ≡ map (wrap g.N.Integer.IS_SIGNED g.N.Integer.BITS) (map g.W.Integer.number (take l.at l.wide));
-  width : 0 < l.at → 1 ≤ g.N.Integer.BITS;
+  low : map g.N.Numbered.number (take l.at l.narrow) ≡ map (wrap g.N.Numbered.IS_SIGNED g.N.Numbered.BITS) (map g.W.Numbered.number (take l.at l.wide));
+  width : 0 < l.at → 1 ≤ g.N.Numbered.BITS;
 }

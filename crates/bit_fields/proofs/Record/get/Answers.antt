@@ -6,17 +6,17 @@ use Rattle.bit_fields.proofs.Record.get.Goals as goal
 pub returns-clause-value : goal.returns-clause-value
 returns-clause-value g c =
     let small : c.args.self.now.bits < 2 ^ 128 = search rules in
-    read-field g.F.Integer.IS_SIGNED g.F.Integer.BITS c.args.start c.args.self.now.bits (g.F.Integer.number c.from_u128_bits.result)
-    (g.met.F.Integer.width_law c.requires.width) c.requires.within small c.from_u128_bits.ensures
+    read-field g.F.Numbered.IS_SIGNED g.F.Numbered.BITS c.args.start c.args.self.now.bits (g.F.Numbered.number c.from_u128_bits.result)
+    (g.met.F.Numbered.width_law c.requires.width) c.requires.within small c.from_u128_bits.ensures
 
 pub returns-clause-plain : goal.returns-clause-plain
 returns-clause-plain g c =
     let small : c.args.self.now.bits < 2 ^ 128 = search rules in
-    read-plain g.F.Integer.IS_SIGNED g.F.Integer.BITS c.args.start c.args.self.now.bits (g.F.Integer.number c.from_u128_bits.result)
-    (g.met.F.Integer.width_law c.requires.width) c.requires.within small c.from_u128_bits.ensures
+    read-plain g.F.Numbered.IS_SIGNED g.F.Numbered.BITS c.args.start c.args.self.now.bits (g.F.Numbered.number c.from_u128_bits.result)
+    (g.met.F.Numbered.width_law c.requires.width) c.requires.within small c.from_u128_bits.ensures
 
 pub returns-clause-congruent : goal.returns-clause-congruent
 returns-clause-congruent g c =
     let small : c.args.self.now.bits < 2 ^ 128 = search rules in
-    read-congruent g.F.Integer.IS_SIGNED g.F.Integer.BITS c.args.start c.args.self.now.bits (g.F.Integer.number c.from_u128_bits.result)
-    (g.met.F.Integer.width_law c.requires.width) c.requires.within small c.from_u128_bits.ensures
+    read-congruent g.F.Numbered.IS_SIGNED g.F.Numbered.BITS c.args.start c.args.self.now.bits (g.F.Numbered.number c.from_u128_bits.result)
+    (g.met.F.Numbered.width_law c.requires.width) c.requires.within small c.from_u128_bits.ensures

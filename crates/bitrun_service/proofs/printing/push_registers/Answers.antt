@@ -6,6 +6,6 @@ use Rattle.bitrun_service.proofs.printing.push_registers.Goals as goal
 
 pub returns-in_ok-push_others-in-Some : goal.returns-in_ok-push_others-in-Some
 returns-in_ok-push_others-in-Some g c =
-    let number = g.R.Integer.number in
+    let number = g.R.Numbered.number in
     rw (c.in_ok-push_others-in-Some.ensures, c.in_ok-push_register-in-Some.ensures, append_assoc)
     (sym (ap (λ t. c.args.text.now.items ++ t) (ap (λ l. join_with_byte 32 (map signed_decimal (map number l))) c.in-Some.ensures.cases.0 ∙ join-cons (number c.in-Some.first.now) (map number c.in-Some.others.now))))

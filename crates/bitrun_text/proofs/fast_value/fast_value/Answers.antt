@@ -18,8 +18,8 @@ returns g c =
     record {
       word = word;
       words = rw c.in_ok-number.ensures.rest (ap (λ (left : Left). left.words) taken);
-      value = value-near g.R.Integer.IS_SIGNED g.R.Integer.BITS word _ numeral
-          ∙ ap (λ x. then_some (in_range g.R.Integer.IS_SIGNED g.R.Integer.BITS x) x) (sym (to_z-of_z {w = w128} {z = c.in_ok-number.number} (search rules)))
+      value = value-near g.R.Numbered.IS_SIGNED g.R.Numbered.BITS word _ numeral
+          ∙ ap (λ x. then_some (in_range g.R.Numbered.IS_SIGNED g.R.Numbered.BITS x) x) (sym (to_z-of_z {w = w128} {z = c.in_ok-number.number} (search rules)))
           ∙ sym c.in_ok-value_of.ensures;
       later = rw c.in_ok-number.ensures.rest (sym (ap (λ (left : Left). left.later) taken));
     }

@@ -8,15 +8,15 @@ use Rattle.bitrun_text.proofs.numeral.value_of.Goals as goal
 
 pub returns-then-as_i128-number : goal.returns-then-as_i128-number
 returns-then-as_i128-number g c =
-    let some = (g.met.R.Integer.width_law c.requires.width).0 in
+    let some = (g.met.R.Numbered.width_law c.requires.width).0 in
     let number : to_z w128 (of_z w128 c.args.number) ≡ c.args.number = to_z-of_z {w = w128} {z = c.args.number} (search rules) in
-    let masked = c.masked_new-value.ensures.value ∙ ap (wrap g.R.Integer.IS_SIGNED g.R.Integer.BITS) number in
+    let masked = c.masked_new-value.ensures.value ∙ ap (wrap g.R.Numbered.IS_SIGNED g.R.Numbered.BITS) number in
     let same : c.as_i128.result ≡ c.args.number = sym (to_z-of_z {w = w128} {z = c.as_i128.result} (search rules)) ∙ ap (to_z w128) c.if-as_i128-number.true ∙ number in
-    sym (value_kept g.R.Integer.IS_SIGNED g.R.Integer.BITS some c.requires.narrow c.args.number _ masked (sym c.as_i128.ensures.value ∙ same))
+    sym (value_kept g.R.Numbered.IS_SIGNED g.R.Numbered.BITS some c.requires.narrow c.args.number _ masked (sym c.as_i128.ensures.value ∙ same))
 
 pub returns-else-as_i128-number : goal.returns-else-as_i128-number
 returns-else-as_i128-number g c =
-    let some = (g.met.R.Integer.width_law c.requires.width).0 in
+    let some = (g.met.R.Numbered.width_law c.requires.width).0 in
     let number : to_z w128 (of_z w128 c.args.number) ≡ c.args.number = to_z-of_z {w = w128} {z = c.args.number} (search rules) in
-    let masked = c.masked_new-value.ensures.value ∙ ap (wrap g.R.Integer.IS_SIGNED g.R.Integer.BITS) number in
-    sym (value_lost g.R.Integer.IS_SIGNED g.R.Integer.BITS some c.requires.narrow c.args.number _ masked (λ e. c.if-as_i128-number.false (ap (of_z w128) (c.as_i128.ensures.value ∙ e))))
+    let masked = c.masked_new-value.ensures.value ∙ ap (wrap g.R.Numbered.IS_SIGNED g.R.Numbered.BITS) number in
+    sym (value_lost g.R.Numbered.IS_SIGNED g.R.Numbered.BITS some c.requires.narrow c.args.number _ masked (λ e. c.if-as_i128-number.false (ap (of_z w128) (c.as_i128.ensures.value ∙ e))))

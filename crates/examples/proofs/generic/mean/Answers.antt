@@ -4,11 +4,11 @@ use Rattle.examples.proofs.generic.mean.Goals as goal
 
 pub from_-requires-clause-range : goal.from_-requires-clause-range
 from_-requires-clause-range g c _ =
-    (mean-is g.T.Integer.IS_SIGNED g.T.Integer.BITS c.to_u128_bits-a.result c.to_u128_bits-b.result _ (g.T.Integer.number c.args.a) (g.T.Integer.number c.args.b) g.met.T.UnsignedInteger.unsigned_law (g.met.T.Integer.width_law c.to_u128_bits-a.ensures.width)
+    (mean-is g.T.Numbered.IS_SIGNED g.T.Numbered.BITS c.to_u128_bits-a.result c.to_u128_bits-b.result _ (g.T.Numbered.number c.args.a) (g.T.Numbered.number c.args.b) g.met.T.UnsignedInteger.unsigned_law (g.met.T.Numbered.width_law c.to_u128_bits-a.ensures.width)
     c.to_u128_bits-a.ensures.range c.to_u128_bits-b.ensures.range c.to_u128_bits-a.ensures.value c.to_u128_bits-b.ensures.value refl).0
 
 pub returns : goal.returns
 returns g c =
     c.from_.ensures.value
-    ∙ (mean-is g.T.Integer.IS_SIGNED g.T.Integer.BITS c.to_u128_bits-a.result c.to_u128_bits-b.result _ (g.T.Integer.number c.args.a) (g.T.Integer.number c.args.b) g.met.T.UnsignedInteger.unsigned_law (g.met.T.Integer.width_law c.to_u128_bits-a.ensures.width)
+    ∙ (mean-is g.T.Numbered.IS_SIGNED g.T.Numbered.BITS c.to_u128_bits-a.result c.to_u128_bits-b.result _ (g.T.Numbered.number c.args.a) (g.T.Numbered.number c.args.b) g.met.T.UnsignedInteger.unsigned_law (g.met.T.Numbered.width_law c.to_u128_bits-a.ensures.width)
     c.to_u128_bits-a.ensures.range c.to_u128_bits-b.ensures.range c.to_u128_bits-a.ensures.value c.to_u128_bits-b.ensures.value refl).1

@@ -9,15 +9,15 @@ pub returns-clause-bytes : goal.returns-clause-bytes
 returns-clause-bytes g c = bytes-wrap _ _ _ _ _ g.met.Self.ByteOrders.width_law c.from_u128_bits.ensures ∙ search rules
 
 pub returns-clause-number : goal.returns-clause-number
-returns-clause-number g c = c.from_u128_bits.ensures ∙ ap (λ (p : ℕ). wrap g.Self.Integer.IS_SIGNED g.Self.Integer.BITS (pos p)) c.pattern_of.ensures.value
+returns-clause-number g c = c.from_u128_bits.ensures ∙ ap (λ (p : ℕ). wrap g.Self.Numbered.IS_SIGNED g.Self.Numbered.BITS (pos p)) c.pattern_of.ensures.value
 
 pub returns-clause-unsigned : goal.returns-clause-unsigned
 returns-clause-unsigned g c u =
     let few : length c.args.list ≡ g.row.N = search rules in
     let small = subst (λ (p : ℕ). p < 2 ^ (8 * length c.args.list)) c.pattern_of.ensures.value c.pattern_of.ensures.fits in
-    unsigned-number_of _ _ _ _ _ g.met.Self.ByteOrders.width_law (g.met.Self.Integer.width_law g.met.Self.ByteOrders.valid_law).0 (returns-clause-number g c)
+    unsigned-number_of _ _ _ _ _ g.met.Self.ByteOrders.width_law (g.met.Self.Numbered.width_law g.met.Self.ByteOrders.valid_law).0 (returns-clause-number g c)
     (subst (λ (k : ℕ). bytes_number c.args.list < 2 ^ (8 * k)) few small) u
 
 pub returns-clause-only : goal.returns-clause-only
 returns-clause-only g c x f e =
-    returns-clause-number g c ∙ wrap-number_of _ _ _ _ _ g.met.Self.ByteOrders.width_law (g.met.Self.Integer.width_law g.met.Self.ByteOrders.valid_law).0 f e
+    returns-clause-number g c ∙ wrap-number_of _ _ _ _ _ g.met.Self.ByteOrders.width_law (g.met.Self.Numbered.width_law g.met.Self.ByteOrders.valid_law).0 f e

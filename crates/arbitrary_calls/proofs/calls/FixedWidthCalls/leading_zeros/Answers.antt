@@ -1,0 +1,31 @@
+use Rattle.std.specs.Prelude.{◌≡◌, ◌≤◌, ◌<◌, ◌-◌, ◌%◌, ◌^◌, ◌<ℤ◌, ◌≤ℤ◌, ℕ, pos, false}
+use Rattle.std.specs.Bool.{beq}
+use Rattle.std.specs.List.{suffix_len}
+use Rattle.std.proofs.Common.{ap, sym, subst, ◌∙◌}
+use Rattle.std.proofs.Math.Nat.{mod-eq_of_lt}
+use Rattle.arbitrary_base.specs.BitList.{bits}
+use Rattle.arbitrary_base.proofs.bit_lists.Count.{tail-fits}
+use Rattle.arbitrary_base.proofs.bit_lists.TwosComplement.{bits-residue}
+use Rattle.arbitrary_base.proofs.operations.ZeroRunBounds.{leading-none, leading-found, leading-negative, leading-low, leading-high}
+use Rattle.arbitrary_calls.proofs.calls.FixedWidthCalls.leading_zeros.Goals as goal
+
+pub returns : goal.returns
+returns g c =
+    let s = g.Self.Numbered.IS_SIGNED in
+    let B = g.Self.Numbered.BITS in
+    let x = g.Self.Numbered.number c.args.self in
+    let h = c.low_bits.ensures.some in
+    let f = c.low_bits.ensures.range in
+    let n : c.masked.result ≡ c.low_bits.result % 2 ^ B = cc in
+    let p = n ∙ mod-eq_of_lt c.low_bits.ensures.fits ∙ c.low_bits.ensures.value in
+    let v : c.leading_zeros.result ≡ suffix_len (beq false) (bits B (pos c.masked.result)) = cc in
+    let e = v ∙ ap (suffix_len (beq false)) (bits-residue B _ x p) in
+    record {
+      value = e;
+      bound = subst (λ (m : ℕ). m ≤ B) (sym e) (tail-fits false B x);
+      none = λ z. e ∙ leading-none s B x h f z;
+      found = λ d. subst (λ (m : ℕ). m < B) (sym e) (leading-found s B x h f d);
+      negative = λ l. e ∙ leading-negative s B x h f l;
+      low = λ l. subst (λ (m : ℕ). pos (2 ^ (B - 1 - m)) ≤ℤ x) (sym e) (leading-low s B x h f l);
+      high = λ l. subst (λ (m : ℕ). x <ℤ pos (2 ^ (B - m))) (sym e) (leading-high s B x h f l);
+    }

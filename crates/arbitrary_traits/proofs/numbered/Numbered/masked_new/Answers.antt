@@ -1,0 +1,32 @@
+use Rattle.std.specs.Prelude.{ℤ, Bool}
+use Rattle.std.proofs.Common.{subst}
+use Rattle.arbitrary_base.specs.Range.{InRange}
+use Rattle.arbitrary_base.specs.Residue.{Congruent}
+use Rattle.arbitrary_base.proofs.modular.ExactOrCongruent.{wrapped-congruent, wrapped-exact}
+use Rattle.arbitrary_base.proofs.modular.Truncation.{InRange-of_unsigned, InRange-wider}
+use Rattle.arbitrary_traits.proofs.Conversion.{wrap-to_u128_bits}
+use Rattle.arbitrary_traits.proofs.numbered.Numbered.masked_new.Goals as goal
+
+pub returns : goal.returns
+returns g c =
+    let some = g.met.Self.Numbered.width_law c.requires in
+    let e = wrap-to_u128_bits g.Self.Numbered.IS_SIGNED g.Self.Numbered.BITS _ _ _ some c.to_u128_bits.ensures.value c.from_u128_bits.ensures in
+    let s = g.Self.Numbered.IS_SIGNED in
+    let B = g.Self.Numbered.BITS in
+    let A = g.T.Numbered.BITS in
+    let x = g.T.Numbered.number c.args.value in
+    let h = (g.met.T.Numbered.width_law c.to_u128_bits.ensures.width).0 in
+    let f = c.to_u128_bits.ensures.range in
+    let exact = λ (i : InRange s B x). wrapped-exact s B _ _ some.0 i e in
+    let congruent = wrapped-congruent s B _ _ e in
+    record {
+      value = e;
+      exact = exact;
+      as_wide = λ d l. exact (InRange-wider s A B x h l (subst (λ (t : Bool). InRange t A x) d f));
+      wider = λ d l. exact (InRange-of_unsigned s A B x h l (subst (λ (t : Bool). InRange t A x) d f));
+      narrower = λ l. congruent;
+      other_sign = λ d. congruent;
+      congruent = λ y d. subst (λ (z : ℤ). Congruent B (g.Self.Numbered.number c.from_u128_bits.result) z) d congruent;
+      range = c.to_u128_bits.ensures.range;
+      width = c.to_u128_bits.ensures.width;
+    }

@@ -1,0 +1,256 @@
+//! The trait `Numbered`: the width, the sign and the number of a value, and the conversions between any two such types,
+//! each written once. It requires little, so that a caller's proof carries little: `Integer`, which has the operators, is above it.
+
+ghost use Rattle.std.specs.Prelude.{◌≡◌, ◌≤◌, ◌<◌, ℕ, ℤ, Bool, true, false, pos, not};
+ghost use Rattle.arbitrary_base.specs.Range.{InRange};
+ghost use Rattle.arbitrary_base.specs.Residue.{residue, wrap, Congruent};
+
+use arbitrary_base::storage::Sealed;
+
+/// A type whose values are the numbers of a width, with or without a sign: from 0 to `2 ^ BITS - 1`, or, where it has a
+/// sign, from `-2 ^ (BITS - 1)` to `2 ^ (BITS - 1) - 1`. Conversions keep the number where the type has it, and else its low
+/// bits.
+pub trait Numbered: Copy + Sealed {
+    /// The width in bits.
+    const BITS: usize;
+
+    /// Whether the type has a sign.
+    const IS_SIGNED: bool;
+
+    ghost BITS: { ℕ };
+
+    ghost IS_SIGNED: { Bool };
+
+    // Whether the storage can keep numbers of this width.
+    ghost valid: { Type 0 };
+
+    // The number that a value stands for.
+    ghost number: { Self → ℤ };
+
+    /// The number's 128 bits: its residue modulo `2 ^ 128`.
+    fn to_u128_bits(self) -> u128
+        ensures value { result ≡ residue 128 (number self) }
+        ensures range { InRange IS_SIGNED BITS (number self) }
+        ensures width { valid };
+
+    /// The type's number that is congruent to `pattern` modulo `2 ^ BITS`. The width is valid.
+    fn from_u128_bits(pattern: u128) -> Self
+        requires { valid }
+        ensures { number result ≡ wrap IS_SIGNED BITS (pos pattern) };
+
+    /// The same number, which is in range of this type, from any other. The width is valid.
+    final fn from_<T: Numbered>(value: T) -> Self
+        requires width { valid }
+        requires range { InRange T.IS_SIGNED T.BITS (T.number value) → InRange IS_SIGNED BITS (T.number value) }
+        ensures value { number result ≡ T.number value }
+        ensures range { InRange T.IS_SIGNED T.BITS (T.number value) }
+    {
+        Self::masked_new(value)
+    }
+
+    // Here and in `as_` to `as_isize` premises on signs and widths bring the equation, or the congruence
+    // where the number may change. `congruent` is for each equal `y`, so that no search opens it unasked.
+    /// The type's number that is congruent to that of `value` modulo `2 ^ BITS`: high bits are
+    /// dropped, and the sign is extended. The width is valid.
+    #[tactic(auto, using(crate::proofs::Conversion::conversions))]
+    final fn masked_new<T: Numbered>(value: T) -> Self
+        requires { valid }
+        ensures value { number result ≡ wrap IS_SIGNED BITS (T.number value) }
+        ensures exact { InRange IS_SIGNED BITS (T.number value) → number result ≡ T.number value }
+        ensures as_wide { T.IS_SIGNED ≡ IS_SIGNED → T.BITS ≤ BITS → number result ≡ T.number value }
+        ensures wider { T.IS_SIGNED ≡ false → T.BITS < BITS → number result ≡ T.number value }
+        ensures narrower { BITS ≤ T.BITS → Congruent BITS (number result) (T.number value) }
+        ensures other_sign { T.IS_SIGNED ≡ not IS_SIGNED → Congruent BITS (number result) (T.number value) }
+        ensures congruent { (y : ℤ) → T.number value ≡ y → Congruent BITS (number result) y }
+        ensures range { InRange T.IS_SIGNED T.BITS (T.number value) }
+        ensures width { T.valid }
+    {
+        Self::from_u128_bits(value.to_u128_bits())
+    }
+
+    /// `T::masked_new` of the value. The width of `T` is valid.
+    final fn as_<T: Numbered>(self) -> T
+        requires { T.valid }
+        ensures value { T.number result ≡ wrap T.IS_SIGNED T.BITS (number self) }
+        ensures exact { InRange T.IS_SIGNED T.BITS (number self) → T.number result ≡ number self }
+        ensures as_wide { IS_SIGNED ≡ T.IS_SIGNED → BITS ≤ T.BITS → T.number result ≡ number self }
+        ensures wider { IS_SIGNED ≡ false → BITS < T.BITS → T.number result ≡ number self }
+        ensures narrower { T.BITS ≤ BITS → Congruent T.BITS (T.number result) (number self) }
+        ensures other_sign { IS_SIGNED ≡ not T.IS_SIGNED → Congruent T.BITS (T.number result) (number self) }
+        ensures congruent { (y : ℤ) → number self ≡ y → Congruent T.BITS (T.number result) y }
+        ensures range { InRange IS_SIGNED BITS (number self) }
+        ensures width { valid }
+    {
+        T::masked_new(self)
+    }
+
+    /// The low 8 bits, unsigned.
+    final fn as_u8(self) -> u8
+        ensures value { pos result ≡ wrap false 8 (number self) }
+        ensures exact { InRange false 8 (number self) → pos result ≡ number self }
+        ensures wider { IS_SIGNED ≡ false → BITS ≤ 8 → pos result ≡ number self }
+        ensures narrower { 8 < BITS → Congruent 8 (pos result) (number self) }
+        ensures signed { IS_SIGNED ≡ true → Congruent 8 (pos result) (number self) }
+        ensures congruent { (y : ℤ) → number self ≡ y → Congruent 8 (pos result) y }
+        ensures range { InRange IS_SIGNED BITS (number self) }
+        ensures width { valid }
+    {
+        self.as_::<u8>()
+    }
+
+    /// The low 16 bits, unsigned.
+    final fn as_u16(self) -> u16
+        ensures value { pos result ≡ wrap false 16 (number self) }
+        ensures exact { InRange false 16 (number self) → pos result ≡ number self }
+        ensures wider { IS_SIGNED ≡ false → BITS ≤ 16 → pos result ≡ number self }
+        ensures narrower { 16 < BITS → Congruent 16 (pos result) (number self) }
+        ensures signed { IS_SIGNED ≡ true → Congruent 16 (pos result) (number self) }
+        ensures congruent { (y : ℤ) → number self ≡ y → Congruent 16 (pos result) y }
+        ensures range { InRange IS_SIGNED BITS (number self) }
+        ensures width { valid }
+    {
+        self.as_::<u16>()
+    }
+
+    /// The low 32 bits, unsigned.
+    final fn as_u32(self) -> u32
+        ensures value { pos result ≡ wrap false 32 (number self) }
+        ensures exact { InRange false 32 (number self) → pos result ≡ number self }
+        ensures wider { IS_SIGNED ≡ false → BITS ≤ 32 → pos result ≡ number self }
+        ensures narrower { 32 < BITS → Congruent 32 (pos result) (number self) }
+        ensures signed { IS_SIGNED ≡ true → Congruent 32 (pos result) (number self) }
+        ensures congruent { (y : ℤ) → number self ≡ y → Congruent 32 (pos result) y }
+        ensures range { InRange IS_SIGNED BITS (number self) }
+        ensures width { valid }
+    {
+        self.as_::<u32>()
+    }
+
+    /// The low 64 bits, unsigned.
+    final fn as_u64(self) -> u64
+        ensures value { pos result ≡ wrap false 64 (number self) }
+        ensures exact { InRange false 64 (number self) → pos result ≡ number self }
+        ensures wider { IS_SIGNED ≡ false → BITS ≤ 64 → pos result ≡ number self }
+        ensures narrower { 64 < BITS → Congruent 64 (pos result) (number self) }
+        ensures signed { IS_SIGNED ≡ true → Congruent 64 (pos result) (number self) }
+        ensures congruent { (y : ℤ) → number self ≡ y → Congruent 64 (pos result) y }
+        ensures range { InRange IS_SIGNED BITS (number self) }
+        ensures width { valid }
+    {
+        self.as_::<u64>()
+    }
+
+    /// The low 128 bits, unsigned.
+    final fn as_u128(self) -> u128
+        ensures value { pos result ≡ wrap false 128 (number self) }
+        ensures exact { InRange false 128 (number self) → pos result ≡ number self }
+        ensures wider { IS_SIGNED ≡ false → BITS ≤ 128 → pos result ≡ number self }
+        ensures narrower { 128 < BITS → Congruent 128 (pos result) (number self) }
+        ensures signed { IS_SIGNED ≡ true → Congruent 128 (pos result) (number self) }
+        ensures congruent { (y : ℤ) → number self ≡ y → Congruent 128 (pos result) y }
+        ensures range { InRange IS_SIGNED BITS (number self) }
+        ensures width { valid }
+    {
+        self.as_::<u128>()
+    }
+
+    /// The low 64 bits, unsigned.
+    final fn as_usize(self) -> usize
+        ensures value { pos result ≡ wrap false 64 (number self) }
+        ensures exact { InRange false 64 (number self) → pos result ≡ number self }
+        ensures wider { IS_SIGNED ≡ false → BITS ≤ 64 → pos result ≡ number self }
+        ensures narrower { 64 < BITS → Congruent 64 (pos result) (number self) }
+        ensures signed { IS_SIGNED ≡ true → Congruent 64 (pos result) (number self) }
+        ensures congruent { (y : ℤ) → number self ≡ y → Congruent 64 (pos result) y }
+        ensures range { InRange IS_SIGNED BITS (number self) }
+        ensures width { valid }
+    {
+        self.as_u64() as usize
+    }
+
+    /// The low 8 bits, in two's complement.
+    #[tactic(auto, using(crate::proofs::Conversion::wider_types))]
+    final fn as_i8(self) -> i8
+        ensures value { result ≡ wrap true 8 (number self) }
+        ensures exact { InRange true 8 (number self) → result ≡ number self }
+        ensures wider { BITS < 8 → result ≡ number self }
+        ensures narrower { 8 ≤ BITS → Congruent 8 result (number self) }
+        ensures congruent { (y : ℤ) → number self ≡ y → Congruent 8 result y }
+        ensures range { InRange IS_SIGNED BITS (number self) }
+        ensures width { valid }
+    {
+        self.as_::<i8>()
+    }
+
+    /// The low 16 bits, in two's complement.
+    #[tactic(auto, using(crate::proofs::Conversion::wider_types))]
+    final fn as_i16(self) -> i16
+        ensures value { result ≡ wrap true 16 (number self) }
+        ensures exact { InRange true 16 (number self) → result ≡ number self }
+        ensures wider { BITS < 16 → result ≡ number self }
+        ensures narrower { 16 ≤ BITS → Congruent 16 result (number self) }
+        ensures congruent { (y : ℤ) → number self ≡ y → Congruent 16 result y }
+        ensures range { InRange IS_SIGNED BITS (number self) }
+        ensures width { valid }
+    {
+        self.as_::<i16>()
+    }
+
+    /// The low 32 bits, in two's complement.
+    #[tactic(auto, using(crate::proofs::Conversion::wider_types))]
+    final fn as_i32(self) -> i32
+        ensures value { result ≡ wrap true 32 (number self) }
+        ensures exact { InRange true 32 (number self) → result ≡ number self }
+        ensures wider { BITS < 32 → result ≡ number self }
+        ensures narrower { 32 ≤ BITS → Congruent 32 result (number self) }
+        ensures congruent { (y : ℤ) → number self ≡ y → Congruent 32 result y }
+        ensures range { InRange IS_SIGNED BITS (number self) }
+        ensures width { valid }
+    {
+        self.as_::<i32>()
+    }
+
+    /// The low 64 bits, in two's complement.
+    #[tactic(auto, using(crate::proofs::Conversion::wider_types))]
+    final fn as_i64(self) -> i64
+        ensures value { result ≡ wrap true 64 (number self) }
+        ensures exact { InRange true 64 (number self) → result ≡ number self }
+        ensures wider { BITS < 64 → result ≡ number self }
+        ensures narrower { 64 ≤ BITS → Congruent 64 result (number self) }
+        ensures congruent { (y : ℤ) → number self ≡ y → Congruent 64 result y }
+        ensures range { InRange IS_SIGNED BITS (number self) }
+        ensures width { valid }
+    {
+        self.as_::<i64>()
+    }
+
+    /// The low 128 bits, in two's complement.
+    #[tactic(auto, using(crate::proofs::Conversion::wider_types))]
+    final fn as_i128(self) -> i128
+        ensures value { result ≡ wrap true 128 (number self) }
+        ensures exact { InRange true 128 (number self) → result ≡ number self }
+        ensures wider { BITS < 128 → result ≡ number self }
+        ensures narrower { 128 ≤ BITS → Congruent 128 result (number self) }
+        ensures congruent { (y : ℤ) → number self ≡ y → Congruent 128 result y }
+        ensures range { InRange IS_SIGNED BITS (number self) }
+        ensures width { valid }
+    {
+        self.as_::<i128>()
+    }
+
+    /// The low 64 bits, in two's complement.
+    #[tactic(auto, using(crate::proofs::Conversion::wider_types))]
+    final fn as_isize(self) -> isize
+        ensures value { result ≡ wrap true 64 (number self) }
+        ensures exact { InRange true 64 (number self) → result ≡ number self }
+        ensures wider { BITS < 64 → result ≡ number self }
+        ensures narrower { 64 ≤ BITS → Congruent 64 result (number self) }
+        ensures congruent { (y : ℤ) → number self ≡ y → Congruent 64 result y }
+        ensures range { InRange IS_SIGNED BITS (number self) }
+        ensures width { valid }
+    {
+        self.as_i64() as isize
+    }
+
+    ghost width_law: { valid → (1 ≤ BITS) × (BITS ≤ 128) };
+}
