@@ -36,7 +36,8 @@ pub trait Numbered: Copy + Sealed {
     /// The type's number that is congruent to `pattern` modulo `2 ^ BITS`. The width is valid.
     fn from_u128_bits(pattern: u128) -> Self
         requires { valid }
-        ensures { number result ≡ wrap IS_SIGNED BITS (pos pattern) };
+        ensures value { number result ≡ wrap IS_SIGNED BITS (pos pattern) }
+        ensures undo { (y : ℤ) → InRange IS_SIGNED BITS y → pattern ≡ residue 128 y → number result ≡ y };
 
     /// The same number, which is in range of this type, from any other. The width is valid.
     final fn from_<T: Numbered>(value: T) -> Self
@@ -174,6 +175,7 @@ pub trait Numbered: Copy + Sealed {
         ensures value { result ≡ wrap true 8 (number self) }
         ensures exact { InRange true 8 (number self) → result ≡ number self }
         ensures wider { BITS < 8 → result ≡ number self }
+        ensures as_wide { IS_SIGNED ≡ true → BITS ≤ 8 → result ≡ number self }
         ensures narrower { 8 ≤ BITS → Congruent 8 result (number self) }
         ensures congruent { (y : ℤ) → number self ≡ y → Congruent 8 result y }
         ensures range { InRange IS_SIGNED BITS (number self) }
@@ -188,6 +190,7 @@ pub trait Numbered: Copy + Sealed {
         ensures value { result ≡ wrap true 16 (number self) }
         ensures exact { InRange true 16 (number self) → result ≡ number self }
         ensures wider { BITS < 16 → result ≡ number self }
+        ensures as_wide { IS_SIGNED ≡ true → BITS ≤ 16 → result ≡ number self }
         ensures narrower { 16 ≤ BITS → Congruent 16 result (number self) }
         ensures congruent { (y : ℤ) → number self ≡ y → Congruent 16 result y }
         ensures range { InRange IS_SIGNED BITS (number self) }
@@ -202,6 +205,7 @@ pub trait Numbered: Copy + Sealed {
         ensures value { result ≡ wrap true 32 (number self) }
         ensures exact { InRange true 32 (number self) → result ≡ number self }
         ensures wider { BITS < 32 → result ≡ number self }
+        ensures as_wide { IS_SIGNED ≡ true → BITS ≤ 32 → result ≡ number self }
         ensures narrower { 32 ≤ BITS → Congruent 32 result (number self) }
         ensures congruent { (y : ℤ) → number self ≡ y → Congruent 32 result y }
         ensures range { InRange IS_SIGNED BITS (number self) }
@@ -216,6 +220,7 @@ pub trait Numbered: Copy + Sealed {
         ensures value { result ≡ wrap true 64 (number self) }
         ensures exact { InRange true 64 (number self) → result ≡ number self }
         ensures wider { BITS < 64 → result ≡ number self }
+        ensures as_wide { IS_SIGNED ≡ true → BITS ≤ 64 → result ≡ number self }
         ensures narrower { 64 ≤ BITS → Congruent 64 result (number self) }
         ensures congruent { (y : ℤ) → number self ≡ y → Congruent 64 result y }
         ensures range { InRange IS_SIGNED BITS (number self) }
@@ -230,6 +235,7 @@ pub trait Numbered: Copy + Sealed {
         ensures value { result ≡ wrap true 128 (number self) }
         ensures exact { InRange true 128 (number self) → result ≡ number self }
         ensures wider { BITS < 128 → result ≡ number self }
+        ensures as_wide { IS_SIGNED ≡ true → BITS ≤ 128 → result ≡ number self }
         ensures narrower { 128 ≤ BITS → Congruent 128 result (number self) }
         ensures congruent { (y : ℤ) → number self ≡ y → Congruent 128 result y }
         ensures range { InRange IS_SIGNED BITS (number self) }
@@ -244,6 +250,7 @@ pub trait Numbered: Copy + Sealed {
         ensures value { result ≡ wrap true 64 (number self) }
         ensures exact { InRange true 64 (number self) → result ≡ number self }
         ensures wider { BITS < 64 → result ≡ number self }
+        ensures as_wide { IS_SIGNED ≡ true → BITS ≤ 64 → result ≡ number self }
         ensures narrower { 64 ≤ BITS → Congruent 64 result (number self) }
         ensures congruent { (y : ℤ) → number self ≡ y → Congruent 64 result y }
         ensures range { InRange IS_SIGNED BITS (number self) }

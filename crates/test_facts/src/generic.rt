@@ -134,3 +134,17 @@ pub fn counted<V: FixedWidth>(a: V) -> u32
 {
     a.leading_zeros()
 }
+
+/// 128 bits have every number with a sign.
+pub fn at_128_bits<V: SignedInteger>(a: V) -> i128
+    ensures { result ≡ V.number a }
+{
+    a.as_i128()
+}
+
+/// A number comes back from its 128 bits.
+pub fn back_from_128_bits<V: Integer>(a: V) -> V
+    ensures { V.number result ≡ V.number a }
+{
+    V::from_u128_bits(a.to_u128_bits())
+}

@@ -1,7 +1,7 @@
-//! An operand that is known to come from a call, and the call that undoes it, each fact in one function. A function names the set of
-//! its word.
+//! An operand that is known to come from a call, and the call that undoes it, each fact in one function. Most name the set of
+//! their word.
 
-ghost use Rattle.std.specs.Prelude.{◌≡◌, false};
+ghost use Rattle.std.specs.Prelude.{◌≡◌, false, IsTrue};
 ghost use Rattle.arbitrary_int.specs.Operation.{bitwise_xor, reversed, rotated_right, wrapped_difference, wrapped_sum};
 
 use arbitrary_int::prelude::*;
@@ -44,4 +44,16 @@ pub fn reversal(c: u12, p: u12) -> u12
     ensures { result ≡ p }
 {
     c.reverse_bits()
+}
+
+pub fn bits_of_128(a: u120) -> bool
+    ensures { IsTrue result }
+{
+    u120::from_u128_bits(a.to_u128_bits()) == a
+}
+
+pub fn bits_of_128_signed(a: i24) -> i24
+    ensures { result ≡ a }
+{
+    i24::from_u128_bits(a.to_u128_bits())
 }

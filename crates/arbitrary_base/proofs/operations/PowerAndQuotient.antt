@@ -31,3 +31,7 @@ pub to_u128_bits-back : (s : Bool) (B : ℕ) (x : ℤ) → 1 ≤ B → B ≤ 128
 to_u128_bits-back s B x h g f =
     wrap-same s B (pos (residue 128 x)) x h (Congruent-narrower B 128 (pos (residue 128 x)) x g (residue-congruent 128 x))
     ∙ wrap-of_in_range s B x h f
+
+-- the same of a result and a pattern that equal these
+pub to_u128_bits-undone : (s : Bool) (B p : ℕ) (z y : ℤ) → 1 ≤ B → B ≤ 128 → InRange s B y → p ≡ residue 128 y → z ≡ wrap s B (pos p) → z ≡ y
+to_u128_bits-undone s B p z y h g f e d = d ∙ ap (λ (q : ℕ). wrap s B (pos q)) e ∙ to_u128_bits-back s B y h g f

@@ -9,7 +9,7 @@ use Rattle.arbitrary_calls.proofs.calls.FixedWidthCalls.reverse_bits.Goals as go
 pub returns : goal.returns
 returns g c =
     let q : c.reverse_bits.result ≡ num (reverse (bits g.Self.Numbered.BITS (pos c.low_bits.result))) = cc in
-    let e = reverse-value g.Self.Numbered.IS_SIGNED g.Self.Numbered.BITS _ _ _ _ c.low_bits.ensures.value q c.from_u128_bits.ensures in
+    let e = reverse-value g.Self.Numbered.IS_SIGNED g.Self.Numbered.BITS _ _ _ _ c.low_bits.ensures.value q c.from_u128_bits.ensures.value in
     record {
       operation = e ∙ sym (reversed-is _ _ _);
       value = λ y d. subst (λ (y : ℤ). g.Self.Numbered.number c.from_u128_bits.result ≡ val g.Self.Numbered.IS_SIGNED (reverse (bits g.Self.Numbered.BITS y))) d e;

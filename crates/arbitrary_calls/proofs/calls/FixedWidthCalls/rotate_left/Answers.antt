@@ -12,7 +12,7 @@ returns g c =
     let o = c.low_bits.ensures.some in
     let l : c.args.amount % g.Self.Numbered.BITS ≤ g.Self.Numbered.BITS = omega arith in
     let q : c.rotate_left.result ≡ num (slice_rotate_right (bits g.Self.Numbered.BITS (pos c.low_bits.result)) (c.args.amount % g.Self.Numbered.BITS)) = cc in
-    let e = rotl-value g.Self.Numbered.IS_SIGNED g.Self.Numbered.BITS _ _ (c.args.amount % g.Self.Numbered.BITS) _ _ c.low_bits.ensures.value q c.from_u128_bits.ensures in
+    let e = rotl-value g.Self.Numbered.IS_SIGNED g.Self.Numbered.BITS _ _ (c.args.amount % g.Self.Numbered.BITS) _ _ c.low_bits.ensures.value q c.from_u128_bits.ensures.value in
     record {
       operation = e ∙ sym (rotl-is _ _ _ _);
       value = λ y d. subst (λ (y : ℤ). g.Self.Numbered.number c.from_u128_bits.result ≡ val g.Self.Numbered.IS_SIGNED (slice_rotate_right (bits g.Self.Numbered.BITS y) (c.args.amount % g.Self.Numbered.BITS))) d e;

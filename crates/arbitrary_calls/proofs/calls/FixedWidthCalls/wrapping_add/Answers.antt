@@ -8,7 +8,7 @@ use Rattle.arbitrary_calls.proofs.calls.FixedWidthCalls.wrapping_add.Goals as go
 pub returns : goal.returns
 returns g c =
     let o = c.low_bits.ensures.some in
-    let e = sum-of_patterns g.Self.Numbered.IS_SIGNED g.Self.Numbered.BITS _ _ _ _ _ _ o c.low_bits.ensures.high c.low_bits.ensures.value c.low_bits-2.ensures.value refl c.from_u128_bits.ensures in
+    let e = sum-of_patterns g.Self.Numbered.IS_SIGNED g.Self.Numbered.BITS _ _ _ _ _ _ o c.low_bits.ensures.high c.low_bits.ensures.value c.low_bits-2.ensures.value refl c.from_u128_bits.ensures.value in
     record {
       operation = e ∙ sym (sum-is _ _ _ _);
       value = e;

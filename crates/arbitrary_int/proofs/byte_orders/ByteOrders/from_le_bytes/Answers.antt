@@ -6,10 +6,10 @@ use Rattle.arbitrary_base.proofs.bytes.NumberOfBytes.{bytes-wrap, wrap-number_of
 use Rattle.arbitrary_int.proofs.byte_orders.ByteOrders.from_le_bytes.Goals as goal
 
 pub returns-clause-bytes : goal.returns-clause-bytes
-returns-clause-bytes g c = bytes-wrap _ _ _ _ _ g.met.Self.ByteOrders.width_law c.from_u128_bits.ensures ∙ search rules
+returns-clause-bytes g c = bytes-wrap _ _ _ _ _ g.met.Self.ByteOrders.width_law c.from_u128_bits.ensures.value ∙ search rules
 
 pub returns-clause-number : goal.returns-clause-number
-returns-clause-number g c = c.from_u128_bits.ensures ∙ ap (λ (p : ℕ). wrap g.Self.Numbered.IS_SIGNED g.Self.Numbered.BITS (pos p)) c.pattern_of.ensures.value
+returns-clause-number g c = c.from_u128_bits.ensures.value ∙ ap (λ (p : ℕ). wrap g.Self.Numbered.IS_SIGNED g.Self.Numbered.BITS (pos p)) c.pattern_of.ensures.value
 
 pub returns-clause-unsigned : goal.returns-clause-unsigned
 returns-clause-unsigned g c u =

@@ -10,7 +10,7 @@ use Rattle.arbitrary_traits.proofs.numbered.Numbered.masked_new.Goals as goal
 pub returns : goal.returns
 returns g c =
     let some = g.met.Self.Numbered.width_law c.requires in
-    let e = wrap-to_u128_bits g.Self.Numbered.IS_SIGNED g.Self.Numbered.BITS _ _ _ some c.to_u128_bits.ensures.value c.from_u128_bits.ensures in
+    let e = wrap-to_u128_bits g.Self.Numbered.IS_SIGNED g.Self.Numbered.BITS _ _ _ some c.to_u128_bits.ensures.value c.from_u128_bits.ensures.value in
     let s = g.Self.Numbered.IS_SIGNED in
     let B = g.Self.Numbered.BITS in
     let A = g.T.Numbered.BITS in
