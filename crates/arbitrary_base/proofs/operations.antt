@@ -6,7 +6,9 @@ pub mod BitByBit
 pub mod Amount
 pub mod WrappedRing
 pub mod Multiple
+pub mod Offset
 pub mod Shift
+pub mod Folding
 pub mod RotateAndReverse
 pub mod RotatedNumber
 pub mod PopulationAndRuns

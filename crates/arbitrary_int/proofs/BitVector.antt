@@ -13,14 +13,17 @@ use Rattle.arbitrary_base.proofs.operations.RotateAndReverse.{left-undoes_right,
 use Rattle.arbitrary_base.proofs.operations.Carry.{sum-with_carry, sum-less_xor, sum-less_or, sum-less_and, difference-of_parts, difference-with_borrow, difference-less_xor, or-is_sum, xor-is_sum, or-less_xor}
 use Rattle.arbitrary_base.proofs.operations.Order.{and-below_or, le-tested, lt-tested, ge-tested, gt-tested, xor-below_or, or-below_sum, difference-below_xor, shifted_right-keeps_order, and-negative, or-negative, xor-negative}
 use Rattle.arbitrary_base.proofs.operations.Cancellation.{differences-equal, differences_from-equal, left_rotations-equal, nots-equal, reversals-equal, right_rotations-equal, sums-equal, xors-equal}
+use Rattle.arbitrary_base.proofs.operations.Offset.{offset-above, offset-below, offset-down, offset-down_negative, offset-less, offset-round, offsets-added}
+use Rattle.arbitrary_base.proofs.operations.Folding.{bitwise_xor-chain, bitwise_xor-exchanged, folded-away, folded-twice, shifted_right-past}
 use Rattle.arbitrary_base.proofs.integers.Powers.{power-one, power-zero}
 use Rattle.arbitrary_base.proofs.operations.PowerAndQuotient.{to_u128_bits-back, power-twice, quotient-self, power-of_one, power-of_zero}
 use Rattle.arbitrary_base.proofs.modular.Residue.{wrap-of_in_range}
 use Rattle.arbitrary_int.proofs.BitTests.{low-of_right_cleared, low-of_right_other_cleared, low-of_right_other_set, masked-of_other_cleared, masked-of_other_set}
-use Rattle.arbitrary_base.proofs.operations.Multiple.{multiple-before, multiple-next, multiples-added, multiples-apart, sum-doubles}
+use Rattle.arbitrary_base.proofs.operations.Multiple.{multiple-before, multiple-next, multiples-added, multiples-apart, sum-doubles, wrapped_product-highest}
 use Rattle.arbitrary_int.proofs.KnownCount.{popcount-of_numeral}
 use Rattle.arbitrary_int.proofs.QuotientAndCube.{negated-is_difference, power-thrice, quotient-times}
 use Rattle.arbitrary_int.proofs.SingleBit.{and-one_bit, left-of_one, low-of_right, low-of_right_set}
+use Rattle.arbitrary_int.proofs.WrittenParts.{and-of_written_or, and-written, or-of_written_parts, or-written, xor-of_written_parts, xor-written}
 use Rattle.arbitrary_int.proofs.WrittenMask.{and-none, and-of_cleared_by_negative, or-by_mask, xor-by_mask}
 use Rattle.arbitrary_base.proofs.operations.Shift.{left_right-mask, left_right-mask_not, left_right-numeral, right_left-mask, right_left-mask_not, right_left-mask_signed, right_left-numeral, right_left-numeral_signed, shifted_left-and, shifted_left-difference, shifted_left-is_product, shifted_left-none, shifted_left-or, shifted_left-past, shifted_left-sum, shifted_left-twice, shifted_left-xor, shifted_left-zero, shifted_right-and, shifted_right-none, shifted_right-not, shifted_right-or, shifted_right-twice, shifted_right-xor, shifted_right-zero}
 
@@ -32,6 +35,12 @@ pub ruleset distribution = (Decides-int_eq, and-distributes_or, or-distributes_a
 
 -- shifts
 pub ruleset shifts = (Decides-int_eq, shifted_left-none, shifted_left-zero, shifted_left-twice, shifted_left-past, shifted_left-sum, shifted_left-difference, shifted_left-and, shifted_left-or, shifted_left-xor, sum-twice, shifted_right-none, shifted_right-zero, shifted_right-twice, shifted_right-and, shifted_right-or, shifted_right-xor, right_left-mask, right_left-mask_signed, right_left-mask_not, left_right-mask, left_right-mask_not, bitwise_not-zero, bitwise_not-zero_signed, shifted_right-not, right_left-numeral, right_left-numeral_signed, left_right-numeral)
+
+-- a number under `^` with itself shifted
+pub ruleset shifted_xors = (Decides-int_eq, bitwise_xor-zero, bitwise_xor-undoes, bitwise_xor-chain, bitwise_xor-exchanged, shifted_right-xor, shifted_right-twice, shifted_right-past, shifted_left-xor, shifted_left-twice, shifted_left-past)
+
+-- the same once more, by as many places: Gray codes
+pub ruleset folds = (Decides-int_eq, folded-twice, folded-away)
 
 -- rotations
 pub ruleset rotations = (Decides-int_eq, rotated_left-none, rotated_left-twice, rotated_left-round, rotated_left-zero, rotated_left-highest, rotated_left-minus_one, rotated_left-not_zero, rotated_left-and, rotated_left-or, rotated_left-xor, rotated_left-not, rotated_right-none, rotated_right-as_left, right-undoes_left, left-undoes_right)
@@ -45,8 +54,11 @@ pub ruleset counts = (Decides-int_eq, popcount-of_zero, popcount-of_highest, pop
 -- sums and differences that wrap
 pub ruleset ring = (Decides-int_eq, wrapped_sum-commutes, wrapped_sum-associates, wrapped_sum-zero, wrapped_difference-self, wrapped_difference-zero, wrapped_difference-is_sum, difference-of_sum, difference-of_sum_left, sum-of_difference, sum-to_difference, difference-to_difference, difference-twice, difference-turned, negated-twice, negated-sum, sum-of_difference_right, difference-of_difference_right, difference-of_sums)
 
+-- a number moved by written numbers, round its range
+pub ruleset offsets = (Decides-int_eq, offsets-added, offset-less, offset-down, offset-down_negative, offset-above, offset-below, offset-round, wrapped_sum-zero)
+
 -- products that wrap, also of sums and differences
-pub ruleset products = (Decides-int_eq, wrapped_product-commutes, wrapped_product-associates, wrapped_product-zero, wrapped_product-one, wrapped_product-two, products-of_sums, products-of_differences, product-of_sum, product-of_difference, product-of_negated, product-of_negated_both, shifted_left-is_product, difference-of_squares)
+pub ruleset products = (Decides-int_eq, wrapped_product-commutes, wrapped_product-associates, wrapped_product-zero, wrapped_product-one, wrapped_product-two, products-of_sums, products-of_differences, product-of_sum, product-of_difference, product-of_negated, product-of_negated_both, shifted_left-is_product, difference-of_squares, wrapped_product-highest, negated-is_difference)
 
 -- multiples of one number by written factors, also made by shifts and by adding it to itself
 pub ruleset multiples = (Decides-int_eq, multiples-added, multiples-apart, multiple-next, multiple-before, sum-doubles, shifted_left-is_product, wrapped_sum-commutes, wrapped_product-commutes)
@@ -83,6 +95,9 @@ pub ruleset bit_tests = (Decides-int_eq, low-of_right_set, low-of_right_cleared,
 
 -- flags that are set and cleared by a mask that is written out, exactly
 pub ruleset flags = (Decides-int_eq, and-digits, and-run, and-within, and-none, and-by_complement, and-by_negative, or-by_mask, xor-by_mask, and-of_cleared, and-of_cleared_by_negative, and-of_set)
+
+-- written numbers that follow each other, and the parts of a number under written masks
+pub ruleset written_masks = (Decides-int_eq, and-written, or-written, xor-written, or-of_written_parts, xor-of_written_parts, and-of_written_or, bitwise_and-highest, bitwise_and-zero, bitwise_and-minus_one, bitwise_or-zero, bitwise_xor-zero)
 
 -- how many bits of a number that is written out are one
 pub ruleset known_counts = (popcount-of_numeral)

@@ -17,6 +17,7 @@ pub mod SingleBit
 pub mod OtherBits
 pub mod BitTests
 pub mod WrittenMask
+pub mod WrittenParts
 pub mod QuotientAndCube
 pub mod KnownCount
 pub mod Truncations

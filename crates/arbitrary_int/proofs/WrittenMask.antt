@@ -19,7 +19,7 @@ and-of_cleared_by_negative B n x h g =
     let d : bitwise_not true B (pos n) ≡ negsuc n = omega (arith, ints) in
     ap (λ (y : ℤ). bitwise_and true B (bitwise_and true B x y) (pos n)) (sym d) ∙ and-of_cleared true B x (pos n) h
 
-masked : (s : Bool) (B n : ℕ) → pos n ≤ℤ hi s B → InRange s B (pos n)
+pub masked : (s : Bool) (B n : ℕ) → pos n ≤ℤ hi s B → InRange s B (pos n)
 masked false B n g = record { low = omega (arith, ints); high = g }
 masked true B n g = let p = pow_pos (B - 1) in record { low = omega (arith, ints); high = g }
 

@@ -62,3 +62,17 @@ pub fn difference_of_squares(x: u12, y: u12) -> bool
     x.wrapping_add(y).wrapping_mul(x.wrapping_sub(y))
         == x.wrapping_mul(x).wrapping_sub(y.wrapping_mul(y))
 }
+
+/// The greatest number of a type with no sign multiplies as -1 does.
+pub fn times_highest(x: u12) -> bool
+    ensures { IsTrue result }
+{
+    x.wrapping_mul(u12::max_value()) == x.wrapping_neg()
+}
+
+/// From the left.
+pub fn highest_times(x: u12) -> bool
+    ensures { IsTrue result }
+{
+    u12::max_value().wrapping_mul(x) == x.wrapping_neg()
+}

@@ -75,6 +75,13 @@ pub fn signed_mean(total: i12, count: i12) -> Option<i12> {
     }
 }
 
+/// The mean of two numbers, toward 0.
+pub fn middle(left: i12, right: i12) -> i12
+    ensures { result ≡ int_div (left +ℤ right) (pos 2) }
+{
+    i12::from_((i13::from_(left) + i13::from_(right)) / i13::new(2))
+}
+
 /// The number moved up, and 0 where no bit is left.
 pub fn moved(number: u12, places: u8) -> u12 {
     if places < 12 {

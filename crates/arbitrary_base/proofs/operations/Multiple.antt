@@ -1,8 +1,10 @@
 -- Multiples of one number, added and taken from each other, wrapped: `(x << 3) + (x << 1)` is ten times x.
-use Rattle.std.specs.Prelude.{◌≡◌, ℕ, ℤ, Bool, pos, ◌≤◌, ◌+ℤ◌, ◌-ℤ◌, ◌*ℤ◌}
+use Rattle.std.specs.Prelude.{◌≡◌, ℕ, ℤ, Bool, false, pos, negsuc, ◌≤◌, ◌+ℤ◌, ◌-ℤ◌, ◌*ℤ◌}
 use Rattle.std.proofs.Common.{sym, ap, ap₂, ◌∙◌, arith}
 use Rattle.std.proofs.lemmas.Int.{ints}
 use Rattle.std.proofs.Math.IntN.{*ℤ_comm}
+use Rattle.arbitrary_base.specs.Range.{hi}
+use Rattle.arbitrary_base.specs.Residue.{Congruent}
 use Rattle.arbitrary_base.specs.Operation.{wrapped_difference, wrapped_product, wrapped_sum}
 use Rattle.arbitrary_base.proofs.integers.Ring.{add-mul_z, sub-mul_z}
 use Rattle.arbitrary_base.proofs.modular.Congruence.{Congruent-refl}
@@ -46,3 +48,13 @@ module _ (s : Bool) (B : ℕ) (x a : ℤ) (h : 1 ≤ B) where
       by-congruence s B _ _ _ _ h (difference-in_range s B _ _ h) (product-in_range s B _ _ h)
       (difference-congruent s B _ _ _ _ (product-congruent s B _ _ _ _ (Congruent-refl B x) (Congruent-refl B a)) (Congruent-refl B x))
       (product-congruent s B _ _ _ _ (Congruent-refl B x) (Congruent-refl B (a -ℤ pos 1))) (ap (λ (c : ℤ). x *ℤ a -ℤ c) (once x) ∙ times-difference x a (pos 1))
+
+-- the greatest number of a type with no sign is congruent to -1
+highest-congruent : (B : ℕ) → Congruent B (hi false B) (negsuc 0)
+highest-congruent B = record { times = pos 1; apart = omega (arith, ints) }
+
+pub wrapped_product-highest : (B : ℕ) (x : ℤ) → 1 ≤ B → wrapped_product false B x (hi false B) ≡ wrapped_difference false B (pos 0) x
+wrapped_product-highest B x h =
+    by-congruence false B _ _ _ _ h (product-in_range false B _ _ h) (difference-in_range false B _ _ h)
+    (product-congruent false B _ _ _ _ (Congruent-refl B x) (highest-congruent B))
+    (difference-congruent false B _ _ _ _ (Congruent-refl B (pos 0)) (Congruent-refl B x)) (*ℤ_comm x (negsuc 0) ∙ omega (arith, ints))

@@ -1,0 +1,67 @@
+//! A number under `^` with itself shifted: Gray codes there and back, and steps of generators that undo themselves.
+#![tactic(auto, using(arbitrary_int::proofs::BitVector::shifted_xors))]
+
+ghost use Rattle.std.specs.Prelude.{IsTrue};
+
+use arbitrary_int::prelude::*;
+
+/// A Gray code of three bits, back by two shifts of it.
+pub fn gray_of_three_bits(x: u3) -> bool
+    ensures { IsTrue result }
+{
+    let gray = x ^ (x >> 1);
+    gray ^ (gray >> 1) ^ (gray >> 2) == x
+}
+
+/// Of four bits, back by doubled shifts.
+#[tactic(auto, using(arbitrary_int::proofs::BitVector::folds))]
+pub fn gray_of_four_bits(x: u4) -> bool
+    ensures { IsTrue result }
+{
+    let gray = x ^ (x >> 1);
+    let half = gray ^ (gray >> 1);
+    half ^ (half >> 2) == x
+}
+
+/// Of twelve bits.
+#[tactic(auto, using(arbitrary_int::proofs::BitVector::folds))]
+pub fn gray_of_twelve_bits(x: u12) -> bool
+    ensures { IsTrue result }
+{
+    let gray = x ^ (x >> 1);
+    let two = gray ^ (gray >> 1);
+    let four = two ^ (two >> 2);
+    let eight = four ^ (four >> 4);
+    eight ^ (eight >> 8) == x
+}
+
+/// The code of an `^` is the `^` of the codes.
+pub fn gray_of_xor(x: u12, y: u12) -> bool
+    ensures { IsTrue result }
+{
+    (x ^ y) ^ ((x ^ y) >> 1) == (x ^ (x >> 1)) ^ (y ^ (y >> 1))
+}
+
+/// A shift by half of the bits or more undoes itself.
+pub fn right_again(x: u24) -> bool
+    ensures { IsTrue result }
+{
+    let y = x ^ (x >> 13);
+    y ^ (y >> 13) == x
+}
+
+/// And so to the left.
+pub fn left_again(x: u12) -> bool
+    ensures { IsTrue result }
+{
+    let y = x ^ (x << 7);
+    y ^ (y << 7) == x
+}
+
+/// A shift by less, undone by two.
+pub fn right_by_two(x: u12) -> bool
+    ensures { IsTrue result }
+{
+    let y = x ^ (x >> 5);
+    y ^ (y >> 5) ^ (y >> 10) == x
+}

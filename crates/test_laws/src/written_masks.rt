@@ -1,0 +1,56 @@
+//! Written numbers that follow each other under `&`, `|` and `^`, and the parts of a number under written masks.
+#![tactic(auto, using(arbitrary_int::proofs::BitVector::written_masks))]
+
+ghost use Rattle.std.specs.Prelude.{IsTrue};
+
+use arbitrary_int::prelude::*;
+
+pub fn set_twice(x: u12) -> bool
+    ensures { IsTrue result }
+{
+    (x | u12::new(0x0F)) | u12::new(0xF0) == x | u12::new(0xFF)
+}
+
+pub fn masked_twice(x: i12) -> bool
+    ensures { IsTrue result }
+{
+    x & i12::new(0xFF) & i12::new(0x0F) == x & i12::new(0x0F)
+}
+
+pub fn turned_twice(x: i12) -> bool
+    ensures { IsTrue result }
+{
+    x ^ i12::new(0x0F) ^ i12::new(0xF0) == x ^ i12::new(0xFF)
+}
+
+pub fn turned_back(x: u12) -> bool
+    ensures { IsTrue result }
+{
+    x ^ u12::new(0x55) ^ u12::new(0x55) == x
+}
+
+/// A number is the `|` of its parts under masks that cover it.
+pub fn two_parts(x: u12) -> bool
+    ensures { IsTrue result }
+{
+    (x & u12::new(0xF0F)) | (x & u12::new(0x0F0)) == x
+}
+
+pub fn three_parts(x: u24) -> bool
+    ensures { IsTrue result }
+{
+    (x & u24::new(0xFF0000)) | (x & u24::new(0x00FF00)) | (x & u24::new(0x0000FF)) == x
+}
+
+pub fn two_parts_by_xor(x: u12) -> bool
+    ensures { IsTrue result }
+{
+    (x & u12::new(0xFC0)) ^ (x & u12::new(0x03F)) == x
+}
+
+/// What was set, under a mask beside it.
+pub fn set_beside(x: u12) -> bool
+    ensures { IsTrue result }
+{
+    (x | u12::new(0x0F0)) & u12::new(0xF0F) == x & u12::new(0xF0F)
+}
