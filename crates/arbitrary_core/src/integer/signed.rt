@@ -4,7 +4,7 @@
 ghost use Rattle.std.specs.Prelude.{refl};
 ghost use Rattle.std.specs.Int.{IsInRange};
 ghost use Rattle.std.proofs.Common.{le_trans};
-ghost use Rattle.arbitrary_traits.specs.Assigned.{is_assigned};
+ghost use Rattle.arbitrary_traits.specs.Assigned.{all_assigned};
 
 use crate::signed::Int;
 use crate::unsigned::UInt;
@@ -141,7 +141,7 @@ where
 
     ghost not_law = { λ a r h f. h.0 };
 
-    ghost assign_law = { (is_assigned, is_assigned, is_assigned, is_assigned, is_assigned, is_assigned, is_assigned) };
+    ghost assign_law = { all_assigned };
 }
 
 impl<T: BuiltinInteger + SignedStorage, const BITS: usize> SignedInteger for Int<T, BITS>

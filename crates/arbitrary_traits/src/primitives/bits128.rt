@@ -3,7 +3,7 @@
 ghost use Rattle.std.specs.Prelude.{◌+◌, ◌*◌, ◌+ℤ◌, ◌-ℤ◌, ◌*ℤ◌, pos, neg_ℤ, refl};
 ghost use Rattle.std.specs.Int.{w128};
 ghost use Rattle.std.proofs.Common.{ap};
-ghost use Rattle.arbitrary_traits.specs.Assigned.{is_assigned};
+ghost use Rattle.arbitrary_traits.specs.Assigned.{all_assigned};
 ghost use Rattle.arbitrary_base.proofs.storages.PrimitiveOperators.{lt-of_in_range, nat_eq-pos, nonzero-pos, signed-divides, signed-fits, sub-in_range, sub-pos};
 ghost use Rattle.arbitrary_base.proofs.storages.PrimitiveBits.{bitand-signed, bitand-unsigned, bitor-signed, bitor-unsigned, bitxor-signed, bitxor-unsigned, not-signed, not-unsigned};
 
@@ -51,7 +51,7 @@ impl Primitive for u128 {
 
     ghost not_law = { not-unsigned w128 };
 
-    ghost assign_law = { (is_assigned, is_assigned, is_assigned, is_assigned, is_assigned, is_assigned, is_assigned) };
+    ghost assign_law = { all_assigned };
 }
 
 impl UnsignedInteger for u128 {
@@ -99,7 +99,7 @@ impl Primitive for i128 {
 
     ghost not_law = { not-signed w128 };
 
-    ghost assign_law = { (is_assigned, is_assigned, is_assigned, is_assigned, is_assigned, is_assigned, is_assigned) };
+    ghost assign_law = { all_assigned };
 }
 
 impl SignedInteger for i128 {

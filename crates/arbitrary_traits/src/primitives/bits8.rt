@@ -3,7 +3,7 @@
 ghost use Rattle.std.specs.Prelude.{◌+◌, ◌*◌, ◌+ℤ◌, ◌-ℤ◌, ◌*ℤ◌, pos, neg_ℤ, refl};
 ghost use Rattle.std.specs.Int.{w8};
 ghost use Rattle.std.proofs.Common.{ap};
-ghost use Rattle.arbitrary_traits.specs.Assigned.{is_assigned};
+ghost use Rattle.arbitrary_traits.specs.Assigned.{all_assigned};
 ghost use Rattle.arbitrary_base.proofs.storages.PrimitiveOperators.{lt-of_in_range, nat_eq-pos, nonzero-pos, signed-divides, signed-fits, sub-in_range, sub-pos};
 ghost use Rattle.arbitrary_base.proofs.storages.PrimitiveBits.{bitand-signed, bitand-unsigned, bitor-signed, bitor-unsigned, bitxor-signed, bitxor-unsigned, not-signed, not-unsigned};
 
@@ -51,7 +51,7 @@ impl Primitive for u8 {
 
     ghost not_law = { not-unsigned w8 };
 
-    ghost assign_law = { (is_assigned, is_assigned, is_assigned, is_assigned, is_assigned, is_assigned, is_assigned) };
+    ghost assign_law = { all_assigned };
 }
 
 impl UnsignedInteger for u8 {
@@ -99,7 +99,7 @@ impl Primitive for i8 {
 
     ghost not_law = { not-signed w8 };
 
-    ghost assign_law = { (is_assigned, is_assigned, is_assigned, is_assigned, is_assigned, is_assigned, is_assigned) };
+    ghost assign_law = { all_assigned };
 }
 
 impl SignedInteger for i8 {
