@@ -12,7 +12,7 @@ use Rattle.std.specs.Char.{is_ascii_digit}
 use Rattle.std.proofs.Math.Seq.{take-append_seam, drop-append_seam}
 use Rattle.std.proofs.lemmas.Nat.{be_bytes_4}
 use Rattle.std.proofs.lemmas.List.{take-append-drop}
-use Rattle.std.proofs.lemmas.Bool.{cases_Bool, cases_lt}
+use Rattle.std.proofs.lemmas.Bool.{cases_Bool}
 use Rattle.std.proofs.lemmas.Bool.Decides.{nat_tests}
 use Rattle.arbitrary_int.specs.declared.steps.Step.{Step}
 use Rattle.arbitrary_int.specs.declared.steps.Step.TheVariants as steps
@@ -26,10 +26,10 @@ use Rattle.bitrun_text.specs.declared.operation.Operation.{Operation}
 use Rattle.bitrun_text.specs.declared.operation.Operation.TheVariants as operations
 use Rattle.bitrun_text.specs.Fast.{is_whole, IsName, BeginsWithName, BeginsWithNumber, NamesStep}
 use Rattle.std.specs.Str.Parse.{digits_value}
-use Rattle.bitrun_text.proofs.Digits.{digit_is, no_digits, is_number}
+use Rattle.bitrun_text.proofs.Digits.{digit_is, is_number}
 use Rattle.bitrun_text.proofs.Families.{no_letter}
 use Rattle.bitrun_text.proofs.Lines.{left-blank, left-blanks, left-word, word_taken}
-use Rattle.bitrun_text.proofs.Operands.{take-take}
+use Rattle.bitrun_text.proofs.Operands.{take-take, number-first}
 use Rattle.bitrun_text.proofs.StepWords.{one_taken, two_taken, by_taken}
 
 -- ---- the name
@@ -98,15 +98,9 @@ name_left text rest operation begins ends =
 pub number_left : (limit : ℕ) (text : List ℕ) (n : ℕ) (rest : List ℕ) → BeginsWithNumber limit text n rest
     → (first_number limit (left_of text).words ≡ Some (n, (left_of rest).words)) × ((left_of text).later ≡ (left_of rest).later)
 number_left limit text n rest begins =
-    let more = begins.more in
-    let word = before_first ends_word more in
-    elim (cases_lt 0 (length word)) [
-      | inl some ↦
-          let taken = ap left_of begins.space ∙ left-blank 32 more refl ∙ left-word more some in
-          let after : drop (position_or_len ends_word more) more ≡ rest = sym begins.left in
-          (rw (taken, begins.value, after) refl, rw (taken, after) refl)
-      | inr empty ↦ absurd (let none = no_digits limit word (omega (arith, empty)) in cc (none, begins.value))
-    ]
+    let same : left_of text ≡ left_of begins.more = ap left_of begins.space ∙ left-blank 32 begins.more refl in
+    let taken = number-first begins.more rest limit n begins.value begins.left in
+    (rw same taken.0, rw same (sym taken.1))
 
 pub space_ends : (text more : List ℕ) → text ≡ 32 ∷ more → Ends text
 space_ends text more e = rw e refl

@@ -16,9 +16,6 @@ shifted before start at h =
 pub power-shifted : (start at : ℕ) → start ≤ at → 10 ^ (at + 1 - start) ≡ 10 ^ (at - start) * 10
 power-shifted start at h = let e : at + 1 - start ≡ at - start + 1 = omega arith in rw (e, add-one) (pow-suc 10 (at - start))
 
-pub power-more : (at : ℕ) → 10 ^ (at + 1) ≡ 10 ^ at * 10
-power-more at = rw add-one (pow-suc 10 at)
-
 -- a number of fewer than 18 digits has room for another
 pub room : (k n : ℕ) → k < 18 → n < 10 ^ k → n < 10 ^ 17
 room k n few below =

@@ -1,5 +1,5 @@
 -- The number that the first word of a text writes.
-use Rattle.std.proofs.Common.{◌≡◌, ◌≢◌, ℕ, zero, suc, ◌+◌, ◌-◌, ◌*◌, ◌<◌, ◌≤◌, true, false, List, [], ◌∷◌, length, take, drop, get_or, Some, None, refl, sym, ap, ◌∙◌, inl, inr, arith, below_more, length-take}
+use Rattle.std.proofs.Common.{◌≡◌, ◌≢◌, ℕ, zero, suc, ◌+◌, ◌-◌, ◌*◌, ◌<◌, ◌≤◌, true, false, List, [], ◌∷◌, length, take, drop, get_or, Some, None, refl, sym, ap, ◌∙◌, inl, inr, arith, below_more, length-take, drop-cons, add-one}
 use Rattle.std.specs.Char.{is_ascii_digit}
 use Rattle.std.specs.List.{position_or_len, before_first}
 use Rattle.std.specs.Str.Parse.{digits_value}
@@ -10,7 +10,8 @@ use Rattle.std.proofs.lemmas.List.Sums.{prefix_len-le-length, passes_at_first}
 use Rattle.bitrun_text.specs.Text.{is_solid, ends_word, Left, left_of}
 use Rattle.bitrun_text.specs.Numeral.{number_below, first_number, Reads, BeginsWithDigits}
 use Rattle.bitrun_text.proofs.Digits.{digit_is, all_digits, other_byte, no_digits, not_digits, too_large, is_number}
-use Rattle.bitrun_text.proofs.Lines.{left-word, word_taken, no_word_taken}
+use Rattle.bitrun_text.proofs.Lines.{left-blanks, left-word, word_taken, no_word_taken}
+use Rattle.bitrun_text.proofs.LongNumbers.{reads-none}
 
 digit-in_word : (byte : ℕ) → is_ascii_digit byte ≡ true → ends_word byte ≡ false
 digit-in_word byte digit = grind (arith, nat_tests)
@@ -44,6 +45,28 @@ reads-more text at number r within digit = record {
   digits = below_more _ _ r.digits digit;
   value = omega (arith, digits_value_more 10 text at within, digit_is (get_or text at 0) digit, r.value);
   within = omega arith;
+}
+
+-- one digit more, by what it is worth
+pub reads-digit : (text : List ℕ) (at number digit : ℕ) → Reads text at number → at < length text → digit < 10 → get_or text at 0 ≡ 48 + digit
+    → Reads text (at + 1) (10 * number + digit)
+reads-digit text at number digit r within below is =
+    let same : number * 10 + (get_or text at 0 - 48) ≡ 10 * number + digit = omega (arith, is) in
+    rw same at (reads-more text at number r within (rw is (grind (arith, nat_tests))))
+
+pub reads-first : (text : List ℕ) (digit : ℕ) → 0 < length text → digit < 10 → get_or text 0 0 ≡ 48 + digit → Reads text 1 digit
+reads-first text digit some below is =
+    let same : 10 * 0 + digit ≡ digit = omega arith in
+    rw same at (reads-digit text 0 0 digit (reads-none text) some below is)
+
+-- the digits, and the byte after them
+pub digits-byte : (text : List ℕ) (at number byte : ℕ) → 0 < at → Reads text at number → at < length text → get_or text at 0 ≡ byte
+    → BeginsWithDigits text number (byte ∷ drop (at + 1) text)
+digits-byte text at number byte some r within is = record {
+  count = at;
+  some = some;
+  reads = r;
+  follows = rw (drop-cons text at 0 within, is, add-one) refl;
 }
 
 module _ (text : List ℕ) (at number : ℕ) (r : Reads text at number) where
@@ -117,14 +140,23 @@ module _ (text rest : List ℕ) (n limit : ℕ) (digits : BeginsWithDigits text 
 
 -- ---- the first word of a line
 
+-- the text begins with it, and it writes a number
+pub number-first : (text rest : List ℕ) (limit n : ℕ) → number_below limit (before_first ends_word text) ≡ Some n → rest ≡ drop (position_or_len ends_word text) text
+    → (first_number limit (left_of text).words ≡ Some (n, (left_of rest).words)) × ((left_of rest).later ≡ (left_of text).later)
+number-first text rest limit n e follows =
+    let word = before_first ends_word text in
+    elim (cases_lt 0 (length word)) [
+      | inl some ↦ (let taken = left-word text some in (rw (follows, taken, e) refl, rw (follows, taken) refl))
+      | inr empty ↦ absurd (let none = no_digits limit word (omega (arith, empty)) in cc (none, e))
+    ]
+
 module _ (text solid word rest : List ℕ) (skipped : solid ≡ drop (position_or_len is_solid text) text)
     (first : word ≡ before_first ends_word solid) (follows : rest ≡ drop (position_or_len ends_word solid) solid) (limit : ℕ) where
   pub number-taken : (n : ℕ) → number_below limit word ≡ Some n → (first_number limit (left_of text).words ≡ Some (n, (left_of rest).words)) × ((left_of text).later ≡ (left_of rest).later)
   number-taken n e =
-      elim (cases_lt 0 (length word)) [
-        | inl some ↦ let taken = word_taken text solid word rest skipped first follows some in (rw (taken, e) refl, ap (λ (left : Left). left.later) taken)
-        | inr empty ↦ absurd (let none = no_digits limit word (omega (arith, empty)) in cc (none, e))
-      ]
+      let same : left_of text ≡ left_of solid = sym (left-blanks text) ∙ ap left_of (sym skipped) in
+      let taken = number-first solid rest limit n (rw first at e) follows in
+      (rw same taken.0, rw same (sym taken.1))
 
   pub no_number-taken : number_below limit word ≡ None → first_number limit (left_of text).words ≡ None
   no_number-taken e =

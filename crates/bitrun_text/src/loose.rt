@@ -1,9 +1,11 @@
-//! Lines of steps that aren't fast: with numbers of two or three digits, tabs, or blanks before the LF. Any right line is read here, and
-//! these at once; more blanks or digits take a call. A result of `None` says nothing of a line, so whoever asks goes on with its words.
+//! Lines of steps that aren't fast: with numbers of two or three digits, tabs, more blanks, or blanks before the LF. Any right line is
+//! read here, and these at once; more digits take a call. A result of `None` says nothing of a line, so whoever asks goes on with its
+//! words.
 
-ghost use Rattle.std.specs.Prelude.{◌≡◌, ◌<◌, ◌∷◌, ℕ, [], true, Some, IfSome};
+ghost use Rattle.std.specs.Prelude.{◌≡◌, ◌<◌, ◌+◌, ◌*◌, ◌^◌, ◌∷◌, ℕ, [], true, drop, Some, IfSome};
+ghost use Rattle.std.specs.List.{position_or_len};
 ghost use Rattle.arbitrary_int.specs.Step.{StepWithin};
-ghost use Rattle.bitrun_text.specs.Text.{is_blank, left_of};
+ghost use Rattle.bitrun_text.specs.Text.{is_blank, is_solid, left_of};
 ghost use Rattle.bitrun_text.specs.Numeral.{first_number, BeginsWithDigits};
 ghost use Rattle.bitrun_text.specs.Operation.{step_named, step_with};
 ghost use Rattle.bitrun_text.specs.Fast.{NamesStep};
@@ -13,16 +15,13 @@ use crate::operation::{Operation, operation_named};
 use crate::text::{is_blank, is_line_end, split_number, split_word, without_blanks};
 use arbitrary_int::Step;
 
-/// So many digits are read with one test of the text's length.
-const FEW: usize = 3;
-
 /// The step on so many registers of the line with which the text begins, and what follows its last word.
 #[inline(always)]
 pub fn loose_step(text: &[u8], count: usize) -> Option<(Step, &[u8])>
     ensures step { IfSome result (λ p. NamesStep count text.now p.0 p.1.now) }
     ensures within { IfSome result (λ p. StepWithin count p.0) }
 {
-    let Some((operation, rest)) = fast_name(without_blanks(text)) else {
+    let Some((operation, rest)) = fast_name(from_word(text)) else {
         return other_step(text, count);
     };
     let (blank, operands) = split_blank(rest)?;
@@ -41,6 +40,17 @@ fn other_step(text: &[u8], count: usize) -> Option<(Step, &[u8])>
     let (blank, operands) = split_blank(rest)?;
     let (step, end) = loose_operands(operation, operands, count, blank)?;
     Some((step, end))
+}
+
+/// What follows the blanks that the text begins with. As a rule there are none.
+#[inline(always)]
+fn from_word(text: &[u8]) -> &[u8]
+    ensures { result.now ≡ drop (position_or_len is_solid text.now) text.now }
+{
+    match text {
+        [first, ..] if !is_blank(*first) => text,
+        _ => without_blanks(text),
+    }
 }
 
 /// The blank with which the text begins, and what follows it.
@@ -118,7 +128,8 @@ fn next_number(text: &[u8], limit: u64, blank: u8) -> Option<(u64, &[u8])>
     ensures below { IfSome result (λ p. p.0 < limit) }
     ensures later { IfSome result (λ p. (left_of p.1.now).later ≡ (left_of text.now).later) }
 {
-    match few_digits(text, blank) {
+    let word = from_digit(text);
+    match few_digits(word, blank) {
         Some((number, rest)) => {
             if number < limit {
                 Some((number, rest))
@@ -126,19 +137,8 @@ fn next_number(text: &[u8], limit: u64, blank: u8) -> Option<(u64, &[u8])>
                 None
             }
         }
-        None => any_number(text, limit),
+        None => any_number(word, limit),
     }
-}
-
-/// The same, with blanks before the word, any count of digits, and the blanks after them passed.
-#[inline(never)]
-fn any_number(text: &[u8], limit: u64) -> Option<(u64, &[u8])>
-    ensures number { IfSome result (λ p. first_number limit (left_of text.now).words ≡ Some (p.0, (left_of p.1.now).words)) }
-    ensures below { IfSome result (λ p. p.0 < limit) }
-    ensures later { IfSome result (λ p. (left_of p.1.now).later ≡ (left_of text.now).later) }
-{
-    let (number, rest) = split_number(without_blanks(text), limit)?;
-    Some((number, without_blanks(rest)))
 }
 
 /// The number that the next word of the line writes with which the text begins, where the line ends after it and it is below the
@@ -150,7 +150,45 @@ fn last_number(text: &[u8], limit: u64) -> Option<(u64, &[u8])>
     ensures below { IfSome result (λ p. p.0 < limit) }
     ensures later { IfSome result (λ p. (left_of p.1.now).later ≡ (left_of text.now).later) }
 {
-    let (number, rest) = split_number(without_blanks(text), limit)?;
+    let word = from_digit(text);
+    match last_digits(word) {
+        Some((number, rest)) if number < limit && is_line_end(rest) => Some((number, rest)),
+        _ => any_last_number(word, limit),
+    }
+}
+
+/// What follows the blanks that the text begins with. As a rule there are none, and a digit comes first.
+#[inline(always)]
+fn from_digit(text: &[u8]) -> &[u8]
+    ensures { left_of result.now ≡ left_of text.now }
+{
+    match text {
+        [first, _, _, _, ..] if first.is_ascii_digit() => text,
+        _ => without_blanks(text),
+    }
+}
+
+/// The number that the word writes with which the text begins, of any count of digits, if it is below the limit, and what follows the
+/// word. The call stands in a function of its own, because memory for its result is cleared where the function around it begins.
+#[inline(always)]
+fn any_number(text: &[u8], limit: u64) -> Option<(u64, &[u8])>
+    ensures number { IfSome result (λ p. first_number limit (left_of text.now).words ≡ Some (p.0, (left_of p.1.now).words)) }
+    ensures below { IfSome result (λ p. p.0 < limit) }
+    ensures later { IfSome result (λ p. (left_of p.1.now).later ≡ (left_of text.now).later) }
+{
+    let (number, rest) = split_number(text, limit)?;
+    Some((number, rest))
+}
+
+/// The same, where the line ends after the word.
+#[inline(always)]
+fn any_last_number(text: &[u8], limit: u64) -> Option<(u64, &[u8])>
+    ensures number { IfSome result (λ p. first_number limit (left_of text.now).words ≡ Some (p.0, (left_of p.1.now).words)) }
+    ensures end { IfSome result (λ p. (left_of p.1.now).words ≡ []) }
+    ensures below { IfSome result (λ p. p.0 < limit) }
+    ensures later { IfSome result (λ p. (left_of p.1.now).later ≡ (left_of text.now).later) }
+{
+    let (number, rest) = split_number(text, limit)?;
     if is_line_end(rest) {
         Some((number, rest))
     } else {
@@ -163,18 +201,79 @@ fn last_number(text: &[u8], limit: u64) -> Option<(u64, &[u8])>
 fn few_digits(text: &[u8], byte: u8) -> Option<(u64, &[u8])>
     ensures { IfSome result (λ p. BeginsWithDigits text.now p.0 (byte ∷ p.1.now)) }
 {
-    if text.len() <= FEW {
+    let [a, b, c, d, ..] = text else {
+        return None;
+    };
+    let first = digit(*a);
+    if first >= 10 {
         return None;
     }
-    let mut number = 0u64;
-    let mut at = 0;
-    while at < FEW && text[at].is_ascii_digit() {
-        number = 10 * number + u64::from(text[at] - b'0');
-        at += 1;
-        if text[at] == byte {
-            let (_, rest) = text.split_at(at + 1);
-            return Some((number, rest));
-        }
+    let one = u64::from(first);
+    if *b == byte {
+        let (_, rest) = text.split_at(2);
+        return Some((one, rest));
     }
-    None
+    let second = digit(*b);
+    if second >= 10 {
+        return None;
+    }
+    let two = with_digit(one, second);
+    if *c == byte {
+        let (_, rest) = text.split_at(3);
+        return Some((two, rest));
+    }
+    let third = digit(*c);
+    if third >= 10 || *d != byte {
+        return None;
+    }
+    let (_, rest) = text.split_at(4);
+    Some((with_digit(two, third), rest))
+}
+
+/// The number of one to three digits with which the text begins, where no further digit follows, and what follows them.
+#[inline(always)]
+fn last_digits(text: &[u8]) -> Option<(u64, &[u8])>
+    ensures { IfSome result (λ p. BeginsWithDigits text.now p.0 p.1.now) }
+{
+    let [a, b, c, d, ..] = text else {
+        return None;
+    };
+    let first = digit(*a);
+    if first >= 10 {
+        return None;
+    }
+    let one = u64::from(first);
+    let second = digit(*b);
+    if second >= 10 {
+        let (_, rest) = text.split_at(1);
+        return Some((one, rest));
+    }
+    let two = with_digit(one, second);
+    let third = digit(*c);
+    if third >= 10 {
+        let (_, rest) = text.split_at(2);
+        return Some((two, rest));
+    }
+    if digit(*d) < 10 {
+        return None;
+    }
+    let (_, rest) = text.split_at(3);
+    Some((with_digit(two, third), rest))
+}
+
+/// The number with one digit more.
+#[inline(always)]
+fn with_digit(number: u64, digit: u8) -> u64
+    requires { number < 2 ^ 32 }
+    ensures { result ≡ 10 * number + digit }
+{
+    10 * number + u64::from(digit)
+}
+
+/// What the byte is worth as a digit, which is below ten for digits alone.
+#[inline(always)]
+fn digit(byte: u8) -> u8
+    ensures { result < 10 → byte ≡ 48 + result }
+{
+    byte.wrapping_sub(b'0')
 }

@@ -124,6 +124,8 @@ pub fn split_word(text: &[u8]) -> (&[u8], &[u8])
 
 /// The number that the word writes with which the text begins, if it is below the limit, and what
 /// follows the word.
+// In line, its loop would take processor registers from readers that seldom come to it.
+#[inline(never)]
 pub fn split_number(text: &[u8], limit: u64) -> Option<(u64, &[u8])>
     ensures number { MatchOption result (number_below limit (before_first ends_word text.now) ≡ None) (λ p. number_below limit (before_first ends_word text.now) ≡ Some p.0) }
     ensures below { IfSome result (λ p. p.0 < limit) }

@@ -1,44 +1,28 @@
-use Rattle.std.proofs.Common.{◌≡◌, suc, ◌<◌, ◌+◌, ◌-◌, ◌*◌, length, get_or, refl, sym, arith, drop-cons}
-use Rattle.bitrun_text.proofs.Operands.{reads-more}
-use Rattle.bitrun_text.proofs.LongNumbers.{power-more, room}
+use Rattle.std.proofs.Common.{arith}
+use Rattle.bitrun_text.specs.Numeral.{Reads}
+use Rattle.bitrun_text.proofs.Operands.{reads-first, reads-digit, digits-byte}
 use Rattle.bitrun_text.proofs.loose.few_digits.Goals as goal
 
-pub overflow_mul-number : goal.overflow_mul-number
-overflow_mul-number c =
-    let l = c.loop-at in
-    let below = room l.at l.number (omega (arith, c.loop-at-test.true)) l.invariant.below in
-    omega (arith, below)
-
-pub overflow_add-number : goal.overflow_add-number
-overflow_add-number c =
-    let l = c.loop-at in
-    let below = room l.at l.number (omega (arith, c.loop-at-test.true)) l.invariant.below in
-    omega (arith, below, c.from.ensures, c.if-is_ascii_digit.ensures.cases)
-
-pub loop-at-preserved : goal.loop-at-preserved
-loop-at-preserved c =
-    let l = c.loop-at in
+pub returns-then-b-byte : goal.returns-then-b-byte
+returns-then-b-byte c =
     let text = c.args.text.now in
-    let inside : l.at < length text = omega (arith, c.loop-at-test.true) in
-    let more = reads-more text l.at l.number l.invariant.reads inside (sym c.if-is_ascii_digit.ensures.value) in
-    let same : 10 * l.number + c.from.result ≡ l.number * 10 + (get_or text l.at 0 - 48) = omega (arith, c.from.ensures) in
-    record {
-      reads = rw same more;
-      below = omega (arith, power-more l.at, l.invariant.below, c.from.ensures, c.if-is_ascii_digit.ensures.cases);
-      few = omega (arith, c.loop-at-test.true);
-    }
+    let long = c.in-len4-up.len_at_least in
+    let one : Reads text 1 c.from-one.result = rw c.from-one.ensures (reads-first text c.digit-first.result (omega (arith, long)) c.if-first-ge10.false (c.digit-first.ensures c.if-first-ge10.false)) in
+    rw c.split_at.ensures.back (digits-byte text 1 c.from-one.result c.args.byte (omega arith) one (omega (arith, long)) c.if-b-byte.true)
 
-pub returns-then-text-at : goal.returns-then-text-at
-returns-then-text-at c =
-    let l = c.loop-at in
+pub returns-then-c-byte : goal.returns-then-c-byte
+returns-then-c-byte c =
     let text = c.args.text.now in
-    let inside : l.at + 1 < length text = omega (arith, c.loop-at-test.true) in
-    let more = reads-more text l.at l.number l.invariant.reads (omega (arith, inside)) (sym c.if-is_ascii_digit.ensures.value) in
-    let same : 10 * l.number + c.from.result ≡ l.number * 10 + (get_or text l.at 0 - 48) = omega (arith, c.from.ensures) in
-    let next : suc (l.at + 1) ≡ l.at + 1 + 1 = omega arith in
-    record {
-      count = l.at + 1;
-      some = omega arith;
-      reads = rw same more;
-      follows = rw (c.split_at.ensures.back, drop-cons text (l.at + 1) 0 inside, c.if-text-at.true, next) refl;
-    }
+    let long = c.in-len4-up.len_at_least in
+    let one : Reads text 1 c.from-one.result = rw c.from-one.ensures (reads-first text c.digit-first.result (omega (arith, long)) c.if-first-ge10.false (c.digit-first.ensures c.if-first-ge10.false)) in
+    let two : Reads text 2 c.with_digit-two.result = rw c.with_digit-two.ensures (reads-digit text 1 c.from-one.result c.digit-second.result one (omega (arith, long)) c.if-second-ge10.false (c.digit-second.ensures c.if-second-ge10.false)) in
+    rw c.split_at-then-c-byte.ensures.back (digits-byte text 2 c.with_digit-two.result c.args.byte (omega arith) two (omega (arith, long)) c.if-c-byte.true)
+
+pub returns : goal.returns
+returns c =
+    let text = c.args.text.now in
+    let long = c.in-len4-up.len_at_least in
+    let one : Reads text 1 c.from-one.result = rw c.from-one.ensures (reads-first text c.digit-first.result (omega (arith, long)) c.if-first-ge10.false (c.digit-first.ensures c.if-first-ge10.false)) in
+    let two : Reads text 2 c.with_digit-two.result = rw c.with_digit-two.ensures (reads-digit text 1 c.from-one.result c.digit-second.result one (omega (arith, long)) c.if-second-ge10.false (c.digit-second.ensures c.if-second-ge10.false)) in
+    let three : Reads text 3 c.with_digit.result = rw c.with_digit.ensures (reads-digit text 2 c.with_digit-two.result c.digit-third.result two (omega (arith, long)) c.if-third-ge10.false (c.digit-third.ensures c.if-third-ge10.false)) in
+    rw c.split_at-2.ensures.back (digits-byte text 3 c.with_digit.result c.args.byte (omega arith) three (omega (arith, long)) c.if-d-byte.false)

@@ -1,11 +1,21 @@
-use Rattle.std.proofs.Common.{refl, sym}
-use Rattle.bitrun_text.proofs.Operands.{number-taken}
+use Rattle.std.proofs.Common.{refl}
+use Rattle.bitrun_text.proofs.Operands.{digits-later, digits-taken}
 use Rattle.bitrun_text.proofs.loose.last_number.Goals as goal
 
-pub returns-then-is_line_end-clause-number : goal.returns-then-is_line_end-clause-number
-returns-then-is_line_end-clause-number c =
-    (number-taken c.args.text.now c.without_blanks.result.now _ c.in_ok-number.rest.now c.without_blanks.ensures refl c.in_ok-number.ensures.rest c.args.limit c.in_ok-number.number c.in_ok-number.ensures.number).0
+pub returns-in-Some-clause-number : goal.returns-in-Some-clause-number
+returns-in-Some-clause-number c =
+    let some = c.in-Some in
+    rw (← c.from_digit-word.ensures)
+    (digits-taken c.from_digit-word.result.now some.rest.now some.number c.args.limit some.ensures (c.if-is_line_end.ensures.ends refl) c.if-number-limit.true)
 
-pub returns-then-is_line_end-clause-later : goal.returns-then-is_line_end-clause-later
-returns-then-is_line_end-clause-later c =
-    sym (number-taken c.args.text.now c.without_blanks.result.now _ c.in_ok-number.rest.now c.without_blanks.ensures refl c.in_ok-number.ensures.rest c.args.limit c.in_ok-number.number c.in_ok-number.ensures.number).1
+pub returns-in-Some-clause-later : goal.returns-in-Some-clause-later
+returns-in-Some-clause-later c =
+    let some = c.in-Some in
+    rw (← c.from_digit-word.ensures)
+    (digits-later c.from_digit-word.result.now some.rest.now some.number c.args.limit some.ensures (c.if-is_line_end.ensures.ends refl))
+
+pub returns-in_default-clause-number : goal.returns-in_default-clause-number
+returns-in_default-clause-number c = rw (← c.from_digit-word.ensures) c.any_last_number.ensures.number
+
+pub returns-in_default-clause-later : goal.returns-in_default-clause-later
+returns-in_default-clause-later c = rw (← c.from_digit-word.ensures) c.any_last_number.ensures.later
