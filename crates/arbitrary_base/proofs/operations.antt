@@ -12,6 +12,7 @@ pub mod Folding
 pub mod RotateAndReverse
 pub mod RotatedNumber
 pub mod PopulationAndRuns
+pub mod RunBesideCount
 pub mod ZeroRunBounds
 pub mod OneRunBounds
 pub mod BitsAndSums
@@ -19,6 +20,8 @@ pub mod Mask
 pub mod Complement
 pub mod PowerAndQuotient
 pub mod Carry
+pub mod HighestBit
 pub mod Order
 pub mod Cancellation
 pub mod KnownMask
+pub mod SignedOrder

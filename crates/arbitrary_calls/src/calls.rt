@@ -205,6 +205,8 @@ pub trait FixedWidthCalls: Numbered + LowBits {
         requires { Self.number rhs ≢ pos 0 }
         ensures value { Self.number result ≡ wrap Self.IS_SIGNED Self.BITS (int_div (Self.number self) (Self.number rhs)) }
         ensures exact { InRange Self.IS_SIGNED Self.BITS (int_div (Self.number self) (Self.number rhs)) → Self.number result ≡ int_div (Self.number self) (Self.number rhs) }
+        ensures of_least { Self.number self ≡ lo Self.IS_SIGNED Self.BITS → Self.number rhs ≡ neg_ℤ (pos 1) → Self.number result ≡ Self.number self }
+        ensures itself { InRange Self.IS_SIGNED Self.BITS (pos 1) → Self.number self ≡ Self.number rhs → Self.number result ≡ pos 1 }
     {
         Self::from_storage(wrapping::div(self.to_storage(), rhs.to_storage(), Self::BITS))
     }
@@ -242,6 +244,7 @@ pub trait FixedWidthCalls: Numbered + LowBits {
         ensures value { Self.number result.0 ≡ wrap Self.IS_SIGNED Self.BITS (int_div (Self.number self) (Self.number rhs)) }
         ensures overflow { IsTrue result.1 ↔ ¬ (InRange Self.IS_SIGNED Self.BITS (int_div (Self.number self) (Self.number rhs))) }
         ensures exact { InRange Self.IS_SIGNED Self.BITS (int_div (Self.number self) (Self.number rhs)) → Self.number result.0 ≡ int_div (Self.number self) (Self.number rhs) }
+        ensures of_least { Self.number self ≡ lo Self.IS_SIGNED Self.BITS → Self.number rhs ≡ neg_ℤ (pos 1) → Self.number result.0 ≡ Self.number self }
     {
         let (quotient, overflow) = overflowing::div(
             self.to_storage(),
@@ -260,6 +263,9 @@ pub trait FixedWidthCalls: Numbered + LowBits {
         ensures below { (int_pow (Self.number self) exp) <ℤ lo Self.IS_SIGNED Self.BITS → Self.number result ≡ lo Self.IS_SIGNED Self.BITS }
         ensures range { InRange Self.IS_SIGNED Self.BITS (Self.number self) }
         ensures bounded { InRange Self.IS_SIGNED Self.BITS (Self.number result) }
+        ensures first { exp ≡ 1 → Self.number result ≡ Self.number self }
+        ensures of_one { Self.number self ≡ pos 1 → Self.number result ≡ pos 1 }
+        ensures of_zero { Self.number self ≡ pos 0 → 1 ≤ exp → Self.number result ≡ pos 0 }
     {
         Self::from_storage(power::saturating_pow(self.to_storage(), exp, Self::BITS))
     }
@@ -372,6 +378,7 @@ pub trait FixedWidthCalls: Numbered + LowBits {
         ensures operation { Self.number result ≡ rotated_left Self.IS_SIGNED Self.BITS (Self.number self) (amount % Self.BITS) }
         ensures value { (y : ℤ) → Self.number self ≡ y → Self.number result ≡ val Self.IS_SIGNED (slice_rotate_right (bits Self.BITS y) (amount % Self.BITS)) }
         ensures undo { rotated_right Self.IS_SIGNED Self.BITS (Self.number result) (amount % Self.BITS) ≡ Self.number self }
+        ensures round { amount % Self.BITS ≡ 0 → Self.number result ≡ Self.number self }
         ensures range { InRange Self.IS_SIGNED Self.BITS (Self.number self) }
     {
         Self::from_u128_bits(patterns::rotate_left(self.low_bits(), Self::BITS, amount))
@@ -383,6 +390,7 @@ pub trait FixedWidthCalls: Numbered + LowBits {
         ensures operation { Self.number result ≡ rotated_right Self.IS_SIGNED Self.BITS (Self.number self) (amount % Self.BITS) }
         ensures value { (y : ℤ) → Self.number self ≡ y → Self.number result ≡ val Self.IS_SIGNED (rotr (bits Self.BITS y) (amount % Self.BITS)) }
         ensures undo { rotated_left Self.IS_SIGNED Self.BITS (Self.number result) (amount % Self.BITS) ≡ Self.number self }
+        ensures round { amount % Self.BITS ≡ 0 → Self.number result ≡ Self.number self }
         ensures range { InRange Self.IS_SIGNED Self.BITS (Self.number self) }
     {
         Self::from_u128_bits(patterns::rotate_right(self.low_bits(), Self::BITS, amount))
@@ -438,6 +446,7 @@ pub trait FixedWidthCalls: Numbered + LowBits {
         ensures none { pos 0 ≤ℤ Self.number self → Self.number self <ℤ pos (2 ^ (Self.BITS - 1)) → result ≡ 0 }
         ensures some { pos (2 ^ (Self.BITS - 1)) ≤ℤ Self.number self → 1 ≤ result }
         ensures negative { Self.number self <ℤ pos 0 → 1 ≤ result }
+        ensures within { result ≤ count_by (λ b. b) (bits Self.BITS (Self.number self)) }
     {
         patterns::leading_ones(masked(self.low_bits(), Self::BITS), Self::BITS)
     }
@@ -452,12 +461,15 @@ pub trait FixedWidthCalls: Numbered + LowBits {
         ensures negative { Self.number self <ℤ pos 0 → result ≡ 0 }
         ensures low { pos 0 <ℤ Self.number self → pos (2 ^ (Self.BITS - 1 - result)) ≤ℤ Self.number self }
         ensures high { pos 0 ≤ℤ Self.number self → Self.number self <ℤ pos (2 ^ (Self.BITS - result)) }
+        ensures highest_set { pos (2 ^ (Self.BITS - 1)) ≤ℤ Self.number self → result ≡ 0 }
+        ensures highest_clear { pos 0 ≤ℤ Self.number self → Self.number self <ℤ pos (2 ^ (Self.BITS - 1)) → 1 ≤ result }
+        ensures beside { result + count_by (λ b. b) (bits Self.BITS (Self.number self)) ≤ Self.BITS }
     {
         patterns::leading_zeros(masked(self.low_bits(), Self::BITS), Self::BITS)
     }
 
     /// How many bits at the low end are one before the first that is zero, or all of them.
-    #[tactic(auto, using(arbitrary_base::proofs::bit_lists::ResultOfPattern::count_laws, arbitrary_base::proofs::operations::OneRunBounds::trailing_ends))]
+    #[tactic(auto, using(arbitrary_base::proofs::bit_lists::ResultOfPattern::count_laws, arbitrary_base::proofs::operations::OneRunBounds::trailing_ends, arbitrary_base::proofs::operations::RunBesideCount::zeros_beside_ones))]
     final fn trailing_ones(self) -> u32
         ensures value { result ≡ prefix_len (beq true) (bits Self.BITS (Self.number self)) }
         ensures bound { result ≤ Self.BITS }
@@ -466,12 +478,14 @@ pub trait FixedWidthCalls: Numbered + LowBits {
         ensures found { Self.number self ≢ pos (2 ^ Self.BITS) -ℤ pos 1 → Self.number self ≢ neg_ℤ (pos 1) → result < Self.BITS }
         ensures none { Congruent 1 (Self.number self) (pos 0) → result ≡ 0 }
         ensures some { Congruent 1 (Self.number self) (pos 1) → 1 ≤ result }
+        ensures lowest { (result ≡ 0) ↔ (unsigned_abs (Self.number self) % 2 ≡ 0) }
+        ensures within { result ≤ count_by (λ b. b) (bits Self.BITS (Self.number self)) }
     {
         patterns::trailing_ones(self.low_bits(), Self::BITS)
     }
 
     /// How many bits at the low end are zero before the first that is one, or all of them.
-    #[tactic(auto, using(arbitrary_base::proofs::bit_lists::ResultOfPattern::count_laws, arbitrary_base::proofs::operations::ZeroRunBounds::trailing_bounds, arbitrary_base::proofs::operations::OneRunBounds::lowest_bit))]
+    #[tactic(auto, using(arbitrary_base::proofs::bit_lists::ResultOfPattern::count_laws, arbitrary_base::proofs::operations::ZeroRunBounds::trailing_bounds, arbitrary_base::proofs::operations::OneRunBounds::lowest_bit, arbitrary_base::proofs::operations::RunBesideCount::zeros_beside_ones))]
     final fn trailing_zeros(self) -> u32
         ensures value { result ≡ prefix_len (beq false) (bits Self.BITS (Self.number self)) }
         ensures bound { result ≤ Self.BITS }
@@ -481,6 +495,8 @@ pub trait FixedWidthCalls: Numbered + LowBits {
         ensures one { Self.number self ≢ pos 0 → Congruent (result + 1) (Self.number self) (pos (2 ^ result)) }
         ensures odd { Congruent 1 (Self.number self) (pos 1) → result ≡ 0 }
         ensures even { Congruent 1 (Self.number self) (pos 0) → 1 ≤ result }
+        ensures lowest { (result ≡ 0) ↔ (unsigned_abs (Self.number self) % 2 ≡ 1) }
+        ensures beside { result + count_by (λ b. b) (bits Self.BITS (Self.number self)) ≤ Self.BITS }
     {
         patterns::trailing_zeros(self.low_bits(), Self::BITS)
     }

@@ -11,7 +11,9 @@ use Rattle.arbitrary_base.proofs.operations.BitsAndSums.{difference-of_and, diff
 use Rattle.arbitrary_base.proofs.operations.WrappedRing.{difference-of_difference_right, difference-of_squares, difference-of_sum, difference-of_sum_left, difference-of_sums, difference-to_difference, difference-turned, difference-twice, negated-sum, negated-twice, product-of_difference, product-of_negated, product-of_negated_both, product-of_sum, products-of_differences, products-of_sums, sum-of_difference, sum-of_difference_right, sum-to_difference, wrapped_difference-is_sum, wrapped_difference-self, wrapped_difference-zero, wrapped_product-associates, wrapped_product-commutes, wrapped_product-one, wrapped_product-two, wrapped_product-zero, wrapped_sum-associates, wrapped_sum-commutes, wrapped_sum-zero}
 use Rattle.arbitrary_base.proofs.operations.RotateAndReverse.{left-undoes_right, reversed-and, reversed-highest, reversed-minus_one, reversed-not, reversed-not_zero, reversed-or, reversed-rotated_left, reversed-rotated_right, reversed-shifted_left, reversed-shifted_right, reversed-twice, reversed-xor, reversed-zero, right-undoes_left, rotated_left-and, rotated_left-as_shifts, rotated_left-highest, rotated_left-minus_one, rotated_left-none, rotated_left-not, rotated_left-not_zero, rotated_left-or, rotated_left-round, rotated_left-twice, rotated_left-xor, rotated_left-zero, rotated_right-as_left, rotated_right-none}
 use Rattle.arbitrary_base.proofs.operations.Carry.{sum-with_carry, sum-less_xor, sum-less_or, sum-less_and, difference-of_parts, difference-with_borrow, difference-less_xor, or-is_sum, xor-is_sum, or-less_xor}
-use Rattle.arbitrary_base.proofs.operations.Order.{and-below_or, le-tested, lt-tested, ge-tested, gt-tested, xor-below_or, or-below_sum, difference-below_xor, shifted_right-keeps_order, and-negative, or-negative, xor-negative}
+use Rattle.arbitrary_base.proofs.operations.Order.{and-below_or, or-below_clamped, le-tested, lt-tested, ge-tested, gt-tested, xor-below_or, or-below_sum, or-below_clamped, difference-below_xor, shifted_right-keeps_order, and-negative, or-negative, xor-negative}
+use Rattle.arbitrary_base.proofs.operations.HighestBit.{difference-with_highest, sum-with_highest}
+use Rattle.arbitrary_base.proofs.operations.SignedOrder.{and-at_most, or-at_least}
 use Rattle.arbitrary_base.proofs.operations.Cancellation.{differences-equal, differences_from-equal, left_rotations-equal, nots-equal, reversals-equal, right_rotations-equal, sums-equal, xors-equal}
 use Rattle.arbitrary_base.proofs.operations.Offset.{offset-above, offset-below, offset-down, offset-down_negative, offset-less, offset-round, offsets-added}
 use Rattle.arbitrary_base.proofs.operations.Folding.{bitwise_xor-chain, bitwise_xor-exchanged, folded-away, folded-twice, shifted_right-past}
@@ -21,6 +23,9 @@ use Rattle.arbitrary_base.proofs.modular.Residue.{wrap-of_in_range}
 use Rattle.arbitrary_int.proofs.BitTests.{low-of_right_cleared, low-of_right_other_cleared, low-of_right_other_set, masked-of_other_cleared, masked-of_other_set}
 use Rattle.arbitrary_base.proofs.operations.Multiple.{multiple-before, multiple-next, multiples-added, multiples-apart, sum-doubles, wrapped_product-highest}
 use Rattle.arbitrary_int.proofs.KnownCount.{popcount-of_numeral}
+use Rattle.arbitrary_int.proofs.KnownEnds.{front-of_negative, front_ones-of_negative, front_ones-of_numeral, popcount-of_negative, tail_ones-of_negative, tail_ones-of_numeral}
+use Rattle.arbitrary_int.proofs.CountBounds.{front-of_numeral}
+use Rattle.arbitrary_int.proofs.LeadingZeros.{tail-of_numeral}
 use Rattle.arbitrary_int.proofs.QuotientAndCube.{negated-is_difference, power-thrice, quotient-times}
 use Rattle.arbitrary_int.proofs.SingleBit.{and-one_bit, left-of_one, low-of_right, low-of_right_set}
 use Rattle.arbitrary_int.proofs.WrittenParts.{and-of_written_or, and-written, or-of_written_parts, or-written, xor-of_written_parts, xor-written}
@@ -76,10 +81,13 @@ pub ruleset masks = (Decides-int_eq, or-of_parts, sum-of_parts, choice-is_xor, a
 pub ruleset complements = (Decides-int_eq, not-is_difference, negated-is_sum, not-of_before, sum-with_not, difference-of_or, difference-of_and, wrapped_sum-commutes, bitwise_not-twice, not-is_negated, negated-not, not-of_sum, not-of_difference, difference-of_nots, difference-by_not, sum-by_not, wrapped_difference-is_sum)
 
 -- carries and borrows: sums and differences told by the bits that two numbers share, and those that one of them has
-pub ruleset carries = (Decides-int_eq, sum-with_carry, sum-less_xor, sum-less_or, sum-less_and, difference-of_parts, difference-with_borrow, difference-less_xor, or-is_sum, xor-is_sum, or-less_xor, sum-twice, wrapped_product-two, wrapped_product-commutes, bitwise_and-commutes, bitwise_or-commutes, bitwise_xor-commutes, wrapped_sum-commutes)
+pub ruleset carries = (Decides-int_eq, sum-with_carry, sum-less_xor, sum-less_or, sum-less_and, difference-of_parts, difference-with_borrow, difference-less_xor, or-is_sum, xor-is_sum, or-less_xor, sum-with_highest, difference-with_highest, sum-twice, wrapped_product-two, wrapped_product-commutes, bitwise_and-commutes, bitwise_or-commutes, bitwise_xor-commutes, wrapped_sum-commutes)
 
 -- the order: what its tests tell, and bits, shifts and signs beside it
-pub ruleset order = (Decides-int_eq, le-tested, lt-tested, ge-tested, gt-tested, or-above, and-below_or, xor-below_or, or-below_sum, difference-below_xor, shifted_right-keeps_order, and-negative, or-negative, xor-negative, bitwise_and-commutes, bitwise_or-commutes, bitwise_xor-commutes)
+pub ruleset order = (Decides-int_eq, le-tested, lt-tested, ge-tested, gt-tested, or-above, and-below_or, xor-below_or, or-below_sum, or-below_clamped, difference-below_xor, shifted_right-keeps_order, and-negative, or-negative, xor-negative, bitwise_and-commutes, bitwise_or-commutes, bitwise_xor-commutes)
+
+-- the order of a signed number and its `&` or `|` with another
+pub ruleset signed_order = (le-tested, lt-tested, ge-tested, gt-tested, and-at_most, or-at_least, bitwise_and-commutes, bitwise_or-commutes)
 
 -- a number under a mask that is written out: what stays, what is cleared, set and turned over, in sums, multiples and remainders
 pub ruleset known_masks = (Decides-int_eq, and-digits, and-digits_signed, and-run, and-congruent, and-multiple, and-multiple_by_negative, and-within, and-below, and-by_complement, and-by_negative, or-by_and, xor-by_and, and-of_cleared, and-of_set)
@@ -99,8 +107,8 @@ pub ruleset flags = (Decides-int_eq, and-digits, and-run, and-within, and-none, 
 -- written numbers that follow each other, and the parts of a number under written masks
 pub ruleset written_masks = (Decides-int_eq, and-written, or-written, xor-written, or-of_written_parts, xor-of_written_parts, and-of_written_or, bitwise_and-highest, bitwise_and-zero, bitwise_and-minus_one, bitwise_or-zero, bitwise_xor-zero)
 
--- how many bits of a number that is written out are one
-pub ruleset known_counts = (popcount-of_numeral)
+-- how many bits of a number that is written out are one, and how many at its ends are alike
+pub ruleset known_counts = (popcount-of_numeral, popcount-of_negative, front-of_numeral, front-of_negative, front_ones-of_numeral, front_ones-of_negative, tail-of_numeral, tail_ones-of_negative, tail_ones-of_numeral)
 
 -- negation beside sums, differences and the complement
 pub ruleset negations = (Decides-int_eq, negated-is_difference, negated-twice, negated-sum, difference-turned, sum-of_difference, sum-to_difference, difference-of_sum, wrapped_difference-zero, wrapped_sum-commutes, not-is_difference, negated-is_sum, not-of_before, negated-not)

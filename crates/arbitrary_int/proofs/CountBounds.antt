@@ -1,24 +1,19 @@
--- More laws of counts: of `^`, of shifted numbers and of one bit; a run beside the whole count; and the runs of a number that is written out.
+-- More laws of counts: of `^`, of shifted numbers and of one bit; and the runs of a number that is written out.
 -- For callers: `#![tactic(auto, using(arbitrary_int::proofs::CountBounds::count_bounds))]`.
-use Rattle.std.specs.Prelude.{◌≡◌, ◌⊎◌, ℕ, ℤ, zero, suc, Bool, true, false, not, ◌&&◌, ◌||◌, List, [], ◌∷◌, ◌++◌, drop, length, replicate, reverse, take, pos, ◌≤◌, ◌<◌, ◌+◌, ◌-◌, ◌^◌, ◌/◌, ◌%◌, ◌==◌}
+use Rattle.std.specs.Prelude.{◌≡◌, ℕ, ℤ, zero, suc, Bool, true, false, not, ◌&&◌, ◌||◌, List, [], ◌∷◌, ◌++◌, drop, length, replicate, take, pos, ◌≤◌, ◌<◌, ◌+◌, ◌-◌, ◌^◌, ◌/◌, ◌%◌, ◌==◌}
 use Rattle.std.specs.Bool.{beq}
 use Rattle.std.specs.List.{count_by, prefix_len, suffix_len}
-use Rattle.std.proofs.Common.{refl, sym, ap, ◌∙◌, arith, inl, inr, pow-suc, take-append-drop}
+use Rattle.std.proofs.Common.{refl, sym, ap, ◌∙◌, arith, pow-suc, take-append-drop}
 use Rattle.std.proofs.lemmas.Grind.{low_zeros}
-use Rattle.std.proofs.lemmas.List.{length-reverse}
-use Rattle.std.proofs.lemmas.List.Sums.{sum_by-append}
 use Rattle.arbitrary_base.specs.BitList.{bits, bits_and, bits_or, bits_xor}
 use Rattle.arbitrary_base.specs.Operation.{bitwise_and, bitwise_xor, reversed, shifted_left, shifted_right}
 use Rattle.arbitrary_base.proofs.bit_lists.Count.{popcount-cons}
-use Rattle.arbitrary_base.proofs.bit_lists.Movement.{reverse-cons}
 use Rattle.arbitrary_base.proofs.bit_lists.UnsignedNumber.{digit, length-bits, same_length}
 use Rattle.arbitrary_base.proofs.operations.Definition.{bits-and, bits-left, bits-or, bits-right, bits-xor, bits-zero}
 use Rattle.arbitrary_base.proofs.operations.PopulationAndRuns.{front-of_reversed, popcount-of_and, popcount-of_and_or}
 use Rattle.arbitrary_base.proofs.operations.RotateAndReverse.{reversed-shifted_right}
+use Rattle.arbitrary_base.proofs.operations.RunBesideCount.{append-ones, front-alike_one, front_ones-below_ones, front_zeros-beside_ones, tail-alike_one, tail_ones-below_ones, tail_zeros-beside_ones}
 use Rattle.arbitrary_int.proofs.KnownCount.{popcount-of_numeral}
-
-append-ones : (l m : List Bool) → count_by (λ b. b) (l ++ m) ≡ count_by (λ b. b) l + count_by (λ b. b) m
-append-ones l m = sum_by-append digit l m
 
 -- ---- `^`
 
@@ -136,51 +131,5 @@ front-counted (suc f) (suc B) (suc m) h z g = by-digit (suc m % 2) refl (λ some
 
 pub front-of_numeral : (B m : ℕ) → B ≤ 128 → suc m < 2 ^ B → prefix_len (beq false) (bits B (pos (suc m))) ≡ low_zeros 128 (suc m)
 front-of_numeral B m h g = front-counted 128 B (suc m) h (omega arith) g
-
--- ---- a run beside the count
-
-front-zeros_ones : (l : List Bool) → prefix_len (beq false) l + count_by (λ b. b) l ≤ length l
-front-zeros_ones [] = omega arith
-front-zeros_ones (true ∷ l) = omega (arith, popcount-cons true l, at-most l)
-  where
-    at-most : (l : List Bool) → count_by (λ b. b) l ≤ length l
-    at-most [] = omega arith
-    at-most (true ∷ l) = omega (arith, popcount-cons true l, at-most l)
-    at-most (false ∷ l) = omega (arith, popcount-cons false l, at-most l)
-front-zeros_ones (false ∷ l) = omega (arith, popcount-cons false l, front-zeros_ones l)
-
-front-ones_ones : (l : List Bool) → prefix_len (beq true) l ≤ count_by (λ b. b) l
-front-ones_ones [] = omega arith
-front-ones_ones (true ∷ l) = omega (arith, popcount-cons true l, front-ones_ones l)
-front-ones_ones (false ∷ l) = omega arith
-
-reverse-ones : (l : List Bool) → count_by (λ b. b) (reverse l) ≡ count_by (λ b. b) l
-reverse-ones [] = refl
-reverse-ones (b ∷ l) =
-    let e = ap (count_by (λ b. b)) (reverse-cons b l) in
-    omega (arith, append-ones (reverse l) (b ∷ []), popcount-cons b l, popcount-cons b [], reverse-ones l)
-
-pub front_zeros-beside_ones : (B : ℕ) (x : ℤ) → prefix_len (beq false) (bits B x) + count_by (λ b. b) (bits B x) ≤ B
-front_zeros-beside_ones B x = omega (arith, front-zeros_ones (bits B x), length-bits B x)
-
-pub tail_zeros-beside_ones : (B : ℕ) (x : ℤ) → suffix_len (beq false) (bits B x) + count_by (λ b. b) (bits B x) ≤ B
-tail_zeros-beside_ones B x = omega (arith, front-zeros_ones (reverse (bits B x)), reverse-ones (bits B x), length-reverse (bits B x), length-bits B x)
-
-pub front_ones-below_ones : (B : ℕ) (x : ℤ) → prefix_len (beq true) (bits B x) ≤ count_by (λ b. b) (bits B x)
-front_ones-below_ones B x = front-ones_ones (bits B x)
-
-pub tail_ones-below_ones : (B : ℕ) (x : ℤ) → suffix_len (beq true) (bits B x) ≤ count_by (λ b. b) (bits B x)
-tail_ones-below_ones B x = omega (arith, front-ones_ones (reverse (bits B x)), reverse-ones (bits B x))
-
-one-end : (l : List Bool) → (prefix_len (beq false) l ≡ 0) ⊎ (prefix_len (beq true) l ≡ 0)
-one-end [] = inl refl
-one-end (true ∷ l) = inl refl
-one-end (false ∷ l) = inr refl
-
-pub front-alike_one : (B : ℕ) (x : ℤ) → (prefix_len (beq false) (bits B x) ≡ 0) ⊎ (prefix_len (beq true) (bits B x) ≡ 0)
-front-alike_one B x = one-end (bits B x)
-
-pub tail-alike_one : (B : ℕ) (x : ℤ) → (suffix_len (beq false) (bits B x) ≡ 0) ⊎ (suffix_len (beq true) (bits B x) ≡ 0)
-tail-alike_one B x = one-end (reverse (bits B x))
 
 pub ruleset count_bounds = (front-of_numeral, popcount-of_numeral, popcount-of_and, popcount-of_and_or, popcount-of_xor, popcount-of_shifted_left, popcount-of_shifted_right, front-of_shifted_left, tail-of_shifted_right, popcount-of_one_bit, front-of_one_bit, front_zeros-beside_ones, tail_zeros-beside_ones, front_ones-below_ones, tail_ones-below_ones, front-alike_one, tail-alike_one)

@@ -22,7 +22,7 @@ digit-of zero h = refl
 digit-of (suc zero) h = refl
 digit-of (suc (suc r)) h = absurd (omega arith)
 
-counted : (f B n : ℕ) → B ≤ f → n < 2 ^ B → count_by (λ b. b) (bits B (pos n)) ≡ ones_of f n
+pub counted : (f B n : ℕ) → B ≤ f → n < 2 ^ B → count_by (λ b. b) (bits B (pos n)) ≡ ones_of f n
 unfolding bits
 counted f zero n h g = let z : 0 ≡ n = omega arith in none f ∙ ap (ones_of f) z
 counted zero (suc B) n h g = absurd (omega arith)

@@ -16,7 +16,7 @@ use Rattle.arbitrary_base.proofs.bit_lists.UnsignedNumber.{length-bits, num-bits
 use Rattle.arbitrary_base.proofs.operations.ZeroRunBounds.{leading-high, leading-low, leading-none}
 
 -- the bit length is where the powers of two say
-length-between : (f m : ℕ) → 0 < m → m < 2 ^ f → (1 ≤ bit_length f m) × (m < 2 ^ bit_length f m) × (2 ^ bit_length f m ≤ 2 * m)
+pub length-between : (f m : ℕ) → 0 < m → m < 2 ^ f → (1 ≤ bit_length f m) × (m < 2 ^ bit_length f m) × (2 ^ bit_length f m ≤ 2 * m)
 length-between f zero z g = absurd (omega arith)
 length-between zero (suc m) z g = absurd (omega arith)
 length-between (suc f) (suc m) z g = by-half (suc m / 2) refl (λ some. length-between f (suc m / 2) some (let p = pow-suc 2 f in omega arith))

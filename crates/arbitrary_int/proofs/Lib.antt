@@ -24,6 +24,8 @@ pub mod Truncations
 pub mod CountBounds
 pub mod LowestBit
 pub mod LeadingZeros
+pub mod KnownEnds
+pub mod AnyWidth
 pub mod QuotientOrder
 pub mod Sets
 pub mod BitVector

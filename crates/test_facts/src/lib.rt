@@ -11,6 +11,7 @@ pub mod counters;
 pub mod counts;
 pub mod defaults;
 pub mod differences;
+pub mod ends;
 pub mod fields;
 pub mod flags;
 pub mod generic;

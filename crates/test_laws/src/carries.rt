@@ -70,3 +70,15 @@ pub fn xor_of_parts(x: i5, y: i5) -> bool
 {
     x ^ y == (x & !y).wrapping_add(!x & y)
 }
+
+pub fn highest_bit_added(x: u4) -> bool
+    ensures { IsTrue result }
+{
+    x.wrapping_add(u4::new(8)) == x ^ u4::new(8)
+}
+
+pub fn highest_bit_taken_away(x: i12) -> bool
+    ensures { IsTrue result }
+{
+    x.wrapping_sub(i12::min_value()) == x ^ i12::min_value()
+}

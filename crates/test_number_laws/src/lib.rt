@@ -9,4 +9,5 @@ pub mod forms;
 pub mod leading_zeros;
 pub mod lowest_bits;
 pub mod quotient_order;
+pub mod small_numbers;
 pub mod truncations;

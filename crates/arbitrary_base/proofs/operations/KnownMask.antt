@@ -1,5 +1,5 @@
 -- The laws of numbers under a mask that is known: what stays, what is cleared, set and turned over, in sums, multiples and remainders.
-use Rattle.std.specs.Prelude.{◌≡◌, ℕ, ℤ, Bool, true, false, not, ◌&&◌, ◌||◌, pos, negsuc, int_lt, unsigned_abs, ◌≤◌, ◌<◌, ◌+◌, ◌-◌, ◌*◌, ◌/◌, ◌%◌, ◌^◌, ◌≤ℤ◌, ◌+ℤ◌, ◌-ℤ◌}
+use Rattle.std.specs.Prelude.{◌≡◌, ℕ, ℤ, Bool, true, false, not, ◌&&◌, ◌||◌, pos, negsuc, int_lt, unsigned_abs, ◌≤◌, ◌<◌, ◌+◌, ◌-◌, ◌*◌, ◌/◌, ◌%◌, ◌^◌, ◌≤ℤ◌, ◌+ℤ◌, ◌-ℤ◌, ◌*ℤ◌}
 use Rattle.std.specs.Bool.{beq}
 use Rattle.std.specs.Int.Bits.{bit_and}
 use Rattle.std.proofs.Common.{refl, sym, ap, ap₂, subst, ◌∙◌, arith, div-add-mod', lt_of_le_of_lt, mod-eq_of_lt, mod-lt, pow-add}
@@ -164,6 +164,18 @@ and-congruent s B n x h f g e =
     let d : Congruent k (pos (bit_and N n)) x =
     Congruent-trans k _ (pos N) x (Congruent-trans k _ _ (pos N) (Congruent-sym k _ _ c) (mod-congruent k N)) (Congruent-sym k x (pos N) (Congruent-narrower k B x (pos N) g (natural B x))) in
     subst (λ (z : ℤ). Congruent k z x) (sym (and-natural s B n x h f)) d
+
+-- the lowest bit alone is what the remainder by two is, with or without a sign
+pub and-by_one : (s : Bool) (B : ℕ) (x y z : ℤ) → 1 ≤ B → InRange s B y → z ≡ bitwise_and s B x y → y ≡ pos 1 → z ≡ pos (unsigned_abs x % 2)
+and-by_one s B x y z h f e d =
+    let g : pos 1 ≤ℤ hi s B = let t = f.high in omega (arith, ints) in
+    let w = and-within s B 1 x h g in
+    let c = and-congruent s B 1 x h g h refl in
+    e ∙ ap (bitwise_and s B x) d ∙ w.1 ∙ ap pos (by-cases w.0 x c.times w.2 (ap (λ (a : ℤ). a -ℤ x) (sym w.1) ∙ c.apart))
+  where
+    by-cases : (m : ℕ) (x t : ℤ) → m ≤ 1 → pos m -ℤ x ≡ t *ℤ pos (2 ^ 1) → m ≡ unsigned_abs x % 2
+    by-cases m (pos n) t l e = omega (arith, ints)
+    by-cases m (negsuc n) t l e = omega (arith, ints)
 
 less : (k : ℕ) (x a : ℤ) → Congruent k a x → Congruent k (x -ℤ a) (pos 0)
 less k x a c =

@@ -124,25 +124,39 @@ odd-is x c = by-cases x c.times c.apart
     by-cases (pos n) t e = omega (arith, ints)
     by-cases (negsuc n) t e = omega (arith, ints)
 
+-- by the remainder
+pub trailing_ones-lowest_clear : (B : ℕ) (x : ℤ) → 1 ≤ B → unsigned_abs x % 2 ≡ 0 → prefix_len (beq true) (bits B x) ≡ 0
+trailing_ones-lowest_clear zero x h e = absurd (omega arith)
+trailing_ones-lowest_clear (suc k) x h e = ap (prefix_len (beq true)) (lowest k x) ∙ rw e refl
+
+pub trailing_ones-lowest_set : (B : ℕ) (x : ℤ) → 1 ≤ B → unsigned_abs x % 2 ≡ 1 → 1 ≤ prefix_len (beq true) (bits B x)
+trailing_ones-lowest_set zero x h e = absurd (omega arith)
+trailing_ones-lowest_set (suc k) x h e =
+    let d : prefix_len (beq true) (bits (suc k) x) ≡ 1 + prefix_len (beq true) (bits k (int_div_euclid x (pos 2))) = ap (prefix_len (beq true)) (lowest k x) ∙ rw e refl in
+    omega arith
+
+pub trailing_zeros-lowest_set : (B : ℕ) (x : ℤ) → 1 ≤ B → unsigned_abs x % 2 ≡ 1 → prefix_len (beq false) (bits B x) ≡ 0
+trailing_zeros-lowest_set zero x h e = absurd (omega arith)
+trailing_zeros-lowest_set (suc k) x h e = ap (prefix_len (beq false)) (lowest k x) ∙ rw e refl
+
+pub trailing_zeros-lowest_clear : (B : ℕ) (x : ℤ) → 1 ≤ B → unsigned_abs x % 2 ≡ 0 → 1 ≤ prefix_len (beq false) (bits B x)
+trailing_zeros-lowest_clear zero x h e = absurd (omega arith)
+trailing_zeros-lowest_clear (suc k) x h e =
+    let d : prefix_len (beq false) (bits (suc k) x) ≡ 1 + prefix_len (beq false) (bits k (int_div_euclid x (pos 2))) = ap (prefix_len (beq false)) (lowest k x) ∙ rw e refl in
+    omega arith
+
+-- and by a congruence
 pub trailing_ones-even : (B : ℕ) (x : ℤ) → 1 ≤ B → Congruent 1 x (pos 0) → prefix_len (beq true) (bits B x) ≡ 0
-trailing_ones-even zero x h c = absurd (omega arith)
-trailing_ones-even (suc k) x h c = ap (prefix_len (beq true)) (lowest k x) ∙ rw (even-is x c) refl
+trailing_ones-even B x h c = trailing_ones-lowest_clear B x h (even-is x c)
 
 pub trailing_ones-odd : (B : ℕ) (x : ℤ) → 1 ≤ B → Congruent 1 x (pos 1) → 1 ≤ prefix_len (beq true) (bits B x)
-trailing_ones-odd zero x h c = absurd (omega arith)
-trailing_ones-odd (suc k) x h c =
-    let e : prefix_len (beq true) (bits (suc k) x) ≡ 1 + prefix_len (beq true) (bits k (int_div_euclid x (pos 2))) = ap (prefix_len (beq true)) (lowest k x) ∙ rw (odd-is x c) refl in
-    omega arith
+trailing_ones-odd B x h c = trailing_ones-lowest_set B x h (odd-is x c)
 
 pub trailing_zeros-odd : (B : ℕ) (x : ℤ) → 1 ≤ B → Congruent 1 x (pos 1) → prefix_len (beq false) (bits B x) ≡ 0
-trailing_zeros-odd zero x h c = absurd (omega arith)
-trailing_zeros-odd (suc k) x h c = ap (prefix_len (beq false)) (lowest k x) ∙ rw (odd-is x c) refl
+trailing_zeros-odd B x h c = trailing_zeros-lowest_set B x h (odd-is x c)
 
 pub trailing_zeros-even : (B : ℕ) (x : ℤ) → 1 ≤ B → Congruent 1 x (pos 0) → 1 ≤ prefix_len (beq false) (bits B x)
-trailing_zeros-even zero x h c = absurd (omega arith)
-trailing_zeros-even (suc k) x h c =
-    let e : prefix_len (beq false) (bits (suc k) x) ≡ 1 + prefix_len (beq false) (bits k (int_div_euclid x (pos 2))) = ap (prefix_len (beq false)) (lowest k x) ∙ rw (even-is x c) refl in
-    omega arith
+trailing_zeros-even B x h c = trailing_zeros-lowest_clear B x h (even-is x c)
 
 -- ---- -1, whose bits are all one
 
@@ -160,6 +174,6 @@ pub ruleset ones_ends = (popcount-of_highest, popcount-minus_one, zeros-some)
 
 pub ruleset zeros_ends = (no_ones-of_zero, popcount-some, popcount-of_highest, popcount-minus_one, zeros-some)
 
-pub ruleset trailing_ends = (trailing_ones-found, trailing_ones-even, trailing_ones-odd)
+pub ruleset trailing_ends = (trailing_ones-found, trailing_ones-even, trailing_ones-odd, trailing_ones-lowest_clear, trailing_ones-lowest_set)
 
-pub ruleset lowest_bit = (trailing_zeros-odd, trailing_zeros-even)
+pub ruleset lowest_bit = (trailing_zeros-odd, trailing_zeros-even, trailing_zeros-lowest_set, trailing_zeros-lowest_clear)

@@ -4,10 +4,11 @@ use Rattle.std.specs.Bool.{Decides, beq}
 use Rattle.std.specs.Cmp.{int_ranks}
 use Rattle.std.specs.Int.{int_shr}
 use Rattle.std.specs.Ordering.{int_cmp, is_le, is_lt, is_ge, is_gt}
-use Rattle.std.proofs.Common.{refl, sym, ap, ap₂, ◌∙◌, arith}
+use Rattle.std.proofs.Common.{refl, sym, ap, ap₂, ◌∙◌, arith, inl, inr}
 use Rattle.std.proofs.Math.Pow.{shr_mono}
 use Rattle.std.proofs.lemmas.Int.{ints}
-use Rattle.arbitrary_base.specs.Range.{InRange}
+use Rattle.arbitrary_base.specs.Range.{InRange, lo, hi}
+use Rattle.arbitrary_base.specs.Saturation.{clamp}
 use Rattle.arbitrary_base.specs.BitList.{bits, fill, num}
 use Rattle.arbitrary_base.specs.Operation.{bitwise_and, bitwise_or, bitwise_xor, shifted_right}
 use Rattle.arbitrary_base.proofs.bit_lists.Pointwise.{pointwise}
@@ -16,6 +17,8 @@ use Rattle.arbitrary_base.proofs.bit_lists.UnsignedNumber.{same_length}
 use Rattle.arbitrary_base.proofs.bit_lists.StdBitwise.{num-and_right}
 use Rattle.arbitrary_base.proofs.operations.BitsAndSums.{and-in_range, num-or_and, num-xor_and, or-in_range, plain, xor-in_range}
 use Rattle.arbitrary_base.proofs.operations.Definition.{bits-and, bits-or, bits-xor}
+use Rattle.arbitrary_base.proofs.storages.CheckedSum.{three_ways}
+use Rattle.arbitrary_base.proofs.storages.Clamp.{clamp-above, clamp-fits}
 use Rattle.arbitrary_base.proofs.operations.Shift.{fill-pointwise, shifted_right-is_shr}
 
 -- ---- the tests
@@ -51,6 +54,21 @@ or-below_sum B x y h f g =
     let d = ap num (bits-or false B x y) in
     let e = num-or_and (bits B x) (bits B y) (same_length B x y) in
     omega (arith, ints)
+
+-- also where the sum stops at the greatest number
+pub or-below_clamped : (B : ℕ) (x y : ℤ) → 1 ≤ B → InRange false B x → InRange false B y → bitwise_or false B x y ≤ℤ clamp false B (x +ℤ y)
+or-below_clamped B x y h f g = by-range (three_ways false B (x +ℤ y))
+  where
+    by-range : (InRange false B (x +ℤ y)) ⊎ (((x +ℤ y) <ℤ lo false B) ⊎ (hi false B <ℤ (x +ℤ y))) → bitwise_or false B x y ≤ℤ clamp false B (x +ℤ y)
+    by-range (inl r) =
+        let e = clamp-fits false B (x +ℤ y) r in
+        let l = or-below_sum B x y h f g in
+        omega (arith, ints)
+    by-range (inr (inl below)) = let a = f.low in let b = g.low in absurd (omega (arith, ints))
+    by-range (inr (inr above)) =
+        let e = clamp-above false B (x +ℤ y) h above in
+        let l = (or-in_range false B x y h).high in
+        omega (arith, ints)
 
 pub difference-below_xor : (B : ℕ) (x y z : ℤ) → 1 ≤ B → InRange false B x → InRange false B y → z ≤ℤ (x -ℤ y) → z ≤ℤ bitwise_xor false B x y
 difference-below_xor B x y z h f g l =

@@ -107,22 +107,46 @@ module _ (s : Bool) (B : ℕ) (x : ℤ) (h : 1 ≤ B) (f : InRange s B x) where
           let p = pow-suc 2 m in
           omega (arith, ints)
 
+  -- a residue that fills all places
+  whole : (m : ℕ) → suffix_len (beq false) (bits B x) + m ≡ B → residue B x < 2 ^ m → 2 ^ (B - 1) ≤ residue B x → suffix_len (beq false) (bits B x) ≡ 0
+  whole m sum small large = by-cases (suffix_len (beq false) (bits B x)) refl
+    where
+      by-cases : (t : ℕ) → t ≡ suffix_len (beq false) (bits B x) → suffix_len (beq false) (bits B x) ≡ 0
+      by-cases zero e = sym e
+      by-cases (suc t) e =
+          let p = pow_le m (B - 1) (omega arith) in
+          absurd (omega arith)
+
   pub leading-negative : x <ℤ pos 0 → suffix_len (beq false) (bits B x) ≡ 0
   leading-negative g =
       let l = places in
-      let sum = l.1 in
       let q = (residue-below s B x h f g).1 in
-      let small = l.2 in
-      whole l.0 sum small (omega (arith, ints))
+      whole l.0 l.1 l.2 (omega (arith, ints))
+
+  -- the highest bit is set, in a type with no sign
+  pub leading-set : pos (2 ^ (B - 1)) ≤ℤ x → suffix_len (beq false) (bits B x) ≡ 0
+  leading-set g =
+      let l = places in
+      let p = pow_pos (B - 1) in
+      let q = residue-above s B x h f (omega (arith, ints)) in
+      whole l.0 l.1 l.2 (omega (arith, ints))
+
+  -- it is not, in a number from 0 on
+  pub leading-clear : pos 0 ≤ℤ x → x <ℤ pos (2 ^ (B - 1)) → 1 ≤ suffix_len (beq false) (bits B x)
+  leading-clear g u =
+      let l = places in
+      let q = residue-above s B x h f g in
+      short l.0 l.1 l.3 (omega (arith, ints))
     where
-      whole : (m : ℕ) → suffix_len (beq false) (bits B x) + m ≡ B → residue B x < 2 ^ m → 2 ^ (B - 1) ≤ residue B x → suffix_len (beq false) (bits B x) ≡ 0
-      whole m sum small large = by-cases (suffix_len (beq false) (bits B x)) refl
+      short : (m : ℕ) → suffix_len (beq false) (bits B x) + m ≡ B → 2 ^ m ≤ 2 * residue B x + 1 → residue B x < 2 ^ (B - 1) → 1 ≤ suffix_len (beq false) (bits B x)
+      short m sum large small = by-cases (suffix_len (beq false) (bits B x)) refl
         where
-          by-cases : (t : ℕ) → t ≡ suffix_len (beq false) (bits B x) → suffix_len (beq false) (bits B x) ≡ 0
-          by-cases zero e = sym e
-          by-cases (suc t) e =
-              let p = pow_le m (B - 1) (omega arith) in
+          by-cases : (t : ℕ) → t ≡ suffix_len (beq false) (bits B x) → 1 ≤ suffix_len (beq false) (bits B x)
+          by-cases zero e =
+              let w : 2 ^ m ≡ 2 ^ B = ap (λ (k : ℕ). 2 ^ k) (omega arith) in
+              let d = pow_half B h in
               absurd (omega arith)
+          by-cases (suc t) e = omega arith
 
 -- ---- zeros at the low end
 

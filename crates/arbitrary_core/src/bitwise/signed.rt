@@ -1,6 +1,6 @@
 //! `& | ^ !` of `Int`, bit by bit.
 
-ghost use Rattle.std.specs.Prelude.{◌≡◌, ◌≤◌, ◌-ℤ◌, ℕ, ℤ, pos, neg_ℤ, map, not};
+ghost use Rattle.std.specs.Prelude.{◌≡◌, ◌≤◌, ◌%◌, ◌-ℤ◌, ℕ, ℤ, pos, neg_ℤ, unsigned_abs, map, not};
 ghost use Rattle.std.specs.Int.Bits.{bit_and, bit_or, bit_xor};
 ghost use Rattle.arbitrary_base.specs.Range.{InRange};
 ghost use Rattle.arbitrary_base.specs.Operation.{bitwise_and, bitwise_not, bitwise_or, bitwise_xor};
@@ -28,6 +28,7 @@ where
         ensures plain { (m n : ℕ) → self ≡ pos m → rhs ≡ pos n → result ≡ pos (bit_and m n) }
         ensures left { (k : ℕ) → self ≡ pos k → (n : ℕ) × ((result ≡ pos n) × (n ≤ k)) }
         ensures right { (k : ℕ) → rhs ≡ pos k → (n : ℕ) × ((result ≡ pos n) × (n ≤ k)) }
+        ensures lowest { rhs ≡ pos 1 → result ≡ pos (unsigned_abs self % 2) }
     {
         Int::<T, BITS>::from_bits(bitwise::and(self.to_bits(), rhs.to_bits(), BITS))
     }
@@ -49,6 +50,7 @@ where
         ensures plain { (m n : ℕ) → self.old ≡ pos m → rhs ≡ pos n → self.new ≡ pos (bit_and m n) }
         ensures left { (k : ℕ) → self.old ≡ pos k → (n : ℕ) × ((self.new ≡ pos n) × (n ≤ k)) }
         ensures right { (k : ℕ) → rhs ≡ pos k → (n : ℕ) × ((self.new ≡ pos n) × (n ≤ k)) }
+        ensures lowest { rhs ≡ pos 1 → self.new ≡ pos (unsigned_abs self.old % 2) }
     {
         *self = *self & rhs;
     }
@@ -128,6 +130,8 @@ where
         ensures bits { self.new ≡ val T.SIGNED (bits_xor (bits BITS self.old) (bits BITS rhs)) }
         ensures operands { (val T.SIGNED (bits BITS self.old) ≡ self.old)
             × (val T.SIGNED (bits BITS rhs) ≡ rhs) }
+        ensures plain { (m n : ℕ) → self.old ≡ pos m → rhs ≡ pos n → self.new ≡ pos (bit_xor m n) }
+        ensures same { self.old ≡ rhs → self.new ≡ pos 0 }
         ensures undo { bitwise_xor T.SIGNED BITS self.new rhs ≡ self.old }
     {
         *self = *self ^ rhs;

@@ -59,6 +59,8 @@ impl<T: UnsignedStorage, const BITS: usize> BitOr<UInt<T, BITS>> for UInt<T, BIT
         ensures operands { (val T.SIGNED (bits BITS self) ≡ self)
             × (val T.SIGNED (bits BITS rhs) ≡ rhs) }
         ensures plain { result ≡ pos (bit_or (unsigned_abs self) (unsigned_abs rhs)) }
+        ensures left { self ≤ℤ result }
+        ensures right { rhs ≤ℤ result }
     {
         UInt::new(bitwise::or(self.value(), rhs.value(), BITS))
     }
@@ -74,6 +76,8 @@ impl<T: UnsignedStorage, const BITS: usize> BitOrAssign<UInt<T, BITS>> for UInt<
         ensures operands { (val T.SIGNED (bits BITS self.old) ≡ self.old)
             × (val T.SIGNED (bits BITS rhs) ≡ rhs) }
         ensures plain { self.new ≡ pos (bit_or (unsigned_abs self.old) (unsigned_abs rhs)) }
+        ensures left { self.old ≤ℤ self.new }
+        ensures right { rhs ≤ℤ self.new }
     {
         *self = *self | rhs;
     }
@@ -107,6 +111,8 @@ impl<T: UnsignedStorage, const BITS: usize> BitXorAssign<UInt<T, BITS>> for UInt
         ensures bits { self.new ≡ val T.SIGNED (bits_xor (bits BITS self.old) (bits BITS rhs)) }
         ensures operands { (val T.SIGNED (bits BITS self.old) ≡ self.old)
             × (val T.SIGNED (bits BITS rhs) ≡ rhs) }
+        ensures plain { self.new ≡ pos (bit_xor (unsigned_abs self.old) (unsigned_abs rhs)) }
+        ensures same { self.old ≡ rhs → self.new ≡ pos 0 }
         ensures undo { bitwise_xor T.SIGNED BITS self.new rhs ≡ self.old }
     {
         *self = *self ^ rhs;

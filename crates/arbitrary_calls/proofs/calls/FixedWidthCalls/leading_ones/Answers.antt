@@ -1,6 +1,6 @@
 use Rattle.std.specs.Prelude.{◌≡◌, ◌≤◌, ◌<◌, ◌%◌, ◌^◌, ℕ, pos, true}
 use Rattle.std.specs.Bool.{beq}
-use Rattle.std.specs.List.{suffix_len}
+use Rattle.std.specs.List.{count_by, suffix_len}
 use Rattle.std.proofs.Common.{ap, sym, subst, ◌∙◌}
 use Rattle.std.proofs.Math.Nat.{mod-eq_of_lt}
 use Rattle.arbitrary_base.specs.BitList.{bits}
@@ -8,6 +8,7 @@ use Rattle.arbitrary_base.proofs.bit_lists.Count.{tail-fits}
 use Rattle.arbitrary_base.proofs.bit_lists.TwosComplement.{bits-residue}
 use Rattle.arbitrary_base.proofs.operations.PopulationAndRuns.{tail-of_highest}
 use Rattle.arbitrary_base.proofs.operations.OneRunBounds.{leading_ones-found, leading_ones-minus_one, leading_ones-negative, leading_ones-none, leading_ones-some}
+use Rattle.arbitrary_base.proofs.operations.RunBesideCount.{tail_ones-below_ones}
 use Rattle.arbitrary_calls.proofs.calls.FixedWidthCalls.leading_ones.Goals as goal
 
 pub returns : goal.returns
@@ -30,4 +31,5 @@ returns g c =
       none = λ l t. e ∙ leading_ones-none s B x h f l t;
       some = λ l. subst (λ (m : ℕ). 1 ≤ m) (sym e) (leading_ones-some s B x h f l);
       negative = λ l. subst (λ (m : ℕ). 1 ≤ m) (sym e) (leading_ones-negative s B x h f l);
+      within = subst (λ (m : ℕ). m ≤ count_by (λ b. b) (bits B x)) (sym e) (tail_ones-below_ones B x);
     }

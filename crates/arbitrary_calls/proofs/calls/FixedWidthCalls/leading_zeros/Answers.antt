@@ -1,12 +1,13 @@
-use Rattle.std.specs.Prelude.{◌≡◌, ◌≤◌, ◌<◌, ◌-◌, ◌%◌, ◌^◌, ◌<ℤ◌, ◌≤ℤ◌, ℕ, pos, false}
+use Rattle.std.specs.Prelude.{◌≡◌, ◌≤◌, ◌<◌, ◌+◌, ◌-◌, ◌%◌, ◌^◌, ◌<ℤ◌, ◌≤ℤ◌, ℕ, pos, false}
 use Rattle.std.specs.Bool.{beq}
-use Rattle.std.specs.List.{suffix_len}
+use Rattle.std.specs.List.{count_by, suffix_len}
 use Rattle.std.proofs.Common.{ap, sym, subst, ◌∙◌}
 use Rattle.std.proofs.Math.Nat.{mod-eq_of_lt}
 use Rattle.arbitrary_base.specs.BitList.{bits}
 use Rattle.arbitrary_base.proofs.bit_lists.Count.{tail-fits}
 use Rattle.arbitrary_base.proofs.bit_lists.TwosComplement.{bits-residue}
-use Rattle.arbitrary_base.proofs.operations.ZeroRunBounds.{leading-none, leading-found, leading-negative, leading-low, leading-high}
+use Rattle.arbitrary_base.proofs.operations.ZeroRunBounds.{leading-none, leading-found, leading-negative, leading-low, leading-high, leading-set, leading-clear}
+use Rattle.arbitrary_base.proofs.operations.RunBesideCount.{tail_zeros-beside_ones}
 use Rattle.arbitrary_calls.proofs.calls.FixedWidthCalls.leading_zeros.Goals as goal
 
 pub returns : goal.returns
@@ -28,4 +29,7 @@ returns g c =
       negative = λ l. e ∙ leading-negative s B x h f l;
       low = λ l. subst (λ (m : ℕ). pos (2 ^ (B - 1 - m)) ≤ℤ x) (sym e) (leading-low s B x h f l);
       high = λ l. subst (λ (m : ℕ). x <ℤ pos (2 ^ (B - m))) (sym e) (leading-high s B x h f l);
+      highest_set = λ l. e ∙ leading-set s B x h f l;
+      highest_clear = λ l u. subst (λ (m : ℕ). 1 ≤ m) (sym e) (leading-clear s B x h f l u);
+      beside = subst (λ (m : ℕ). m + count_by (λ b. b) (bits B x) ≤ B) (sym e) (tail_zeros-beside_ones B x);
     }

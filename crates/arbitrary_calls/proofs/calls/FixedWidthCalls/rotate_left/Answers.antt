@@ -1,10 +1,12 @@
 use Rattle.std.specs.Prelude.{◌≡◌, pos, ◌%◌, ◌≤◌, ℤ}
 use Rattle.std.specs.List.{slice_rotate_right}
-use Rattle.std.proofs.Common.{arith, sym, ◌∙◌, subst}
+use Rattle.std.proofs.Common.{ap, arith, sym, ◌∙◌, subst}
 use Rattle.arbitrary_base.specs.BitList.{bits, num, val}
+use Rattle.arbitrary_base.specs.Operation.{rotated_left}
 use Rattle.arbitrary_base.proofs.bit_lists.ResultOfPattern.{rotl-value}
 use Rattle.arbitrary_base.proofs.modular.Inverse.{rotr-undoes}
 use Rattle.arbitrary_base.proofs.operations.Definition.{rotl-is, rotr-is}
+use Rattle.arbitrary_base.proofs.operations.RotateAndReverse.{rotated_left-none}
 use Rattle.arbitrary_calls.proofs.calls.FixedWidthCalls.rotate_left.Goals as goal
 
 pub returns : goal.returns
@@ -17,5 +19,6 @@ returns g c =
       operation = e ∙ sym (rotl-is _ _ _ _);
       value = λ y d. subst (λ (y : ℤ). g.Self.Numbered.number c.from_u128_bits.result ≡ val g.Self.Numbered.IS_SIGNED (slice_rotate_right (bits g.Self.Numbered.BITS y) (c.args.amount % g.Self.Numbered.BITS))) d e;
       undo = rotr-undoes _ _ (c.args.amount % g.Self.Numbered.BITS) _ _ _ o l c.low_bits.ensures.range e (rotr-is _ _ _ _);
+      round = λ z. e ∙ sym (rotl-is _ _ _ _) ∙ ap (rotated_left g.Self.Numbered.IS_SIGNED g.Self.Numbered.BITS _) z ∙ rotated_left-none _ _ _ o c.low_bits.ensures.range;
       range = c.low_bits.ensures.range;
     }

@@ -1,9 +1,11 @@
 use Rattle.std.specs.Prelude.{◌≡◌, pos, ◌%◌, ◌≤◌, ℤ}
-use Rattle.std.proofs.Common.{arith, sym, ◌∙◌, subst}
+use Rattle.std.proofs.Common.{ap, arith, sym, ◌∙◌, subst}
 use Rattle.arbitrary_base.specs.BitList.{bits, num, rotr, val}
+use Rattle.arbitrary_base.specs.Operation.{rotated_right}
 use Rattle.arbitrary_base.proofs.bit_lists.ResultOfPattern.{rotr-value}
 use Rattle.arbitrary_base.proofs.modular.Inverse.{rotl-undoes}
 use Rattle.arbitrary_base.proofs.operations.Definition.{rotl-is, rotr-is}
+use Rattle.arbitrary_base.proofs.operations.RotateAndReverse.{rotated_right-none}
 use Rattle.arbitrary_calls.proofs.calls.FixedWidthCalls.rotate_right.Goals as goal
 
 pub returns : goal.returns
@@ -16,5 +18,6 @@ returns g c =
       operation = e ∙ sym (rotr-is _ _ _ _);
       value = λ y d. subst (λ (y : ℤ). g.Self.Numbered.number c.from_u128_bits.result ≡ val g.Self.Numbered.IS_SIGNED (rotr (bits g.Self.Numbered.BITS y) (c.args.amount % g.Self.Numbered.BITS))) d e;
       undo = rotl-undoes _ _ (c.args.amount % g.Self.Numbered.BITS) _ _ _ o l c.low_bits.ensures.range e (rotl-is _ _ _ _);
+      round = λ z. e ∙ sym (rotr-is _ _ _ _) ∙ ap (rotated_right g.Self.Numbered.IS_SIGNED g.Self.Numbered.BITS _) z ∙ rotated_right-none _ _ _ o c.low_bits.ensures.range;
       range = c.low_bits.ensures.range;
     }

@@ -6,6 +6,7 @@ use Rattle.arbitrary_base.proofs.bit_lists.UnsignedNumber.{length-bits, same_len
 use Rattle.arbitrary_core.proofs.Naturals.{at_most, naturals}
 use Rattle.arbitrary_core.proofs.StoredBits.{bits-stays, number-of_list}
 use Rattle.arbitrary_base.proofs.operations.Definition.{and-is, of-bits}
+use Rattle.arbitrary_base.proofs.operations.KnownMask.{and-by_one}
 use Rattle.arbitrary_core.proofs.bitwise.signed.IntBitAnd.bitand.Goals as goal
 
 pub returns : goal.returns
@@ -24,4 +25,5 @@ returns g c =
       plain = naturals bit_and _ _ _ (and-plain _ _ _ _ _ w x y e);
       left = at_most _ _ (and-left _ _ _ _ _ w x e);
       right = at_most _ _ (and-right _ _ _ _ _ w y e);
+      lowest = λ d. and-by_one _ _ _ _ _ w y (e ∙ sym (and-is _ _ _ _)) d;
     }

@@ -2,6 +2,8 @@ use Rattle.std.specs.Prelude.{◌≡◌}
 use Rattle.std.proofs.Common.{sym, ◌∙◌}
 use Rattle.arbitrary_base.specs.BitList.{bits, val, bits_or}
 use Rattle.arbitrary_base.proofs.bit_lists.StdBitwise.{or-plain, not_below_zero}
+use Rattle.arbitrary_base.proofs.operations.BitsAndSums.{or-keeps}
+use Rattle.arbitrary_base.proofs.operations.Bitwise.{bitwise_or-commutes}
 use Rattle.arbitrary_base.proofs.operations.Definition.{or-is, of-bits}
 use Rattle.arbitrary_core.proofs.bitwise.unsigned.UIntBitOr.bitor.Goals as goal
 
@@ -19,4 +21,6 @@ returns g c =
       bits = e;
       operands = (sym (of-bits _ _ _ c.value.ensures.width.0 c.value.ensures.range), sym (of-bits _ _ _ c.value-2.ensures.width.0 c.value-2.ensures.range));
       plain = or-plain _ _ _ _ _ w x y e a b;
+      left = or-keeps _ _ _ _ _ u w x (e ∙ sym (or-is _ _ _ _));
+      right = or-keeps _ _ _ _ _ u w y (e ∙ sym (or-is _ _ _ _) ∙ bitwise_or-commutes _ _ _ _);
     }

@@ -1,0 +1,60 @@
+-- A run at one end beside the whole count: zeros and ones don't overlap, and one of two runs at an end is empty.
+use Rattle.std.specs.Prelude.{◌≡◌, ◌⊎◌, ℕ, ℤ, Bool, true, false, List, [], ◌∷◌, ◌++◌, length, reverse, ◌≤◌, ◌+◌}
+use Rattle.std.specs.Bool.{beq}
+use Rattle.std.specs.List.{count_by, prefix_len, suffix_len}
+use Rattle.std.proofs.Common.{refl, ap, arith, inl, inr}
+use Rattle.std.proofs.lemmas.List.{length-reverse}
+use Rattle.std.proofs.lemmas.List.Sums.{sum_by-append}
+use Rattle.arbitrary_base.specs.BitList.{bits}
+use Rattle.arbitrary_base.proofs.bit_lists.Count.{popcount-cons}
+use Rattle.arbitrary_base.proofs.bit_lists.Movement.{reverse-cons}
+use Rattle.arbitrary_base.proofs.bit_lists.UnsignedNumber.{digit, length-bits}
+
+pub append-ones : (l m : List Bool) → count_by (λ b. b) (l ++ m) ≡ count_by (λ b. b) l + count_by (λ b. b) m
+append-ones l m = sum_by-append digit l m
+
+front-zeros_ones : (l : List Bool) → prefix_len (beq false) l + count_by (λ b. b) l ≤ length l
+front-zeros_ones [] = omega arith
+front-zeros_ones (true ∷ l) = omega (arith, popcount-cons true l, at-most l)
+  where
+    at-most : (l : List Bool) → count_by (λ b. b) l ≤ length l
+    at-most [] = omega arith
+    at-most (true ∷ l) = omega (arith, popcount-cons true l, at-most l)
+    at-most (false ∷ l) = omega (arith, popcount-cons false l, at-most l)
+front-zeros_ones (false ∷ l) = omega (arith, popcount-cons false l, front-zeros_ones l)
+
+front-ones_ones : (l : List Bool) → prefix_len (beq true) l ≤ count_by (λ b. b) l
+front-ones_ones [] = omega arith
+front-ones_ones (true ∷ l) = omega (arith, popcount-cons true l, front-ones_ones l)
+front-ones_ones (false ∷ l) = omega arith
+
+reverse-ones : (l : List Bool) → count_by (λ b. b) (reverse l) ≡ count_by (λ b. b) l
+reverse-ones [] = refl
+reverse-ones (b ∷ l) =
+    let e = ap (count_by (λ b. b)) (reverse-cons b l) in
+    omega (arith, append-ones (reverse l) (b ∷ []), popcount-cons b l, popcount-cons b [], reverse-ones l)
+
+pub front_zeros-beside_ones : (B : ℕ) (x : ℤ) → prefix_len (beq false) (bits B x) + count_by (λ b. b) (bits B x) ≤ B
+front_zeros-beside_ones B x = omega (arith, front-zeros_ones (bits B x), length-bits B x)
+
+pub tail_zeros-beside_ones : (B : ℕ) (x : ℤ) → suffix_len (beq false) (bits B x) + count_by (λ b. b) (bits B x) ≤ B
+tail_zeros-beside_ones B x = omega (arith, front-zeros_ones (reverse (bits B x)), reverse-ones (bits B x), length-reverse (bits B x), length-bits B x)
+
+pub front_ones-below_ones : (B : ℕ) (x : ℤ) → prefix_len (beq true) (bits B x) ≤ count_by (λ b. b) (bits B x)
+front_ones-below_ones B x = front-ones_ones (bits B x)
+
+pub tail_ones-below_ones : (B : ℕ) (x : ℤ) → suffix_len (beq true) (bits B x) ≤ count_by (λ b. b) (bits B x)
+tail_ones-below_ones B x = omega (arith, front-ones_ones (reverse (bits B x)), reverse-ones (bits B x))
+
+one-end : (l : List Bool) → (prefix_len (beq false) l ≡ 0) ⊎ (prefix_len (beq true) l ≡ 0)
+one-end [] = inl refl
+one-end (true ∷ l) = inl refl
+one-end (false ∷ l) = inr refl
+
+pub front-alike_one : (B : ℕ) (x : ℤ) → (prefix_len (beq false) (bits B x) ≡ 0) ⊎ (prefix_len (beq true) (bits B x) ≡ 0)
+front-alike_one B x = one-end (bits B x)
+
+pub tail-alike_one : (B : ℕ) (x : ℤ) → (suffix_len (beq false) (bits B x) ≡ 0) ⊎ (suffix_len (beq true) (bits B x) ≡ 0)
+tail-alike_one B x = one-end (reverse (bits B x))
+
+pub ruleset zeros_beside_ones = (front_zeros-beside_ones, front_ones-below_ones)

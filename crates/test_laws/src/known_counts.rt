@@ -1,0 +1,51 @@
+//! Laws of the counts of a number that is written out.
+#![tactic(auto, using(arbitrary_int::proofs::BitVector::known_counts))]
+
+ghost use Rattle.std.specs.Prelude.{IsTrue};
+
+use arbitrary_int::prelude::*;
+
+pub fn ones_of_a_number() -> bool
+    ensures { IsTrue result }
+{
+    u24::new(0xA5).count_ones() == 4 && u24::new(0xA5).count_zeros() == 20
+}
+
+pub fn ones_below_zero() -> bool
+    ensures { IsTrue result }
+{
+    i12::new(-4).count_ones() == 10 && i12::new(-4).count_zeros() == 2
+}
+
+pub fn zeros_at_the_low_end() -> bool
+    ensures { IsTrue result }
+{
+    u12::new(40).trailing_zeros() == 3 && i12::new(-40).trailing_zeros() == 3
+}
+
+pub fn ones_at_the_low_end() -> bool
+    ensures { IsTrue result }
+{
+    u12::new(0xF7).trailing_ones() == 3 && i12::new(-9).trailing_ones() == 3
+}
+
+pub fn zeros_at_the_high_end() -> bool
+    ensures { IsTrue result }
+{
+    u120::new(1).leading_zeros() == 119 && i48::new(17).leading_zeros() == 43
+}
+
+pub fn ones_at_the_high_end() -> bool
+    ensures { IsTrue result }
+{
+    u12::new(0xE0F).leading_ones() == 3 && i12::new(-17).leading_ones() == 7
+}
+
+pub fn ends_of_the_range() -> bool
+    ensures { IsTrue result }
+{
+    i12::min_value().trailing_zeros() == 11
+        && i12::max_value().trailing_ones() == 11
+        && i12::min_value().leading_ones() == 1
+        && i12::max_value().count_ones() == 11
+}

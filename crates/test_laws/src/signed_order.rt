@@ -1,0 +1,31 @@
+//! Laws of the order of a signed number and its `&` or `|` with another.
+#![tactic(auto, using(arbitrary_int::proofs::BitVector::signed_order))]
+
+ghost use Rattle.std.specs.Prelude.{◌<ℤ◌, pos, IsTrue};
+
+use arbitrary_int::prelude::*;
+
+pub fn negative_mask_lowers(x: i12) -> bool
+    ensures { IsTrue result }
+{
+    x & i12::new(-16) <= x
+}
+
+pub fn bits_set_from_a_natural_number_raise(x: i48, y: i48) -> bool
+    ensures { IsTrue result }
+{
+    y < i48::zero() || x <= x | y
+}
+
+pub fn and_raises_nothing_from_zero_on(x: i12, y: i12) -> bool
+    ensures { IsTrue result }
+{
+    x < i12::zero() || x & y <= x
+}
+
+pub fn negative_number_is_below_its_or(x: i48, y: i48) -> bool
+    requires { x <ℤ pos 0 }
+    ensures { IsTrue result }
+{
+    x | y >= x
+}
