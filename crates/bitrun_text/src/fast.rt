@@ -10,6 +10,8 @@ ghost use Rattle.bitrun_text.specs.Text.{ends_word};
 ghost use Rattle.bitrun_text.specs.Numeral.{number_below};
 ghost use Rattle.bitrun_text.specs.Fast.{IsName, BeginsNoName, BeginsWithName, BeginsWithNumber, NamesStep};
 
+use crate::fast_value::digits_from;
+use crate::loose::digit;
 use crate::operation::Operation;
 use crate::text::begins_with_lf;
 use arbitrary_int::{ByOp, OneOp, Step, TwoOp};
@@ -21,6 +23,10 @@ pub fn fast_step(text: &[u8], count: usize) -> Option<(Step, &[u8])>
     ensures step { IfSome result (λ p. NamesStep count text.now p.0 p.1.now) }
     ensures within { IfSome result (λ p. StepWithin count p.0) }
 {
+    // With this one test the compiler leaves out those of the parts. The longest line with three registers has so many bytes.
+    if text.len() < 11 {
+        return None;
+    }
     let (operation, rest) = fast_name(text)?;
     let (to, rest) = fast_register(rest, count)?;
     let (src, rest) = fast_register(rest, count)?;
@@ -79,9 +85,11 @@ fn fast_register(text: &[u8], count: usize) -> Option<(usize, &[u8])>
     ensures within { IfSome result (λ p. p.0 < count) }
 {
     match text {
-        [b' ', digit @ b'0'..=b'9', rest @ ..] => {
-            let number = (*digit - b'0') as usize;
-            if number < count {
+        [b' ', byte, rest @ ..] => {
+            let number = usize::from(digit(*byte));
+            // One limit, which the compiler finds once for all lines, in place of two tests.
+            let limit = if count < 10 { count } else { 10 };
+            if number < limit {
                 Some((number, rest))
             } else {
                 None
@@ -108,17 +116,12 @@ fn last_amount(text: &[u8]) -> Option<(u32, &[u8])>
     ensures value { IfSome result (λ p. number_below (2 ^ 32) (before_first ends_word text.now) ≡ Some p.0) }
     ensures rest { IfSome result (λ p. p.1.now ≡ drop (position_or_len ends_word text.now) text.now) }
 {
-    let mut number = 0u64;
-    let mut at = 0;
-    while at < text.len() && text[at].is_ascii_digit() {
-        number = number * 10 + u64::from(text[at] - b'0');
-        if number >= 1 << 32 {
-            return None;
-        }
-        at += 1;
+    let (number, at) = digits_from(text, 0);
+    if at == 0 || number >= 1 << 32 {
+        return None;
     }
-    let (digits, rest) = text.split_at(at);
-    if digits.is_empty() || !begins_with_lf(rest) {
+    let (_, rest) = text.split_at(at);
+    if !begins_with_lf(rest) {
         return None;
     }
     Some((number as u32, rest))

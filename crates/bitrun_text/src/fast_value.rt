@@ -108,7 +108,7 @@ fn power_of_ten(count: usize) -> u64
 
 /// The number that the digits write from the place on, no more than 18 of them, and the place after them.
 #[inline(always)]
-fn digits_from(text: &[u8], start: usize) -> (u64, usize)
+pub(crate) fn digits_from(text: &[u8], start: usize) -> (u64, usize)
     requires { start ≤ length text.now }
     ensures reads { (number : ℕ) → Reads text.now start number → Reads text.now result.1 (number * 10 ^ (result.1 - start) + result.0) }
     ensures order { start ≤ result.1 }

@@ -272,7 +272,7 @@ fn with_digit(number: u64, digit: u8) -> u64
 
 /// What the byte is worth as a digit, which is below ten for digits alone.
 #[inline(always)]
-fn digit(byte: u8) -> u8
+pub(crate) fn digit(byte: u8) -> u8
     ensures { result < 10 → byte ≡ 48 + result }
 {
     byte.wrapping_sub(b'0')

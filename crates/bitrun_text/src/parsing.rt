@@ -81,7 +81,7 @@ fn steps_of_form<'a, const LOOSE: bool, A: Allocator>(
     ensures within { IfOk result (λ steps. All (StepWithin count) steps.items) }
     ensures fault { IfErr result (StepsFault count lines.old.later) }
 {
-    // A cursor of its own, so that the place need not be stored in memory.
+    // A cursor of its own, so that the place need not be stored in memory: no call takes a reference to it.
     let mut line = lines.copy();
     // A line of a step has 11 bytes or so: room for most of them, and not too much for other lines.
     let mut steps = Vec::with_capacity(alloc, line.text().len() / 16)?;
@@ -97,12 +97,14 @@ fn steps_of_form<'a, const LOOSE: bool, A: Allocator>(
                 step
             }
             None => {
-                let Some(word) = line.next_word() else {
+                let mut words = line.copy();
+                let Some(word) = words.next_word() else {
                     continue;
                 };
-                let Some(step) = step_named(word, &mut line, count) else {
+                let Some(step) = step_named(word, &mut words, count) else {
                     return Err(Fault::Line(number));
                 };
+                line = words;
                 step
             }
         };

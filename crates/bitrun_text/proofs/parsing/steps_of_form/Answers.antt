@@ -7,8 +7,8 @@ use Rattle.bitrun_text.proofs.parsing.steps_of_form.Goals.{in-Some, in-None+in-S
 
 pub loop-line-preserved-in_default : goal.loop-line-preserved-in_default
 loop-line-preserved-in_default g c =
-    after_blank c.args.count c.loop-line.line.later c.next_line.new.self.later c.next_word.new.self.later c.next_line.new.self.words c.loop-line-test.ensures c.in_default.ensures.later
-    _ _ _ c.loop-line.invariant c.in_default.ensures.word.0
+    after_blank c.args.count c.loop-line.line.later c.next_line.new.self.later c.next_line.new.self.later c.next_line.new.self.words c.loop-line-test.ensures refl
+    _ _ _ c.loop-line.invariant (rw c.copy-words.ensures at c.in_default.ensures.word.0)
 
 pub loop-line-preserved-then-is_at_lf : goal.loop-line-preserved-then-is_at_lf
 loop-line-preserved-then-is_at_lf g c =
@@ -20,7 +20,7 @@ returns-in_default-step_named-clause-fault g c =
     let lines = c.loop-line.line.later in
     let rest = c.next_line.new.self.later in
     let words = c.next_line.new.self.words in
-    let bad = bad-fault c.args.count lines rest c.next_word.new.self.later words c.loop-line-test.ensures c.in-Some-next_word.ensures.later c.in-Some-next_word.word.now c.next_word.new.self.words c.in-Some-next_word.ensures.word c.in_default-step_named.ensures.step in
+    let bad = bad-fault c.args.count lines rest c.next_word.new.self.later words c.loop-line-test.ensures (rw c.copy-words.ensures at c.in-Some-next_word.ensures.later) c.in-Some-next_word.word.now c.next_word.new.self.words (rw c.copy-words.ensures at c.in-Some-next_word.ensures.word) c.in_default-step_named.ensures.step in
     let k = c.loop-line.invariant.fault 0 bad in
     (c.loop-line.number - 2, omega arith, rw add-zero at k)
 
@@ -39,8 +39,8 @@ loop-line-preserved g c =
           rw (w.step-is, w.line-is) (record { named = names; same = later; within = w.in-Some.ensures.within })
       | in-None+in-Some-next_word+in-Some-step_named w ↦
           let e = w.in-Some-step_named.ensures in
-          let names : Some w.in-Some-step_named.step ≡ step_named count words = e.step ∙ ap (step_named count) (sym w.in-Some-next_word.ensures.word) in
-          rw (w.step-is, w.line-is) (record { named = names; same = e.later ∙ w.in-Some-next_word.ensures.later; within = e.within })
+          let names : Some w.in-Some-step_named.step ≡ step_named count words = rw w.copy-words.ensures at (e.step ∙ ap (step_named count) (sym w.in-Some-next_word.ensures.word)) in
+          rw (w.step-is, w.line-is) (record { named = names; same = rw w.copy-words.ensures at (e.later ∙ w.in-Some-next_word.ensures.later); within = e.within })
     ] in
     rw c.in_ok-push.ensures.items
     (after_step count c.loop-line.line.later rest after words c.loop-line-test.ensures read.same _ _ _ c.loop-line.invariant step read.named read.within)
