@@ -28,8 +28,11 @@ python3 tools/endings.py "${programs[@]}"
 python3 tools/fuzz.py "${programs[@]}"
 # the conditions of the calls at each type, twelve that the commit chooses
 python3 tools/wrong_bodies.py --some 12 test_bounds_core test_bounds
-# the lines that docs/PROVING.md calls refused, wrong laws of bits, and promises of dear crates
-python3 tools/wrong_bodies.py test_pages test_laws test_number_laws \
+# the lines that docs/PROVING.md calls refused, and wrong laws
+python3 tools/wrong_bodies.py test_pages test_laws test_number_laws
+# what the libraries promise, four that the commit chooses
+python3 tools/wrong_bodies.py --some 4 \
+    arbitrary_traits/{conversion_drops_the_bits_from_64_up,masking_clamps_a_negative_source} \
     arbitrary_calls/{counts_the_ones_of_the_storage,right_shift_fills_with_zeros} \
     arbitrary_core/{order_is_that_of_the_bits,text_is_that_of_the_bits,valid_width_is_constant} \
     arbitrary_core/{default_of_a_signed_type_is_its_minimum,saturated_sum_by_the_trait_wraps} \
@@ -37,10 +40,6 @@ python3 tools/wrong_bodies.py test_pages test_laws test_number_laws \
     arbitrary_int/{no_bytes_are_canonical,reader_masks_excess_bits,reader_always_passes_a_fault_on,reader_takes_one_byte_too_many} \
     arbitrary_int/{reads_on_after_a_refusal,takes_an_old_fault_for_a_new_one,writer_always_passes_a_fault_on,writes_other_bytes} \
     arbitrary_int/{last_value_comes_from_both_ends,sum_tests_only_the_total,swap_bytes_answers_its_argument}
-# what the program's crates promise, three that the commit chooses
-python3 tools/wrong_bodies.py --some 3 \
-    bitrun_text/{reports_the_largest_bad_line,runs_the_steps_before_a_bad_line,status_is_always_2} \
-    bitrun_service/{answers_read_always,answers_write_always,reads_nothing,stops_at_a_short_read,writes_other_bytes_after_a_fault}
 # of this shell and of what it waited for, each as 1m2.345s
 times > "$spent"
 awk -F '[ms ]+' -v wall="$SECONDS" '{ sum += 60 * ($1 + $3) + $2 + $4 }
