@@ -72,3 +72,27 @@ pub fn count_of_a_number() -> u32
 {
     u24::new(0xA5).count_ones()
 }
+
+pub fn leading_zeros_are_zeros(x: u5) -> bool
+    ensures { IsTrue result }
+{
+    x.leading_zeros() <= x.count_zeros()
+}
+
+pub fn trailing_zeros_are_zeros(x: i5) -> bool
+    ensures { IsTrue result }
+{
+    x.trailing_zeros() <= x.count_zeros()
+}
+
+pub fn leading_ones_are_ones(x: i5) -> bool
+    ensures { IsTrue result }
+{
+    x.leading_ones() <= x.count_ones()
+}
+
+pub fn trailing_ones_are_ones(x: u5) -> bool
+    ensures { IsTrue result }
+{
+    x.trailing_ones() <= x.count_ones()
+}
