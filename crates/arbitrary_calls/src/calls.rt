@@ -1,7 +1,7 @@
 //! What every integer of fixed width can do, each call written once for both types. The trait requires little, so that a
 //! caller's proof carries little: `FixedWidth`, with the operators and the laws of generic code, is above it.
 
-ghost use Rattle.std.specs.Prelude.{length, not, ◌≡◌, ◌≢◌, ◌↔◌, ◌≤◌, ◌<◌, ◌+◌, ◌-◌, ◌*◌, ◌%◌, ◌^◌, ◌≤ℤ◌, ◌<ℤ◌, ◌+ℤ◌, ◌-ℤ◌, ◌*ℤ◌, ℤ, pos, neg_ℤ, unsigned_abs, IsTrue, IsNone, IfSome, false, true, int_div, reverse, SomeIff, option_map};
+ghost use Rattle.std.specs.Prelude.{length, not, ◌≡◌, ◌≢◌, ◌↔◌, ◌≤◌, ◌<◌, ◌+◌, ◌-◌, ◌*◌, ◌%◌, ◌^◌, ◌≤ℤ◌, ◌<ℤ◌, ◌+ℤ◌, ◌-ℤ◌, ◌*ℤ◌, ℤ, pos, neg_ℤ, unsigned_abs, count_ones, IsTrue, IsNone, IfSome, false, true, int_div, reverse, Some, SomeIff, option_map};
 ghost use Rattle.std.specs.Bool.{beq};
 ghost use Rattle.std.specs.Int.{int_pow};
 ghost use Rattle.std.specs.Int.Digits.{digits_of};
@@ -70,15 +70,18 @@ pub trait FixedWidthCalls: Numbered + LowBits {
         ensures below { (Self.number self +ℤ Self.number rhs) <ℤ lo Self.IS_SIGNED Self.BITS → Self.number result ≡ lo Self.IS_SIGNED Self.BITS }
         ensures range { InRange Self.IS_SIGNED Self.BITS (Self.number self) }
         ensures bounded { InRange Self.IS_SIGNED Self.BITS (Self.number result) }
+        ensures swap { Self.number self +ℤ Self.number rhs ≡ Self.number rhs +ℤ Self.number self }
     {
         Self::from_storage(saturating::add(self.to_storage(), rhs.to_storage(), Self::BITS))
     }
 
     /// The sum, and `None` exactly where it is out of range.
     final fn checked_add(self, rhs: Self) -> Option<Self>
-        ensures { SomeIff (option_map Self.number result)
+        ensures exact { SomeIff (option_map Self.number result)
             (InRange Self.IS_SIGNED Self.BITS (Self.number self +ℤ Self.number rhs))
             (Self.number self +ℤ Self.number rhs) }
+        ensures swap { Self.number self +ℤ Self.number rhs ≡ Self.number rhs +ℤ Self.number self }
+        ensures zero { Self.number rhs ≡ pos 0 → option_map Self.number result ≡ Some (Self.number self) }
     {
         match checked::add(self.to_storage(), rhs.to_storage(), Self::BITS) {
             Some(sum) => Some(Self::from_storage(sum)),
@@ -93,6 +96,7 @@ pub trait FixedWidthCalls: Numbered + LowBits {
         ensures overflow { IsTrue result.1 ↔ ¬ (InRange Self.IS_SIGNED Self.BITS (Self.number self +ℤ Self.number rhs)) }
         ensures exact { InRange Self.IS_SIGNED Self.BITS (Self.number self +ℤ Self.number rhs) → Self.number result.0 ≡ Self.number self +ℤ Self.number rhs }
         ensures congruent { Congruent Self.BITS (Self.number result.0) (Self.number self +ℤ Self.number rhs) }
+        ensures swap { Self.number self +ℤ Self.number rhs ≡ Self.number rhs +ℤ Self.number self }
     {
         let (sum, overflow) = overflowing::add(self.to_storage(), rhs.to_storage(), Self::BITS);
         (Self::from_storage(sum), overflow)
@@ -126,9 +130,10 @@ pub trait FixedWidthCalls: Numbered + LowBits {
 
     /// The difference, and `None` exactly where it is out of range.
     final fn checked_sub(self, rhs: Self) -> Option<Self>
-        ensures { SomeIff (option_map Self.number result)
+        ensures exact { SomeIff (option_map Self.number result)
             (InRange Self.IS_SIGNED Self.BITS (Self.number self -ℤ Self.number rhs))
             (Self.number self -ℤ Self.number rhs) }
+        ensures zero { Self.number rhs ≡ pos 0 → option_map Self.number result ≡ Some (Self.number self) }
     {
         match checked::sub(self.to_storage(), rhs.to_storage(), Self::BITS) {
             Some(difference) => Some(Self::from_storage(difference)),
@@ -171,15 +176,17 @@ pub trait FixedWidthCalls: Numbered + LowBits {
         ensures below { (Self.number self *ℤ Self.number rhs) <ℤ lo Self.IS_SIGNED Self.BITS → Self.number result ≡ lo Self.IS_SIGNED Self.BITS }
         ensures range { InRange Self.IS_SIGNED Self.BITS (Self.number self) }
         ensures bounded { InRange Self.IS_SIGNED Self.BITS (Self.number result) }
+        ensures swap { Self.number self *ℤ Self.number rhs ≡ Self.number rhs *ℤ Self.number self }
     {
         Self::from_storage(saturating::mul(self.to_storage(), rhs.to_storage(), Self::BITS))
     }
 
     /// The product, and `None` exactly where it is out of range.
     final fn checked_mul(self, rhs: Self) -> Option<Self>
-        ensures { SomeIff (option_map Self.number result)
+        ensures exact { SomeIff (option_map Self.number result)
             (InRange Self.IS_SIGNED Self.BITS (Self.number self *ℤ Self.number rhs))
             (Self.number self *ℤ Self.number rhs) }
+        ensures swap { Self.number self *ℤ Self.number rhs ≡ Self.number rhs *ℤ Self.number self }
     {
         match checked::mul(self.to_storage(), rhs.to_storage(), Self::BITS) {
             Some(product) => Some(Self::from_storage(product)),
@@ -194,6 +201,7 @@ pub trait FixedWidthCalls: Numbered + LowBits {
         ensures overflow { IsTrue result.1 ↔ ¬ (InRange Self.IS_SIGNED Self.BITS (Self.number self *ℤ Self.number rhs)) }
         ensures exact { InRange Self.IS_SIGNED Self.BITS (Self.number self *ℤ Self.number rhs) → Self.number result.0 ≡ Self.number self *ℤ Self.number rhs }
         ensures congruent { Congruent Self.BITS (Self.number result.0) (Self.number self *ℤ Self.number rhs) }
+        ensures swap { Self.number self *ℤ Self.number rhs ≡ Self.number rhs *ℤ Self.number self }
     {
         let (product, overflow) = overflowing::mul(self.to_storage(), rhs.to_storage(), Self::BITS);
         (Self::from_storage(product), overflow)
@@ -221,15 +229,17 @@ pub trait FixedWidthCalls: Numbered + LowBits {
         ensures below { (int_div (Self.number self) (Self.number rhs)) <ℤ lo Self.IS_SIGNED Self.BITS → Self.number result ≡ lo Self.IS_SIGNED Self.BITS }
         ensures range { InRange Self.IS_SIGNED Self.BITS (Self.number self) }
         ensures bounded { InRange Self.IS_SIGNED Self.BITS (Self.number result) }
+        ensures itself { InRange Self.IS_SIGNED Self.BITS (pos 1) → Self.number self ≡ Self.number rhs → Self.number result ≡ pos 1 }
     {
         Self::from_storage(saturating::div(self.to_storage(), rhs.to_storage(), Self::BITS))
     }
 
     /// The quotient, and `None` exactly where the divisor is zero or the quotient is out of range.
     final fn checked_div(self, rhs: Self) -> Option<Self>
-        ensures { SomeIff (option_map Self.number result)
+        ensures exact { SomeIff (option_map Self.number result)
             ((Self.number rhs ≢ pos 0) × InRange Self.IS_SIGNED Self.BITS (int_div (Self.number self) (Self.number rhs)))
             (int_div (Self.number self) (Self.number rhs)) }
+        ensures itself { Self.number rhs ≢ pos 0 → Self.number self ≡ Self.number rhs → int_div (Self.number self) (Self.number rhs) ≡ pos 1 }
     {
         match checked::div(self.to_storage(), rhs.to_storage(), Self::BITS) {
             Some(quotient) => Some(Self::from_storage(quotient)),
@@ -245,6 +255,7 @@ pub trait FixedWidthCalls: Numbered + LowBits {
         ensures overflow { IsTrue result.1 ↔ ¬ (InRange Self.IS_SIGNED Self.BITS (int_div (Self.number self) (Self.number rhs))) }
         ensures exact { InRange Self.IS_SIGNED Self.BITS (int_div (Self.number self) (Self.number rhs)) → Self.number result.0 ≡ int_div (Self.number self) (Self.number rhs) }
         ensures of_least { Self.number self ≡ lo Self.IS_SIGNED Self.BITS → Self.number rhs ≡ neg_ℤ (pos 1) → Self.number result.0 ≡ Self.number self }
+        ensures itself { InRange Self.IS_SIGNED Self.BITS (pos 1) → Self.number self ≡ Self.number rhs → Self.number result.0 ≡ pos 1 }
     {
         let (quotient, overflow) = overflowing::div(
             self.to_storage(),
@@ -282,6 +293,9 @@ pub trait FixedWidthCalls: Numbered + LowBits {
         ensures below { (int_pow (Self.number self) exp) <ℤ lo Self.IS_SIGNED Self.BITS → Self.number result.0 ≡ lo Self.IS_SIGNED Self.BITS }
         ensures range { InRange Self.IS_SIGNED Self.BITS (Self.number self) }
         ensures bounded { InRange Self.IS_SIGNED Self.BITS (Self.number result.0) }
+        ensures first { exp ≡ 1 → Self.number result.0 ≡ Self.number self }
+        ensures of_one { Self.number self ≡ pos 1 → Self.number result.0 ≡ pos 1 }
+        ensures of_zero { Self.number self ≡ pos 0 → 1 ≤ exp → Self.number result.0 ≡ pos 0 }
     {
         let (power, count) = power::saturating_pow_counted(self.to_storage(), exp, Self::BITS);
         (Self::from_storage(power), count)
@@ -294,6 +308,7 @@ pub trait FixedWidthCalls: Numbered + LowBits {
         ensures plain { Self.IS_SIGNED ≡ false → Self.number result ≡ pos (unsigned_abs (Self.number self) * 2 ^ (amount % Self.BITS) % 2 ^ Self.BITS) }
         ensures exact { InRange Self.IS_SIGNED Self.BITS (Self.number self *ℤ pos (2 ^ (amount % Self.BITS))) → Self.number result ≡ Self.number self *ℤ pos (2 ^ (amount % Self.BITS)) }
         ensures congruent { (y : ℤ) → y ≡ Self.number self *ℤ pos (2 ^ (amount % Self.BITS)) → Congruent Self.BITS (Self.number result) y }
+        ensures none { amount % Self.BITS ≡ 0 → Self.number result ≡ Self.number self }
         ensures operand { InRange Self.IS_SIGNED Self.BITS (Self.number self) }
     {
         let storage = self.to_storage();
@@ -308,6 +323,7 @@ pub trait FixedWidthCalls: Numbered + LowBits {
         ensures value { IfSome result (λ r. Self.number r ≡ val Self.IS_SIGNED (shl (bits Self.BITS (Self.number self)) amount)) }
         ensures plain { Self.IS_SIGNED ≡ false → IfSome result (λ r. Self.number r ≡ pos (unsigned_abs (Self.number self) * 2 ^ amount % 2 ^ Self.BITS)) }
         ensures congruent { IfSome result (λ r. Congruent Self.BITS (Self.number r) (Self.number self *ℤ pos (2 ^ amount))) }
+        ensures none { amount ≡ 0 → IfSome result (λ r. Self.number r ≡ Self.number self) }
     {
         if (amount as usize) < Self::BITS {
             Some(Self::from_storage(shifts::shl(self.to_storage(), amount as usize, Self::BITS)))
@@ -323,6 +339,7 @@ pub trait FixedWidthCalls: Numbered + LowBits {
         ensures overflow { IsTrue result.1 ↔ (Self.BITS ≤ amount) }
         ensures plain { Self.IS_SIGNED ≡ false → Self.number result.0 ≡ pos (unsigned_abs (Self.number self) * 2 ^ (amount % Self.BITS) % 2 ^ Self.BITS) }
         ensures congruent { Congruent Self.BITS (Self.number result.0) (Self.number self *ℤ pos (2 ^ (amount % Self.BITS))) }
+        ensures none { amount % Self.BITS ≡ 0 → Self.number result.0 ≡ Self.number self }
     {
         (self.wrapping_shl(amount), amount as usize >= Self::BITS)
     }
@@ -335,6 +352,7 @@ pub trait FixedWidthCalls: Numbered + LowBits {
         ensures low { (Self.number result *ℤ pos (2 ^ (amount % Self.BITS))) ≤ℤ Self.number self }
         ensures high { (y : ℤ) → Self.number self ≡ y → y <ℤ (Self.number result *ℤ pos (2 ^ (amount % Self.BITS)) +ℤ pos (2 ^ (amount % Self.BITS))) }
         ensures range { InRange Self.IS_SIGNED (Self.BITS - (amount % Self.BITS)) (Self.number result) }
+        ensures none { amount % Self.BITS ≡ 0 → Self.number result ≡ Self.number self }
         ensures operand { InRange Self.IS_SIGNED Self.BITS (Self.number self) }
     {
         let storage = self.to_storage();
@@ -351,6 +369,7 @@ pub trait FixedWidthCalls: Numbered + LowBits {
         ensures low { IfSome result (λ r. (Self.number r *ℤ pos (2 ^ amount)) ≤ℤ Self.number self) }
         ensures high { IfSome result (λ r. Self.number self <ℤ (Self.number r *ℤ pos (2 ^ amount) +ℤ pos (2 ^ amount))) }
         ensures range { IfSome result (λ r. InRange Self.IS_SIGNED (Self.BITS - amount) (Self.number r)) }
+        ensures none { amount ≡ 0 → IfSome result (λ r. Self.number r ≡ Self.number self) }
     {
         if (amount as usize) < Self::BITS {
             Some(Self::from_storage(shifts::shr(self.to_storage(), amount as usize, Self::BITS)))
@@ -368,6 +387,7 @@ pub trait FixedWidthCalls: Numbered + LowBits {
         ensures low { (Self.number result.0 *ℤ pos (2 ^ (amount % Self.BITS))) ≤ℤ Self.number self }
         ensures high { Self.number self <ℤ (Self.number result.0 *ℤ pos (2 ^ (amount % Self.BITS)) +ℤ pos (2 ^ (amount % Self.BITS))) }
         ensures range { InRange Self.IS_SIGNED (Self.BITS - (amount % Self.BITS)) (Self.number result.0) }
+        ensures none { amount % Self.BITS ≡ 0 → Self.number result.0 ≡ Self.number self }
     {
         (self.wrapping_shr(amount), amount as usize >= Self::BITS)
     }
@@ -410,6 +430,7 @@ pub trait FixedWidthCalls: Numbered + LowBits {
     #[tactic(auto, using(arbitrary_base::proofs::bit_lists::ResultOfPattern::count_laws, arbitrary_base::proofs::operations::ZeroRunBounds::ones_bounds, arbitrary_base::proofs::operations::OneRunBounds::ones_ends))]
     final fn count_ones(self) -> u32
         ensures value { result ≡ count_by (λ b. b) (bits Self.BITS (Self.number self)) }
+        ensures plain { Self.IS_SIGNED ≡ false → result ≡ count_ones (unsigned_abs (Self.number self)) }
         ensures bound { result ≤ Self.BITS }
         ensures none { Self.number self ≡ pos 0 → result ≡ 0 }
         ensures some { Self.number self ≢ pos 0 → 1 ≤ result }
@@ -424,6 +445,7 @@ pub trait FixedWidthCalls: Numbered + LowBits {
     #[tactic(auto, using(arbitrary_base::proofs::bit_lists::ResultOfPattern::count_laws, arbitrary_base::proofs::operations::OneRunBounds::zeros_ends))]
     final fn count_zeros(self) -> u32
         ensures value { result ≡ Self.BITS - count_by (λ b. b) (bits Self.BITS (Self.number self)) }
+        ensures plain { Self.IS_SIGNED ≡ false → result + count_ones (unsigned_abs (Self.number self)) ≡ Self.BITS }
         ensures bound { result ≤ Self.BITS }
         ensures none { Self.number self ≡ pos 0 → result ≡ Self.BITS }
         ensures found { Self.number self ≢ pos 0 → result < Self.BITS }

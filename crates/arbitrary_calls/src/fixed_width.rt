@@ -325,6 +325,9 @@ pub trait FixedWidth: Integer + FixedWidthCalls {
     ghost sum_of_difference: { (a b c d : Self) → Self.valid → c ≡ difference_of a b → d ≡ own a
         → sum_of c b ≡ d };
 
+    ghost sum_to_difference: { (a b c d : Self) → Self.valid → c ≡ difference_of b a → d ≡ own b
+        → sum_of a c ≡ d };
+
     ghost difference_twice: { (a b c d : Self) → Self.valid → c ≡ difference_of a b → d ≡ own b
         → difference_of a c ≡ d };
 

@@ -4,6 +4,7 @@ ghost use Rattle.std.specs.Prelude.{◌≡◌, ◌↔◌, ◌<◌, ◌≤◌, �
 ghost use Rattle.std.specs.Int.{IsInRange};
 ghost use Rattle.arbitrary_base.specs.Range.{InRange, hi};
 ghost use Rattle.arbitrary_base.specs.Residue.{residue, wrap, Congruent};
+ghost use Rattle.arbitrary_base.specs.Operation.{wrapped_difference};
 ghost use Rattle.arbitrary_base.specs.Saturation.{clamp};
 
 use arbitrary_base::ends::{is_below_zero, is_zero};
@@ -208,6 +209,8 @@ where
         ensures value { result ≡ wrap T.SIGNED BITS (neg_ℤ self) }
         ensures exact { InRange T.SIGNED BITS (neg_ℤ self) → result ≡ neg_ℤ self }
         ensures congruent { Congruent BITS result (neg_ℤ self) }
+        ensures operation { result ≡ wrapped_difference T.SIGNED BITS (pos 0) self }
+        ensures undo { wrapped_difference T.SIGNED BITS (pos 0) result ≡ self }
     {
         Int::<T, BITS>::new(wrapping::neg(self.value(), BITS))
     }

@@ -4,6 +4,7 @@ ghost use Rattle.std.specs.Prelude.{◌≡◌, ◌↔◌, ◌<◌, ◌≤◌, �
 ghost use Rattle.std.specs.Int.{IsInRange};
 ghost use Rattle.arbitrary_base.specs.Range.{InRange};
 ghost use Rattle.arbitrary_base.specs.Residue.{wrap};
+ghost use Rattle.arbitrary_base.specs.Operation.{wrapped_difference};
 ghost use Rattle.arbitrary_base.specs.BitList.{bits, val};
 
 use arbitrary_base::error::TryNewError;
@@ -181,7 +182,9 @@ impl<T: UnsignedStorage, const BITS: usize> UInt<T, BITS> {
 
     /// The negated number, wrapped.
     pub fn wrapping_neg(self) -> Self
-        ensures { result ≡ wrap T.SIGNED BITS (neg_ℤ self) }
+        ensures value { result ≡ wrap T.SIGNED BITS (neg_ℤ self) }
+        ensures operation { result ≡ wrapped_difference T.SIGNED BITS (pos 0) self }
+        ensures undo { wrapped_difference T.SIGNED BITS (pos 0) result ≡ self }
     {
         UInt::new(wrapping::neg(self.value(), BITS))
     }

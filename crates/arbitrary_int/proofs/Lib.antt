@@ -30,6 +30,7 @@ pub mod QuotientOrder
 pub mod Sets
 pub mod BitVector
 pub mod Conversions
+pub use Rattle.arbitrary_base.proofs.integers.Ring
 pub use Rattle.arbitrary_base.proofs.modular.Truncation
 pub use Rattle.arbitrary_base.proofs.modular.Residue
 pub use Rattle.arbitrary_base.proofs.bit_lists.UnsignedNumber

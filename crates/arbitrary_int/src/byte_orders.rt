@@ -1,9 +1,9 @@
 //! Integers of whole bytes, and their bytes.
 
-ghost use Rattle.std.specs.Prelude.{◌≡◌, ◌-◌, ◌*◌, ◌/◌, ◌%◌, ◌^◌, ◌<◌, ℕ, ℤ, pos, false, get_or, refl, reverse, unsigned_abs};
+ghost use Rattle.std.specs.Prelude.{◌≡◌, ◌-◌, ◌*◌, ◌/◌, ◌%◌, ◌^◌, ◌<◌, ℕ, ℤ, pos, false, true, get_or, refl, reverse, unsigned_abs};
 ghost use Rattle.std.proofs.Common.{lit≤};
 ghost use Rattle.arbitrary_base.specs.Range.{InRange};
-ghost use Rattle.arbitrary_base.specs.Residue.{wrap};
+ghost use Rattle.arbitrary_base.specs.Residue.{Congruent, wrap};
 ghost use Rattle.arbitrary_base.specs.Bytes.{bytes, bytes_number};
 
 use arbitrary_base::byte_lists::{all_bytes, pattern_of};
@@ -25,6 +25,7 @@ pub trait ByteOrders<const N: usize>: Numbered {
     final fn to_le_bytes(self) -> [u8; N]
         ensures bytes { result ≡ bytes N (Self.number self) }
         ensures unsigned { Self.IS_SIGNED ≡ false → pos (bytes_number result) ≡ Self.number self }
+        ensures signed { Self.IS_SIGNED ≡ true → Congruent Self.BITS (pos (bytes_number result)) (Self.number self) }
         ensures plain { Self.IS_SIGNED ≡ false → (i : ℕ) → i < N → get_or result i 0 ≡ unsigned_abs (Self.number self) / 256 ^ i % 256 }
         ensures range { InRange Self.IS_SIGNED Self.BITS (Self.number self) }
     {
@@ -38,6 +39,7 @@ pub trait ByteOrders<const N: usize>: Numbered {
     final fn to_be_bytes(self) -> [u8; N]
         ensures bytes { result ≡ reverse (bytes N (Self.number self)) }
         ensures unsigned { Self.IS_SIGNED ≡ false → pos (bytes_number (reverse result)) ≡ Self.number self }
+        ensures signed { Self.IS_SIGNED ≡ true → Congruent Self.BITS (pos (bytes_number (reverse result))) (Self.number self) }
         ensures plain { Self.IS_SIGNED ≡ false → (i : ℕ) → i < N → get_or result i 0 ≡ unsigned_abs (Self.number self) / 256 ^ (N - 1 - i) % 256 }
         ensures range { InRange Self.IS_SIGNED Self.BITS (Self.number self) }
     {
@@ -50,6 +52,7 @@ pub trait ByteOrders<const N: usize>: Numbered {
     final fn to_ne_bytes(self) -> [u8; N]
         ensures bytes { result ≡ bytes N (Self.number self) }
         ensures unsigned { Self.IS_SIGNED ≡ false → pos (bytes_number result) ≡ Self.number self }
+        ensures signed { Self.IS_SIGNED ≡ true → Congruent Self.BITS (pos (bytes_number result)) (Self.number self) }
         ensures plain { Self.IS_SIGNED ≡ false → (i : ℕ) → i < N → get_or result i 0 ≡ unsigned_abs (Self.number self) / 256 ^ i % 256 }
         ensures range { InRange Self.IS_SIGNED Self.BITS (Self.number self) }
     {
@@ -61,6 +64,7 @@ pub trait ByteOrders<const N: usize>: Numbered {
         ensures bytes { bytes N (Self.number result) ≡ list.entry }
         ensures number { Self.number result ≡ wrap Self.IS_SIGNED Self.BITS (pos (bytes_number list.entry)) }
         ensures unsigned { Self.IS_SIGNED ≡ false → Self.number result ≡ pos (bytes_number list.entry) }
+        ensures signed { Self.IS_SIGNED ≡ true → Congruent Self.BITS (Self.number result) (pos (bytes_number list.entry)) }
         ensures only { (x : ℤ) → InRange Self.IS_SIGNED Self.BITS x → bytes N x ≡ list.entry → Self.number result ≡ x }
     {
         Self::from_u128_bits(pattern_of(&list))
@@ -71,6 +75,7 @@ pub trait ByteOrders<const N: usize>: Numbered {
         ensures bytes { reverse (bytes N (Self.number result)) ≡ list.entry }
         ensures number { Self.number result ≡ wrap Self.IS_SIGNED Self.BITS (pos (bytes_number (reverse list.entry))) }
         ensures unsigned { Self.IS_SIGNED ≡ false → Self.number result ≡ pos (bytes_number (reverse list.entry)) }
+        ensures signed { Self.IS_SIGNED ≡ true → Congruent Self.BITS (Self.number result) (pos (bytes_number (reverse list.entry))) }
         ensures only { (x : ℤ) → InRange Self.IS_SIGNED Self.BITS x → reverse (bytes N x) ≡ list.entry → Self.number result ≡ x }
     {
         let mut turned = list;
@@ -83,6 +88,7 @@ pub trait ByteOrders<const N: usize>: Numbered {
         ensures bytes { bytes N (Self.number result) ≡ list.entry }
         ensures number { Self.number result ≡ wrap Self.IS_SIGNED Self.BITS (pos (bytes_number list.entry)) }
         ensures unsigned { Self.IS_SIGNED ≡ false → Self.number result ≡ pos (bytes_number list.entry) }
+        ensures signed { Self.IS_SIGNED ≡ true → Congruent Self.BITS (Self.number result) (pos (bytes_number list.entry)) }
         ensures only { (x : ℤ) → InRange Self.IS_SIGNED Self.BITS x → bytes N x ≡ list.entry → Self.number result ≡ x }
     {
         Self::from_le_bytes(list)

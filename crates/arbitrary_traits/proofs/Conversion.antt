@@ -1,13 +1,13 @@
 -- Why a number can go from one type to another through its bits.
-use Rattle.std.specs.Prelude.{◌≡◌, ◌≤◌, ◌^◌, ◌<◌, ◌-◌, ◌≤ℤ◌, ℕ, ℤ, Bool, true, false, pos, negsuc}
-use Rattle.std.proofs.Common.{◌∙◌, ap, arith}
+use Rattle.std.specs.Prelude.{◌≡◌, ◌≤◌, ◌^◌, ◌<◌, ◌-◌, ◌≤ℤ◌, ◌%◌, ℕ, ℤ, Bool, true, false, pos, negsuc, unsigned_abs}
+use Rattle.std.proofs.Common.{◌∙◌, ap, arith, subst}
 use Rattle.std.proofs.lemmas.Int.{ints}
 use Rattle.std.proofs.lemmas.Nat.{pow_pos}
 use Rattle.arbitrary_base.specs.Range.{InRange}
 use Rattle.arbitrary_base.specs.Residue.{residue, wrap}
 use Rattle.arbitrary_base.proofs.modular.Congruence.{pow_le}
 use Rattle.arbitrary_base.proofs.modular.Truncation.{InRange-signed, wrap-residue}
-use Rattle.arbitrary_base.proofs.storages.Primitive.{residue-pos}
+use Rattle.arbitrary_base.proofs.storages.Primitive.{residue-pos, wrap-pos}
 use Rattle.arbitrary_base.proofs.modular.ExactOrCongruent.{wrapped-congruent}
 
 -- the residue modulo 2 ^ 128 wraps as the number does
@@ -21,6 +21,11 @@ pub ruleset wider_types = (InRange-signed)
 -- the truncation of x at a width that is known to be B
 pub wrap-at : (s : Bool) {W B : ℕ} (x : ℤ) {z : ℤ} → W ≡ B → z ≡ wrap s W x → z ≡ wrap s B x
 wrap-at s x w e = e ∙ ap (λ (n : ℕ). wrap s n x) w
+
+-- with no sign on either side the low bits are a remainder
+pub low-of_unsigned : (s t : Bool) (A B : ℕ) (x z : ℤ) → 1 ≤ B → InRange t A x → s ≡ false → t ≡ false → z ≡ wrap s B x → z ≡ pos (unsigned_abs x % 2 ^ B)
+low-of_unsigned s t A B (pos n) z h f d e w = w ∙ ap (λ (u : Bool). wrap u B (pos n)) d ∙ wrap-pos B n h
+low-of_unsigned s t A B (negsuc n) z h f d e w = let r = subst (λ (u : Bool). InRange u A (negsuc n)) e f in let l = r.low in absurd (omega (arith, ints))
 
 pub ruleset counterparts = (wrapped-congruent)
 

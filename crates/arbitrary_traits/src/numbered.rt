@@ -1,7 +1,7 @@
 //! The trait `Numbered`: the width, the sign and the number of a value, and the conversions between any two such types,
 //! each written once. It requires little, so that a caller's proof carries little: `Integer`, which has the operators, is above it.
 
-ghost use Rattle.std.specs.Prelude.{◌≡◌, ◌≤◌, ◌<◌, ℕ, ℤ, Bool, true, false, pos, not};
+ghost use Rattle.std.specs.Prelude.{◌≡◌, ◌≤◌, ◌<◌, ◌%◌, ◌^◌, ℕ, ℤ, Bool, true, false, pos, not, unsigned_abs};
 ghost use Rattle.arbitrary_base.specs.Range.{InRange};
 ghost use Rattle.arbitrary_base.specs.Residue.{residue, wrap, Congruent};
 
@@ -60,7 +60,9 @@ pub trait Numbered: Copy + Sealed {
         ensures exact { InRange IS_SIGNED BITS (T.number value) → number result ≡ T.number value }
         ensures as_wide { T.IS_SIGNED ≡ IS_SIGNED → T.BITS ≤ BITS → number result ≡ T.number value }
         ensures wider { T.IS_SIGNED ≡ false → T.BITS < BITS → number result ≡ T.number value }
-        ensures narrower { BITS ≤ T.BITS → Congruent BITS (number result) (T.number value) }
+        ensures low { IS_SIGNED ≡ false → T.IS_SIGNED ≡ false → BITS ≤ T.BITS
+            → number result ≡ pos (unsigned_abs (T.number value) % 2 ^ BITS) }
+        ensures narrower { IS_SIGNED ≡ true → BITS ≤ T.BITS → Congruent BITS (number result) (T.number value) }
         ensures other_sign { T.IS_SIGNED ≡ not IS_SIGNED → Congruent BITS (number result) (T.number value) }
         ensures congruent { (y : ℤ) → T.number value ≡ y → Congruent BITS (number result) y }
         ensures range { InRange T.IS_SIGNED T.BITS (T.number value) }
@@ -76,7 +78,9 @@ pub trait Numbered: Copy + Sealed {
         ensures exact { InRange T.IS_SIGNED T.BITS (number self) → T.number result ≡ number self }
         ensures as_wide { IS_SIGNED ≡ T.IS_SIGNED → BITS ≤ T.BITS → T.number result ≡ number self }
         ensures wider { IS_SIGNED ≡ false → BITS < T.BITS → T.number result ≡ number self }
-        ensures narrower { T.BITS ≤ BITS → Congruent T.BITS (T.number result) (number self) }
+        ensures low { T.IS_SIGNED ≡ false → IS_SIGNED ≡ false → T.BITS ≤ BITS
+            → T.number result ≡ pos (unsigned_abs (number self) % 2 ^ T.BITS) }
+        ensures narrower { T.IS_SIGNED ≡ true → T.BITS ≤ BITS → Congruent T.BITS (T.number result) (number self) }
         ensures other_sign { IS_SIGNED ≡ not T.IS_SIGNED → Congruent T.BITS (T.number result) (number self) }
         ensures congruent { (y : ℤ) → number self ≡ y → Congruent T.BITS (T.number result) y }
         ensures range { InRange IS_SIGNED BITS (number self) }
@@ -90,7 +94,7 @@ pub trait Numbered: Copy + Sealed {
         ensures value { pos result ≡ wrap false 8 (number self) }
         ensures exact { InRange false 8 (number self) → pos result ≡ number self }
         ensures wider { IS_SIGNED ≡ false → BITS ≤ 8 → pos result ≡ number self }
-        ensures narrower { 8 < BITS → Congruent 8 (pos result) (number self) }
+        ensures low { IS_SIGNED ≡ false → 8 < BITS → result ≡ unsigned_abs (number self) % 2 ^ 8 }
         ensures signed { IS_SIGNED ≡ true → Congruent 8 (pos result) (number self) }
         ensures congruent { (y : ℤ) → number self ≡ y → Congruent 8 (pos result) y }
         ensures range { InRange IS_SIGNED BITS (number self) }
@@ -104,7 +108,7 @@ pub trait Numbered: Copy + Sealed {
         ensures value { pos result ≡ wrap false 16 (number self) }
         ensures exact { InRange false 16 (number self) → pos result ≡ number self }
         ensures wider { IS_SIGNED ≡ false → BITS ≤ 16 → pos result ≡ number self }
-        ensures narrower { 16 < BITS → Congruent 16 (pos result) (number self) }
+        ensures low { IS_SIGNED ≡ false → 16 < BITS → result ≡ unsigned_abs (number self) % 2 ^ 16 }
         ensures signed { IS_SIGNED ≡ true → Congruent 16 (pos result) (number self) }
         ensures congruent { (y : ℤ) → number self ≡ y → Congruent 16 (pos result) y }
         ensures range { InRange IS_SIGNED BITS (number self) }
@@ -118,7 +122,7 @@ pub trait Numbered: Copy + Sealed {
         ensures value { pos result ≡ wrap false 32 (number self) }
         ensures exact { InRange false 32 (number self) → pos result ≡ number self }
         ensures wider { IS_SIGNED ≡ false → BITS ≤ 32 → pos result ≡ number self }
-        ensures narrower { 32 < BITS → Congruent 32 (pos result) (number self) }
+        ensures low { IS_SIGNED ≡ false → 32 < BITS → result ≡ unsigned_abs (number self) % 2 ^ 32 }
         ensures signed { IS_SIGNED ≡ true → Congruent 32 (pos result) (number self) }
         ensures congruent { (y : ℤ) → number self ≡ y → Congruent 32 (pos result) y }
         ensures range { InRange IS_SIGNED BITS (number self) }
@@ -132,7 +136,7 @@ pub trait Numbered: Copy + Sealed {
         ensures value { pos result ≡ wrap false 64 (number self) }
         ensures exact { InRange false 64 (number self) → pos result ≡ number self }
         ensures wider { IS_SIGNED ≡ false → BITS ≤ 64 → pos result ≡ number self }
-        ensures narrower { 64 < BITS → Congruent 64 (pos result) (number self) }
+        ensures low { IS_SIGNED ≡ false → 64 < BITS → result ≡ unsigned_abs (number self) % 2 ^ 64 }
         ensures signed { IS_SIGNED ≡ true → Congruent 64 (pos result) (number self) }
         ensures congruent { (y : ℤ) → number self ≡ y → Congruent 64 (pos result) y }
         ensures range { InRange IS_SIGNED BITS (number self) }
@@ -146,7 +150,6 @@ pub trait Numbered: Copy + Sealed {
         ensures value { pos result ≡ wrap false 128 (number self) }
         ensures exact { InRange false 128 (number self) → pos result ≡ number self }
         ensures wider { IS_SIGNED ≡ false → BITS ≤ 128 → pos result ≡ number self }
-        ensures narrower { 128 < BITS → Congruent 128 (pos result) (number self) }
         ensures signed { IS_SIGNED ≡ true → Congruent 128 (pos result) (number self) }
         ensures congruent { (y : ℤ) → number self ≡ y → Congruent 128 (pos result) y }
         ensures range { InRange IS_SIGNED BITS (number self) }
@@ -160,7 +163,7 @@ pub trait Numbered: Copy + Sealed {
         ensures value { pos result ≡ wrap false 64 (number self) }
         ensures exact { InRange false 64 (number self) → pos result ≡ number self }
         ensures wider { IS_SIGNED ≡ false → BITS ≤ 64 → pos result ≡ number self }
-        ensures narrower { 64 < BITS → Congruent 64 (pos result) (number self) }
+        ensures low { IS_SIGNED ≡ false → 64 < BITS → result ≡ unsigned_abs (number self) % 2 ^ 64 }
         ensures signed { IS_SIGNED ≡ true → Congruent 64 (pos result) (number self) }
         ensures congruent { (y : ℤ) → number self ≡ y → Congruent 64 (pos result) y }
         ensures range { InRange IS_SIGNED BITS (number self) }

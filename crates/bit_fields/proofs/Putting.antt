@@ -1,14 +1,20 @@
 -- What a put leaves, from the pattern of the value's 128 bits.
-use Rattle.std.specs.Prelude.{◌≡◌, ℕ, ℤ, Bool, List, pos, ◌+◌, ◌-◌, ◌≤◌, ◌<◌, ◌^◌, ◌++◌, length, take, drop}
-use Rattle.std.proofs.Common.{arith, ap, sym, bit_and, ◌∙◌, take-append-drop, drop-drop, append_assoc, length-drop, length-take}
-use Rattle.std.proofs.lemmas.Nat.{and_mask}
+use Rattle.std.specs.Prelude.{◌≡◌, ℕ, ℤ, Bool, List, false, pos, ◌+◌, ◌-◌, ◌*◌, ◌/◌, ◌%◌, ◌≤◌, ◌<◌, ◌^◌, ◌++◌, ◌+ℤ◌, length, take, drop}
+use Rattle.std.proofs.Common.{arith, refl, ap, sym, subst, bit_and, ◌∙◌, mod-lt, pow-add, take-append-drop, drop-drop, append_assoc, length-drop, length-take}
+use Rattle.std.proofs.Math.Nat.{div-div-eq-div-mul}
+use Rattle.std.proofs.lemmas.Int.{ints}
+use Rattle.std.proofs.lemmas.Nat.{and_mask, div-mul-add, mod-mul-add, pow_pos}
 use Rattle.arbitrary_int.specs.Range.{InRange}
-use Rattle.arbitrary_int.specs.Residue.{residue}
+use Rattle.arbitrary_int.specs.Residue.{Congruent, residue}
+use Rattle.arbitrary_int.specs.Field.{field}
 use Rattle.arbitrary_int.specs.BitList.{bits, num, val}
 use Rattle.arbitrary_int.specs.BitField.{field_bits, with_field}
-use Rattle.arbitrary_int.proofs.Truncation.{masked-residue}
+use Rattle.arbitrary_int.proofs.Ring.{add-mul_z}
+use Rattle.arbitrary_int.proofs.Truncation.{masked-residue, residue-wrap}
 use Rattle.arbitrary_int.proofs.UnsignedNumber.{length-bits, num-bits_small}
 use Rattle.arbitrary_int.proofs.TwosComplement.{bits-residue, bits-val, val-bits_in_range}
+use Rattle.arbitrary_int.proofs.Residue.{residue-congruent, residue-lt, wrap-of_in_range}
+use Rattle.bit_fields.proofs.Replacing.{num-placed}
 use Rattle.arbitrary_int.proofs.Field.{field-put, field-put_above, field-put_below, length-field}
 
 -- the low bits of a number's 128 are its residue
@@ -56,3 +62,36 @@ module _ (word start width new : ℕ) (x : ℤ) (put : new ≡ with_field word s
       put ∙ ap (λ (z : ℤ). with_field word start (bits width z)) (sym e)
       ∙ ap (with_field word start) (bits-val s width (field_bits word start width) (length-field word start width fits))
       ∙ same-field word start width h fits
+
+  -- the same in numbers: what was above, the value, and what was below
+  parts : word < 2 ^ 128 → new ≡ (word / 2 ^ (start + width) * 2 ^ width + residue width x) * 2 ^ start + word % 2 ^ start
+  parts h =
+      put ∙ ap (with_field word start) (sym (bits-residue width (residue width x) x refl))
+      ∙ num-placed word start width (residue width x) h fits (residue-lt width x)
+      ∙ rw (pow-add 2 start width) (omega arith)
+
+  pub number-below : word < 2 ^ 128 → new % 2 ^ start ≡ word % 2 ^ start
+  number-below h = ap (λ (n : ℕ). n % 2 ^ start) (parts h) ∙ mod-mul-add _ (2 ^ start) (word % 2 ^ start) (mod-lt word (pow_pos start))
+
+  upward : word < 2 ^ 128 → new / 2 ^ start ≡ word / 2 ^ (start + width) * 2 ^ width + residue width x
+  upward h = ap (λ (n : ℕ). n / 2 ^ start) (parts h) ∙ div-mul-add _ (2 ^ start) (word % 2 ^ start) (mod-lt word (pow_pos start))
+
+  pub number-above : word < 2 ^ 128 → new / 2 ^ (start + width) ≡ word / 2 ^ (start + width)
+  number-above h =
+      ap (λ (i : ℕ). new / i) (pow-add 2 start width) ∙ sym (div-div-eq-div-mul new (2 ^ start) (2 ^ width))
+      ∙ ap (λ (i : ℕ). i / 2 ^ width) (upward h) ∙ div-mul-add _ (2 ^ width) (residue width x) (residue-lt width x)
+
+  number-within : word < 2 ^ 128 → new / 2 ^ start % 2 ^ width ≡ residue width x
+  number-within h = ap (λ (i : ℕ). i % 2 ^ width) (upward h) ∙ mod-mul-add _ (2 ^ width) (residue width x) (residue-lt width x)
+
+  pub number-plain : (s : Bool) → word < 2 ^ 128 → 1 ≤ width → InRange s width x → s ≡ false → field new start width ≡ x
+  number-plain s h o f e =
+      ap pos (number-within h) ∙ residue-wrap width x o
+      ∙ wrap-of_in_range false width x o (subst (λ (t : Bool). InRange t width x) e f)
+
+  pub number-congruent : word < 2 ^ 128 → Congruent width (pos (new / 2 ^ start)) x
+  number-congruent h =
+      let r = residue-congruent width x in
+      let u = upward h in
+      let m = add-mul_z (pos (word / 2 ^ (start + width))) r.times (pos (2 ^ width)) in
+      record { times = pos (word / 2 ^ (start + width)) +ℤ r.times; apart = omega (arith, ints) }

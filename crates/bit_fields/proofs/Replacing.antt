@@ -8,7 +8,7 @@ use Rattle.arbitrary_int.proofs.UnsignedNumber.{length-bits, num-bits_small, num
 use Rattle.arbitrary_int.specs.BitField.{with_field}
 
 -- the number of a list with another in its middle
-num-placed : (r s k v : ℕ) → r < 2 ^ 128 → s + k ≤ 128 → v < 2 ^ k
+pub num-placed : (r s k v : ℕ) → r < 2 ^ 128 → s + k ≤ 128 → v < 2 ^ k
     → with_field r s (bits k (pos v)) ≡ r % 2 ^ s + 2 ^ s * v + 2 ^ (s + k) * (r / 2 ^ (s + k))
 unfolding with_field
 num-placed r s k v h g f =

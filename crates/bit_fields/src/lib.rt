@@ -1,7 +1,7 @@
 //! Fields in a record of 128 bits: a packet's header, a device's register, an instruction.
 #![tactic(auto)]
 
-ghost use Rattle.std.specs.Prelude.{◌≡◌, ◌+◌, ◌/◌, ◌≤◌, ◌<◌, ◌^◌, ◌↔◌, ℕ, false, pos, IsTrue};
+ghost use Rattle.std.specs.Prelude.{◌≡◌, ◌+◌, ◌/◌, ◌%◌, ◌≤◌, ◌<◌, ◌^◌, ◌↔◌, ℕ, false, pos, IsTrue};
 ghost use Rattle.arbitrary_int.specs.BitField.{AreDisjoint, field_bits, with_field};
 ghost use Rattle.arbitrary_int.specs.BitList.{bits as bits_of, val};
 ghost use Rattle.arbitrary_int.specs.Field.{field};
@@ -39,6 +39,12 @@ impl Record {
         requires { start + F.BITS ≤ 128 }
         ensures bits { self.new.bits ≡ with_field self.old.bits start (bits_of F.BITS (F.number value)) }
         ensures read_back { HasNumber F.IS_SIGNED self.new.bits start F.BITS (F.number value) }
+
+        // The same in numbers: the bits below, those of the field, and those above.
+        ensures low { self.new.bits % 2 ^ start ≡ self.old.bits % 2 ^ start }
+        ensures plain { F.IS_SIGNED ≡ false → field self.new.bits start F.BITS ≡ F.number value }
+        ensures congruent { Congruent F.BITS (pos (self.new.bits / 2 ^ start)) (F.number value) }
+        ensures high { self.new.bits / 2 ^ (start + F.BITS) ≡ self.old.bits / 2 ^ (start + F.BITS) }
 
         // What was there already changes nothing.
         ensures same { HasNumber F.IS_SIGNED self.old.bits start F.BITS (F.number value) → self.new.bits ≡ self.old.bits }

@@ -1,6 +1,6 @@
 //! Bytes of a number, in either order.
 
-ghost use Rattle.std.specs.Prelude.{◌≡◌, ◌/◌, ◌%◌, ◌*◌, ◌+◌, ◌<ℤ◌, pos, false, true, unsigned_abs, IsTrue, OnOk, Some};
+ghost use Rattle.std.specs.Prelude.{◌≡◌, ◌/◌, ◌%◌, ◌*◌, ◌+◌, ◌<◌, ◌<ℤ◌, pos, false, true, unsigned_abs, IsTrue, OnOk, Some};
 ghost use Rattle.std.specs.HashMap.{get};
 ghost use Rattle.std.specs.Ordering.{int_eq};
 ghost use Rattle.arbitrary_int.specs.Field.{field};
@@ -125,4 +125,24 @@ pub fn big_end_of_swapped(x: u24) -> bool
     ensures { IsTrue result }
 {
     x.swap_bytes().to_be_bytes() == x.to_le_bytes()
+}
+
+pub fn lowest_byte_with_a_sign(x: i24) -> bool
+    ensures { IsTrue result }
+{
+    let bytes: [u8; 3] = x.to_le_bytes();
+    bytes[0] == x.as_u8()
+}
+
+pub fn sample_from_bytes(a: u8, b: u8, c: u8) -> bool
+    ensures { IsTrue result }
+{
+    i24::from_be_bytes([a, b, c]).as_i32() == i32::from_be_bytes([a, b, c, 0]) >> 8
+}
+
+pub fn loud_sample(a: u8, b: u8, c: u8) -> i24
+    requires { a < 128 }
+    ensures { result ≡ pos (65536 * a + 256 * b + c) }
+{
+    i24::from_be_bytes([a, b, c])
 }

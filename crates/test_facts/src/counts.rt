@@ -96,3 +96,21 @@ pub fn trailing_ones_are_ones(x: u5) -> bool
 {
     x.trailing_ones() <= x.count_ones()
 }
+
+pub fn ones_in_the_storage(x: u12) -> bool
+    ensures { IsTrue result }
+{
+    x.value().count_ones() == x.count_ones()
+}
+
+pub fn ones_when_widened(x: u4) -> bool
+    ensures { IsTrue result }
+{
+    x.as_::<u24>().count_ones() == x.count_ones() && x.as_u8().count_ones() == x.count_ones()
+}
+
+pub fn zeros_when_widened(x: u12) -> bool
+    ensures { IsTrue result }
+{
+    x.as_::<u24>().count_zeros() == x.count_zeros() + 12
+}

@@ -107,3 +107,48 @@ pub fn turned_against_itself(x: u12) -> u12
     y ^= x;
     y
 }
+
+pub fn plain_quotient_by_itself(x: u12) -> bool
+    ensures { IsTrue result }
+{
+    x == u12::zero() || x / x == u12::new(1)
+}
+
+pub fn other_quotients_by_itself(x: u48) -> bool
+    ensures { IsTrue result }
+{
+    x == u48::zero()
+        || (x.saturating_div(x) == u48::new(1)
+            && x.checked_div(x) == Some(u48::new(1))
+            && x.overflowing_div(x) == (u48::new(1), false))
+}
+
+pub fn first_power_with_its_count(x: i12) -> bool
+    ensures { IsTrue result }
+{
+    x.saturating_pow_counted(1).0 == x
+}
+
+pub fn shifted_by_none<const BITS: usize>(x: Int<i32, BITS>) -> bool
+    ensures { IsTrue result }
+{
+    x << 0u32 == x
+}
+
+pub fn checked_shift_by_none<const BITS: usize>(x: Int<i32, BITS>) -> bool
+    ensures { IsTrue result }
+{
+    x.checked_shl(0) == Some(x)
+}
+
+pub fn shifted_by_the_width<const BITS: usize>(x: Int<i32, BITS>) -> bool
+    ensures { IsTrue result }
+{
+    x.wrapping_shr(BITS as u32) == x
+}
+
+pub fn overflowing_shift_by_the_width<const BITS: usize>(x: Int<i32, BITS>) -> bool
+    ensures { IsTrue result }
+{
+    x.overflowing_shl(BITS as u32) == (x, true)
+}

@@ -113,3 +113,35 @@ pub fn sign_extended_below_zero(x: u16) -> i12
 {
     i12::from_bits(x)
 }
+
+pub fn groups_of_seven(x: u14) -> bool
+    ensures { IsTrue result }
+{
+    let low = x.as_u8() & 0x7F;
+    let high = (x >> 7).as_u8();
+    u14::from_(high) << 7 | u14::from_(low) == x
+}
+
+pub fn groups_with_a_flag(x: u14) -> bool
+    ensures { IsTrue result }
+{
+    let low = x.as_u8() | 0x80;
+    let high = (x >> 7).as_u8();
+    u14::from_(high) << 7 | u14::from_(low & 0x7F) == x
+}
+
+pub fn first_of_two_in_three_bytes(x: u12, y: u12) -> bool
+    ensures { IsTrue result }
+{
+    let first = x.as_u8();
+    let second = (x >> 8).as_u8() | (y.as_u8() & 15) << 4;
+    u12::from_(first) | (u12::from_(second & 15) << 8) == x
+}
+
+pub fn last_of_two_in_three_bytes(x: u12, y: u12) -> bool
+    ensures { IsTrue result }
+{
+    let second = (x >> 8).as_u8() | (y.as_u8() & 15) << 4;
+    let third = (y >> 4).as_u8();
+    u12::from_(second >> 4) | (u12::from_(third) << 4) == y
+}

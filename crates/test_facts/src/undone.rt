@@ -4,6 +4,7 @@
 ghost use Rattle.std.specs.Prelude.{◌≡◌, false, IsTrue};
 ghost use Rattle.arbitrary_int.specs.Operation.{bitwise_xor, reversed, rotated_right, wrapped_difference, wrapped_sum};
 
+use arbitrary_int::Int;
 use arbitrary_int::prelude::*;
 
 #[tactic(auto, using(arbitrary_int::proofs::BitVector::ring))]
@@ -56,4 +57,16 @@ pub fn bits_of_128_signed(a: i24) -> i24
     ensures { result ≡ a }
 {
     i24::from_u128_bits(a.to_u128_bits())
+}
+
+pub fn negated_twice(x: u12) -> bool
+    ensures { IsTrue result }
+{
+    x.wrapping_neg().wrapping_neg() == x
+}
+
+pub fn negated_twice_at_any_width<const BITS: usize>(x: Int<i32, BITS>) -> bool
+    ensures { IsTrue result }
+{
+    x.wrapping_neg().wrapping_neg() == x
 }

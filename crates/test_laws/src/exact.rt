@@ -52,27 +52,3 @@ pub fn clamped_sums_associate(x: u24, y: u24, z: u24) -> bool
 {
     x.saturating_add(y).saturating_add(z) == x.saturating_add(y.saturating_add(z))
 }
-
-pub fn quotient_by_itself(x: u5) -> bool
-    ensures { IsTrue result }
-{
-    x == u5::new(0) || x / x == u5::new(1)
-}
-
-pub fn saturated_quotient_by_itself(x: u5) -> bool
-    ensures { IsTrue result }
-{
-    x == u5::new(0) || x.saturating_div(x) == u5::new(1)
-}
-
-pub fn checked_quotient_by_itself(x: u5) -> bool
-    ensures { IsTrue result }
-{
-    x == u5::new(0) || x.checked_div(x) == Some(u5::new(1))
-}
-
-pub fn overflowing_quotient_by_itself(x: u5) -> bool
-    ensures { IsTrue result }
-{
-    x == u5::new(0) || x.overflowing_div(x) == (u5::new(1), false)
-}

@@ -137,3 +137,34 @@ pub fn complement_of_and<V: FixedWidth>(x: V, y: V) -> V
 {
     !(x & y)
 }
+
+pub fn sum_with_a_difference<V: FixedWidth>(x: V, y: V) -> bool
+    requires { V.valid }
+    ensures { IsTrue result }
+{
+    x.wrapping_add(y.wrapping_sub(x)) == y
+}
+
+pub fn clamped_results_commute<V: FixedWidth>(x: V, y: V) -> bool
+    ensures { IsTrue result }
+{
+    x.saturating_add(y) == y.saturating_add(x) && x.saturating_mul(y) == y.saturating_mul(x)
+}
+
+pub fn checked_products_commute<V: FixedWidth>(x: V, y: V) -> bool
+    ensures { IsTrue result }
+{
+    x.checked_mul(y) == y.checked_mul(x)
+}
+
+pub fn overflow_is_the_same_in_either_order<V: FixedWidth>(x: V, y: V) -> bool
+    ensures { IsTrue result }
+{
+    x.overflowing_add(y) == y.overflowing_add(x)
+}
+
+pub fn shifts_by_none<V: FixedWidth>(x: V) -> bool
+    ensures { IsTrue result }
+{
+    x.wrapping_shl(0) == x && x.wrapping_shr(0) == x
+}

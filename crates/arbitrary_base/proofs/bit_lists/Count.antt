@@ -1,15 +1,18 @@
 -- Counts of bit lists, against std's counts of a number's digits.
 use Rattle.std.proofs.Common.{◌≡◌, ℕ, zero, suc, ℤ, ◌+◌, ◌*◌, ◌^◌, ◌<◌, ◌≤◌, min, Bool, true, false, not, List, [], ◌∷◌, ◌++◌, reverse, length, refl, sym, ap, ◌∙◌, subst, arith, lt_of_lt_of_le}
-use Rattle.std.specs.Prelude.{map}
+use Rattle.std.specs.Prelude.{map, pos, negsuc, unsigned_abs}
 use Rattle.std.specs.List.{count_by, suffix_len, prefix_len}
 use Rattle.std.proofs.lemmas.List.{length-reverse, reverse-reverse, map-append}
 use Rattle.std.proofs.lemmas.List.Sums.{sum_by-cons, prefix_len-le-length}
+use Rattle.std.proofs.lemmas.Int.{ints}
+use Rattle.std.proofs.lemmas.Nat.{pow_pos}
 use Rattle.std.proofs.Math.Pow.{pow_mono}
 use Rattle.std.proofs.Math.Nat.{pow-suc}
 use Rattle.std.specs.Bool.{beq}
 use Rattle.std.specs.Int.Count.{ones as set_digits, ones_step, count_leading_zeros, count_trailing_zeros, leading_of_zero, leading_length, leading_unique}
+use Rattle.arbitrary_base.specs.Range.{InRange}
 use Rattle.arbitrary_base.specs.BitList.{bits, num}
-use Rattle.arbitrary_base.proofs.bit_lists.UnsignedNumber.{digit, length-bits, num-lt_of, num-append, cons-mod, cons-div}
+use Rattle.arbitrary_base.proofs.bit_lists.UnsignedNumber.{digit, length-bits, num-bits_small, num-lt_of, num-append, cons-mod, cons-div}
 use Rattle.arbitrary_base.proofs.bit_lists.Movement.{reverse-cons}
 
 pub popcount-cons : (b : Bool) (l : List Bool) → count_by (λ b. b) (b ∷ l) ≡ digit b + count_by (λ b. b) l
@@ -19,6 +22,18 @@ pub popcount-num : (l : List Bool) → set_digits (num l) ≡ count_by (λ b. b)
 unfolding set_digits
 popcount-num [] = refl
 popcount-num (b ∷ l) = ones_step (num (b ∷ l)) ∙ rw (cons-mod b (num l), cons-div b (num l), popcount-num l) (sym (popcount-cons b l))
+
+-- of a number with no sign the bits are its binary digits
+pub popcount-plain : (s : Bool) (B : ℕ) (x : ℤ) → InRange s B x → s ≡ false → count_by (λ b. b) (bits B x) ≡ set_digits (unsigned_abs x)
+popcount-plain s B (pos n) f d =
+    let r = subst (λ (t : Bool). InRange t B (pos n)) d f in
+    let high = r.high in
+    let o = pow_pos B in
+    sym (popcount-num (bits B (pos n))) ∙ ap set_digits (num-bits_small B n (omega (arith, ints)))
+popcount-plain s B (negsuc n) f d =
+    let r = subst (λ (t : Bool). InRange t B (negsuc n)) d f in
+    let low = r.low in
+    absurd (omega (arith, ints))
 
 pub popcount-not : (l : List Bool) → count_by (λ b. b) l + count_by (λ b. b) (map not l) ≡ length l
 popcount-not [] = refl

@@ -7,7 +7,7 @@ use Rattle.std.proofs.lemmas.Nat.{pow-add, pow_pos, mod-pow-add}
 use Rattle.std.proofs.lemmas.List.{get_or-drop, get_or-reverse, length-drop, reverse-reverse}
 use Rattle.std.specs.Int.{w128, byte_at, bytes_low_first, div_ceil, to_le_bytes}
 use Rattle.arbitrary_base.specs.Range.{InRange}
-use Rattle.arbitrary_base.specs.Residue.{residue, wrap}
+use Rattle.arbitrary_base.specs.Residue.{Congruent, residue, wrap}
 use Rattle.arbitrary_base.specs.BitList.{bits, num}
 use Rattle.arbitrary_base.specs.Bytes.{bytes, bytes_number, BorshBytes, Canonical}
 use Rattle.arbitrary_base.proofs.bit_lists.UnsignedNumber.{num-bits}
@@ -179,6 +179,12 @@ pub number_of-unsigned : (s : Bool) (B n : ℕ) (x : ℤ) (l : List ℕ) → B �
 number_of-unsigned s B n x l w h f e u =
     let small : bytes_number l < 2 ^ (8 * n) = subst (λ (k : ℕ). k < 2 ^ (8 * n)) (sym (ap bytes_number e ∙ bytes_number-bytes n x)) (residue-lt (8 * n) x) in
     sym (unsigned-number_of s B n x l w h (sym (wrap-number_of s B n x l w h f (sym e))) small u)
+
+-- with a sign they spell a number that is congruent to it
+pub number_of-signed : (B n : ℕ) (x : ℤ) (l : List ℕ) → B ≡ 8 * n → l ≡ bytes n x → Congruent B (pos (bytes_number l)) x
+number_of-signed B n x l w e =
+    let r = subst (λ (m : ℕ). Congruent (8 * n) (pos m) x) (sym (ap bytes_number e ∙ bytes_number-bytes n x)) (residue-congruent (8 * n) x) in
+    subst (λ (k : ℕ). Congruent k (pos (bytes_number l)) x) (sym w) r
 
 -- ---- a byte at a place
 

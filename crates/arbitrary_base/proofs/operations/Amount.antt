@@ -338,6 +338,12 @@ difference-after_sum s B x y z w h e f =
     ∙ by-congruence s B _ _ _ _ h (difference-in_range s B _ _ h) (own_value-in_range s B x w h f)
     (difference-congruent s B _ _ _ _ (sum-congruent s B _ _ _ _ (Congruent-refl B x) (Congruent-refl B y)) (Congruent-refl B y)) (own_value-congruent s B x w h f) (omega (arith, ints))
 
+pub sum-to_difference_of : (s : Bool) (B : ℕ) (x y z w : ℤ) → 1 ≤ B → z ≡ wrapped_difference s B y x → w ≡ own_value s B y → wrapped_sum s B x z ≡ w
+sum-to_difference_of s B x y z w h e f =
+    ap (wrapped_sum s B x) e
+    ∙ by-congruence s B _ _ _ _ h (sum-in_range s B _ _ h) (own_value-in_range s B y w h f)
+    (sum-congruent s B _ _ _ _ (Congruent-refl B x) (difference-congruent s B _ _ _ _ (Congruent-refl B y) (Congruent-refl B x))) (own_value-congruent s B y w h f) (omega (arith, ints))
+
 pub sum-after_difference : (s : Bool) (B : ℕ) (x y z w : ℤ) → 1 ≤ B → z ≡ wrapped_difference s B x y → w ≡ own_value s B x → wrapped_sum s B z y ≡ w
 sum-after_difference s B x y z w h e f =
     ap (λ (v : ℤ). wrapped_sum s B v y) e

@@ -41,10 +41,15 @@ quotient-self (pos zero) h = absurd (h refl)
 quotient-self (pos (suc n)) h = ap pos (div_self (omega arith))
 quotient-self (negsuc n) h = ap pos (div_self (omega arith))
 
--- the same of a quotient that wraps
+pub quotient-of_equal : (x y : ℤ) → y ≢ pos 0 → x ≡ y → int_div x y ≡ pos 1
+quotient-of_equal x y n d = ap (λ (w : ℤ). int_div w y) d ∙ quotient-self y n
+
+-- the same of a quotient that wraps, and of one that saturates
 pub wrapped-itself : (s : Bool) (B : ℕ) (x y z : ℤ) → 1 ≤ B → z ≡ wrap s B (int_div x y) → y ≢ pos 0 → InRange s B (pos 1) → x ≡ y → z ≡ pos 1
-wrapped-itself s B x y z h e n f d =
-    e ∙ ap (wrap s B) (ap (λ (w : ℤ). int_div w y) d ∙ quotient-self y n) ∙ wrap-of_in_range s B (pos 1) h f
+wrapped-itself s B x y z h e n f d = e ∙ ap (wrap s B) (quotient-of_equal x y n d) ∙ wrap-of_in_range s B (pos 1) h f
+
+pub clamped-itself : (s : Bool) (B : ℕ) (x y z : ℤ) → z ≡ clamp s B (int_div x y) → y ≢ pos 0 → InRange s B (pos 1) → x ≡ y → z ≡ pos 1
+clamped-itself s B x y z e n f d = e ∙ ap (clamp s B) (quotient-of_equal x y n d) ∙ clamp-fits s B (pos 1) f
 
 -- the one quotient that is out of range wraps to its dividend
 quotient-of_least : (s : Bool) (B : ℕ) (x y : ℤ) → 1 ≤ B → InRange s B x → InRange s B y → x ≡ lo s B → y ≡ neg_ℤ (pos 1) → wrap s B (int_div x y) ≡ x

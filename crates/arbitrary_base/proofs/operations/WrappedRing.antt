@@ -1,10 +1,10 @@
 -- The laws of sums, differences and products that wrap.
-use Rattle.std.specs.Prelude.{◌≡◌, ℕ, ℤ, Bool, pos, ◌≤◌, ◌+ℤ◌, ◌-ℤ◌, ◌*ℤ◌}
+use Rattle.std.specs.Prelude.{◌≡◌, ℕ, ℤ, Bool, pos, neg_ℤ, ◌≤◌, ◌+ℤ◌, ◌-ℤ◌, ◌*ℤ◌}
 use Rattle.std.proofs.Common.{sym, ap, ap₂, subst, ◌∙◌, arith}
 use Rattle.std.proofs.lemmas.Int.{ints}
 use Rattle.std.proofs.Math.IntN.{*ℤ_comm}
 use Rattle.arbitrary_base.specs.Range.{InRange}
-use Rattle.arbitrary_base.specs.Residue.{Congruent}
+use Rattle.arbitrary_base.specs.Residue.{Congruent, wrap}
 use Rattle.arbitrary_base.specs.Operation.{wrapped_difference, wrapped_product, wrapped_sum}
 use Rattle.arbitrary_base.proofs.integers.Ring.{add-mul_z, mul_assoc_z, sub-mul_z}
 use Rattle.arbitrary_base.proofs.modular.Congruence.{Congruent-refl, Congruent-trans, Congruent-sym, Congruent-add, Congruent-sub, Congruent-mul}
@@ -101,6 +101,15 @@ difference-turned s B x y h =
 pub negated-twice : (s : Bool) (B : ℕ) (x : ℤ) → 1 ≤ B → InRange s B x → wrapped_difference s B ((pos 0)) (wrapped_difference s B ((pos 0)) x) ≡ x
 negated-twice s B x h f =
     by-congruence s B _ _ _ _ h (difference-in_range s B _ _ h) f (difference-congruent s B _ _ _ _ (Congruent-refl B (pos 0)) (difference-congruent s B _ _ _ _ (Congruent-refl B (pos 0)) (Congruent-refl B x))) (Congruent-refl B x) (omega (arith, ints))
+
+-- a negated number that wrapped is 0 less the number, and negated again the number
+pub negated-is : (s : Bool) (B : ℕ) (x z : ℤ) → z ≡ wrap s B (neg_ℤ x) → z ≡ wrapped_difference s B (pos 0) x
+negated-is s B x z e =
+    let i : neg_ℤ x ≡ pos 0 -ℤ x = omega (arith, ints) in
+    e ∙ ap (wrap s B) i ∙ sym (difference-is s B (pos 0) x)
+
+pub negated-undone : (s : Bool) (B : ℕ) (x z : ℤ) → 1 ≤ B → InRange s B x → z ≡ wrap s B (neg_ℤ x) → wrapped_difference s B (pos 0) z ≡ x
+negated-undone s B x z h f e = ap (wrapped_difference s B (pos 0)) (negated-is s B x z e) ∙ negated-twice s B x h f
 
 pub negated-sum : (s : Bool) (B : ℕ) (x y : ℤ) → 1 ≤ B → wrapped_difference s B ((pos 0)) (wrapped_sum s B x y) ≡ wrapped_sum s B (wrapped_difference s B ((pos 0)) x) (wrapped_difference s B ((pos 0)) y)
 negated-sum s B x y h =

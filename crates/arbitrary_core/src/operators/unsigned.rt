@@ -86,7 +86,11 @@ impl<T: UnsignedStorage, const BITS: usize> Div<UInt<T, BITS>> for UInt<T, BITS>
     ghost div_gives = { λ a b r. r ≡ int_div a b };
 
     #[tactic(auto, using(arbitrary_base::proofs::storages::CheckedSum::fitting))]
-    fn div(self, rhs: UInt<T, BITS>) -> UInt<T, BITS> {
+    fn div(self, rhs: UInt<T, BITS>) -> UInt<T, BITS>
+        requires { (rhs ≢ pos 0) × InRange T.SIGNED BITS (int_div self rhs) }
+        ensures value { result ≡ int_div self rhs }
+        ensures itself { self ≡ rhs → result ≡ pos 1 }
+    {
         UInt::new(wrapping::div(self.value(), rhs.value(), BITS))
     }
 }

@@ -27,6 +27,7 @@ where
         ensures operation { result ≡ shifted_left T.SIGNED BITS self (unsigned_abs (S.amount amount)) }
         ensures bits { result ≡ val T.SIGNED (moved_left (bits BITS self) (unsigned_abs (S.amount amount))) }
         ensures congruent { Congruent BITS result (self *ℤ pos (2 ^ unsigned_abs (S.amount amount))) }
+        ensures none { unsigned_abs (S.amount amount) ≡ 0 → result ≡ self }
     {
         Int::<T, BITS>::from_bits(shifts::shl(self.to_bits(), amount.to_amount(), BITS))
     }
@@ -46,6 +47,7 @@ where
         ensures operation { self.new ≡ shifted_left T.SIGNED BITS self.old (unsigned_abs (S.amount amount)) }
         ensures bits { self.new ≡ val T.SIGNED (moved_left (bits BITS self.old) (unsigned_abs (S.amount amount))) }
         ensures congruent { Congruent BITS self.new (self.old *ℤ pos (2 ^ unsigned_abs (S.amount amount))) }
+        ensures none { unsigned_abs (S.amount amount) ≡ 0 → self.new ≡ self.old }
         ensures range { InRange T.SIGNED BITS self.new }
     {
         *self = *self << amount;

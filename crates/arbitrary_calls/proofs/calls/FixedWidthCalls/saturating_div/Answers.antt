@@ -1,3 +1,4 @@
+use Rattle.arbitrary_base.proofs.operations.PowerAndQuotient.{clamped-itself}
 use Rattle.arbitrary_base.proofs.storages.Clamp.{clamped-exact, clamped-above, clamped-below}
 use Rattle.arbitrary_calls.proofs.calls.FixedWidthCalls.saturating_div.Goals as goal
 
@@ -9,3 +10,6 @@ returns-clause-above g c f = let t = g.met.Self.FixedWidthCalls.sign_law in clam
 
 pub returns-clause-below : goal.returns-clause-below
 returns-clause-below g c f = let t = g.met.Self.FixedWidthCalls.sign_law in clamped-below g.Self.Numbered.IS_SIGNED g.Self.Numbered.BITS _ _ f (cc)
+
+pub returns-clause-itself : goal.returns-clause-itself
+returns-clause-itself g c f d = let t = g.met.Self.FixedWidthCalls.sign_law in clamped-itself g.Self.Numbered.IS_SIGNED _ _ _ _ (cc) c.requires f d

@@ -1,10 +1,12 @@
 use Rattle.std.specs.Prelude.{◌≡◌, Bool, ◌<◌, ◌%◌, ℤ}
-use Rattle.std.proofs.Common.{arith, subst, sym, ◌∙◌}
+use Rattle.std.proofs.Common.{arith, ap, subst, sym, ◌∙◌}
 use Rattle.arbitrary_base.specs.Range.{InRange}
 use Rattle.arbitrary_base.specs.Residue.{Congruent}
+use Rattle.arbitrary_base.specs.Operation.{shifted_left}
 use Rattle.arbitrary_base.specs.BitList.{bits, val, shl}
 use Rattle.arbitrary_base.proofs.operations.ShiftAsProduct.{shl-congruent, shl-stays, shl-plain}
 use Rattle.arbitrary_base.proofs.operations.Definition.{left-is}
+use Rattle.arbitrary_base.proofs.operations.Shift.{shifted_left-none}
 use Rattle.arbitrary_calls.proofs.calls.FixedWidthCalls.wrapping_shl.Goals as goal
 
 pub returns : goal.returns
@@ -20,5 +22,6 @@ returns g c =
       plain = λ d. shl-plain _ _ _ _ _ d o l r e;
       exact = λ f. shl-stays _ _ _ _ _ o l f e;
       congruent = λ y d. subst (Congruent g.Self.Numbered.BITS (g.Self.Numbered.number c.from_storage.result)) (sym d) (shl-congruent _ _ _ _ _ o l e);
+      none = λ z. e ∙ sym (left-is _ _ _ _) ∙ ap (shifted_left g.Self.Numbered.IS_SIGNED g.Self.Numbered.BITS _) z ∙ shifted_left-none _ _ _ o r;
       operand = r;
     }

@@ -1,9 +1,11 @@
 use Rattle.std.specs.Prelude.{◌≡◌, Bool, ℤ, pos, ◌<◌, ◌%◌, ◌^◌, ◌<ℤ◌, ◌+ℤ◌, ◌*ℤ◌}
-use Rattle.std.proofs.Common.{arith, subst, sym, ◌∙◌}
+use Rattle.std.proofs.Common.{arith, ap, subst, sym, ◌∙◌}
 use Rattle.arbitrary_base.specs.Range.{InRange}
+use Rattle.arbitrary_base.specs.Operation.{shifted_right}
 use Rattle.arbitrary_base.specs.BitList.{bits, val, fill, shr}
 use Rattle.arbitrary_base.proofs.operations.ShiftAsProduct.{shr-high, shr-low, shr-quotient, shr-range}
 use Rattle.arbitrary_base.proofs.operations.Definition.{right-is}
+use Rattle.arbitrary_base.proofs.operations.Shift.{shifted_right-none}
 use Rattle.arbitrary_calls.proofs.calls.FixedWidthCalls.wrapping_shr.Goals as goal
 
 pub returns : goal.returns
@@ -20,5 +22,6 @@ returns g c =
       low = shr-low _ _ _ _ _ o l r e;
       high = λ y d. subst (λ (x : ℤ). x <ℤ (g.Self.Numbered.number c.from_storage.result *ℤ pos (2 ^ (c.args.amount % g.Self.Numbered.BITS)) +ℤ pos (2 ^ (c.args.amount % g.Self.Numbered.BITS)))) d (shr-high _ _ _ _ _ o l r e);
       range = shr-range _ _ _ _ _ o l r e;
+      none = λ z. e ∙ sym (right-is _ _ _ _) ∙ ap (shifted_right g.Self.Numbered.IS_SIGNED g.Self.Numbered.BITS _) z ∙ shifted_right-none _ _ _ o r;
       operand = r;
     }

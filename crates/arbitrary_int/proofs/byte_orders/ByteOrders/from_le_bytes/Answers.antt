@@ -3,6 +3,7 @@ use Rattle.std.specs.Prelude.{pos}
 use Rattle.arbitrary_base.specs.Residue.{wrap}
 use Rattle.arbitrary_base.specs.Bytes.{bytes_number}
 use Rattle.arbitrary_base.proofs.bytes.NumberOfBytes.{bytes-wrap, wrap-number_of, unsigned-number_of}
+use Rattle.arbitrary_base.proofs.modular.ExactOrCongruent.{wrapped-congruent}
 use Rattle.arbitrary_int.proofs.byte_orders.ByteOrders.from_le_bytes.Goals as goal
 
 pub returns-clause-bytes : goal.returns-clause-bytes
@@ -21,3 +22,6 @@ returns-clause-unsigned g c u =
 pub returns-clause-only : goal.returns-clause-only
 returns-clause-only g c x f e =
     returns-clause-number g c ∙ wrap-number_of _ _ _ _ _ g.met.Self.ByteOrders.width_law (g.met.Self.Numbered.width_law g.met.Self.ByteOrders.valid_law).0 f e
+
+pub returns-clause-signed : goal.returns-clause-signed
+returns-clause-signed g c u = wrapped-congruent _ _ _ _ (returns-clause-number g c)

@@ -1,5 +1,5 @@
 use Rattle.std.proofs.Common.{◌∙◌, arith}
-use Rattle.arbitrary_base.proofs.bytes.NumberOfBytes.{byte-at, bytes-residue, number_of-unsigned}
+use Rattle.arbitrary_base.proofs.bytes.NumberOfBytes.{byte-at, bytes-residue, number_of-signed, number_of-unsigned}
 use Rattle.arbitrary_int.proofs.byte_orders.ByteOrders.to_le_bytes.Goals as goal
 
 pub returns-clause-bytes : goal.returns-clause-bytes
@@ -15,3 +15,6 @@ returns-clause-unsigned g c u =
 pub returns-clause-plain : goal.returns-clause-plain
 returns-clause-plain g c u i h =
     byte-at _ _ _ _ _ _ g.met.Self.ByteOrders.width_law c.to_u128_bits.ensures.range (returns-clause-bytes g c) u h
+
+pub returns-clause-signed : goal.returns-clause-signed
+returns-clause-signed g c u = number_of-signed _ _ _ _ g.met.Self.ByteOrders.width_law (returns-clause-bytes g c)

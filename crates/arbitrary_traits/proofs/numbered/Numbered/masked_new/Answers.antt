@@ -4,7 +4,7 @@ use Rattle.arbitrary_base.specs.Range.{InRange}
 use Rattle.arbitrary_base.specs.Residue.{Congruent}
 use Rattle.arbitrary_base.proofs.modular.ExactOrCongruent.{wrapped-congruent, wrapped-exact}
 use Rattle.arbitrary_base.proofs.modular.Truncation.{InRange-of_unsigned, InRange-wider}
-use Rattle.arbitrary_traits.proofs.Conversion.{wrap-to_u128_bits}
+use Rattle.arbitrary_traits.proofs.Conversion.{low-of_unsigned, wrap-to_u128_bits}
 use Rattle.arbitrary_traits.proofs.numbered.Numbered.masked_new.Goals as goal
 
 pub returns : goal.returns
@@ -24,7 +24,8 @@ returns g c =
       exact = exact;
       as_wide = λ d l. exact (InRange-wider s A B x h l (subst (λ (t : Bool). InRange t A x) d f));
       wider = λ d l. exact (InRange-of_unsigned s A B x h l (subst (λ (t : Bool). InRange t A x) d f));
-      narrower = λ l. congruent;
+      low = λ d t l. low-of_unsigned s g.T.Numbered.IS_SIGNED A B x _ some.0 f d t e;
+      narrower = λ d l. congruent;
       other_sign = λ d. congruent;
       congruent = λ y d. subst (λ (z : ℤ). Congruent B (g.Self.Numbered.number c.from_u128_bits.result) z) d congruent;
       range = c.to_u128_bits.ensures.range;

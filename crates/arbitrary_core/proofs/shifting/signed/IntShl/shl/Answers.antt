@@ -3,12 +3,14 @@
 use Rattle.std.specs.Prelude.{◌≡◌, ◌≤◌, ◌<◌, length, unsigned_abs}
 use Rattle.std.proofs.Common.{arith, ap, ◌∙◌, sym}
 use Rattle.std.proofs.lemmas.Int.{ints}
+use Rattle.arbitrary_base.specs.Operation.{shifted_left}
 use Rattle.arbitrary_base.specs.BitList.{bits, shl}
 use Rattle.arbitrary_base.proofs.bit_lists.UnsignedNumber.{length-bits}
 use Rattle.arbitrary_base.proofs.bit_lists.Movement.{length-shl}
 use Rattle.arbitrary_base.proofs.operations.ShiftAsProduct.{shl-congruent}
 use Rattle.arbitrary_core.proofs.StoredBits.{bits-stays, number-of_list}
 use Rattle.arbitrary_base.proofs.operations.Definition.{left-is}
+use Rattle.arbitrary_base.proofs.operations.Shift.{shifted_left-none}
 use Rattle.arbitrary_core.proofs.shifting.signed.IntShl.shl.Goals as goal
 
 pub returns : goal.returns
@@ -25,4 +27,5 @@ returns g c =
       operation = e ∙ sym (left-is _ _ _ _);
       bits = e;
       congruent = shl-congruent _ _ _ _ _ w l e;
+      none = λ z. e ∙ sym (left-is _ _ _ _) ∙ ap (shifted_left g.T.Storage.SIGNED g.row.BITS _) z ∙ shifted_left-none _ _ _ w c.to_bits.ensures.self_range;
     }
