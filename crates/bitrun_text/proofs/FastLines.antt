@@ -12,7 +12,7 @@ use Rattle.std.specs.Char.{is_ascii_digit}
 use Rattle.std.proofs.Math.Seq.{take-append_seam, drop-append_seam}
 use Rattle.std.proofs.lemmas.Nat.{be_bytes_4}
 use Rattle.std.proofs.lemmas.List.{take-append-drop}
-use Rattle.std.proofs.lemmas.Bool.{cases_Bool}
+use Rattle.std.proofs.lemmas.Bool.{cases_Bool, cases_lt}
 use Rattle.std.proofs.lemmas.Bool.Decides.{nat_tests}
 use Rattle.arbitrary_int.specs.declared.steps.Step.{Step}
 use Rattle.arbitrary_int.specs.declared.steps.Step.TheVariants as steps
@@ -28,7 +28,7 @@ use Rattle.bitrun_text.specs.Fast.{is_whole, IsName, BeginsWithName, BeginsWithN
 use Rattle.std.specs.Str.Parse.{digits_value}
 use Rattle.bitrun_text.proofs.Digits.{digit_is, is_number}
 use Rattle.bitrun_text.proofs.Families.{no_letter}
-use Rattle.bitrun_text.proofs.Lines.{left-blank, left-blanks, left-word, word_taken}
+use Rattle.bitrun_text.proofs.Lines.{left-blank, left-blanks, left-word, word_taken, no_word_taken, ends-there}
 use Rattle.bitrun_text.proofs.Operands.{take-take, number-first}
 use Rattle.bitrun_text.proofs.StepWords.{one_taken, two_taken, by_taken}
 
@@ -83,6 +83,32 @@ word_left name rest whole some ends =
     let word : before_first ends_word (name ++ rest) ≡ name = rw size (take-append_seam name rest) in
     let follows : drop (position_or_len ends_word (name ++ rest)) (name ++ rest) ≡ rest = rw size (drop-append_seam name rest) in
     left-word (name ++ rest) (omega (arith, some, ap length word)) ∙ rw (word, follows) refl
+
+module _ (text solid word : List ℕ) (skipped : solid ≡ drop (position_or_len is_solid text) text) where
+  -- a word with which the text begins is the first one of the line
+  pub word_there : (rest : List ℕ) → is_whole word ≡ true → 0 < length word → solid ≡ word ++ rest → Ends rest
+      → left_of text ≡ record { words = word ∷ (left_of rest).words; later = (left_of rest).later }
+  word_there rest whole some split ends = sym (left-blanks text) ∙ ap left_of (sym skipped ∙ split) ∙ word_left word rest whole some ends
+
+  -- and a word with which it doesn't begin is not
+  pub other_word : ((rest : List ℕ) → solid ≡ word ++ rest → Ends rest → ⊥) → (words : List (List ℕ)) → (left_of text).words ≡ word ∷ words → ⊥
+  other_word other words first =
+      let end = position_or_len ends_word solid in
+      let found = before_first ends_word solid in
+      let rest = drop end solid in
+      elim (cases_lt 0 (length found)) [
+        | inl some ↦
+            let taken = ap (λ (left : Left). left.words) (word_taken text solid found rest skipped refl refl some) in
+            let same : found ≡ word = first_same (sym taken ∙ first) in
+            other rest (sym (take-append-drop end solid) ∙ ap (λ (l : List ℕ). l ++ rest) same) (ends-there solid)
+        | inr none ↦
+            let nothing = no_word_taken text solid found rest skipped refl refl (omega (arith, none)) in
+            let empty : (left_of text).words ≡ [] = ap (λ (left : Left). left.words) (sym nothing.0) ∙ nothing.1 in
+            absurd cc
+      ]
+    where
+      first_same : {X : Type 0} {x y : X} {xs ys : List X} → x ∷ xs ≡ y ∷ ys → x ≡ y
+      first_same e = cc
 
 named_some : (name : List ℕ) (operation : Operation) → operation_named name ≡ Some operation → 0 < length name
 named_some [] operation e = absurd (let none = no_letter in cc (none, e))

@@ -162,6 +162,15 @@ nothing_taken (byte ∷ bytes) none =
       | inr solid ↦ absurd (let h = rw (before-no ends_word byte bytes solid) at none in omega (arith, h))
     ]
 
+-- what follows a word ends it
+pub ends-there : (text : List ℕ) → position_or_len ends_word (drop (position_or_len ends_word text) text) ≡ 0
+ends-there [] = refl
+ends-there (byte ∷ bytes) =
+    elim (cases_Bool (ends_word byte)) [
+      | inl end ↦ rw (position-yes ends_word byte bytes end) (position-yes ends_word byte bytes end)
+      | inr solid ↦ rw (position-no ends_word byte bytes solid) (ends-there bytes)
+    ]
+
 module _ (text solid word rest : List ℕ) (skipped : solid ≡ drop (position_or_len is_solid text) text)
     (first : word ≡ before_first ends_word solid) (follows : rest ≡ drop (position_or_len ends_word solid) solid) where
   -- what remains before and after a word is taken

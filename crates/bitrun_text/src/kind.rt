@@ -41,20 +41,21 @@ pub fn kind_named(line: &mut Cursor) -> Option<Kind>
     ensures kind { result ≡ kind_named line.old.words }
     ensures later { line.new.later ≡ line.old.later }
 {
-    let first = line.next_word()?;
-    let name = line.next_word()?;
-    let Some(narrow) = line.next_word() else {
-        return if first == b"run".as_slice() {
+    if line.take_word(b"run") {
+        let name = line.next_word()?;
+        if line.is_at_end() {
             type_named(name).map(Kind::Run)
         } else {
             None
-        };
-    };
-    if line.next_word().is_some() {
-        return None;
-    }
-    if first == b"wide".as_slice() {
-        pair_named(name, narrow).map(Kind::Wide)
+        }
+    } else if line.take_word(b"wide") {
+        let wide = line.next_word()?;
+        let narrow = line.next_word()?;
+        if line.is_at_end() {
+            pair_named(wide, narrow).map(Kind::Wide)
+        } else {
+            None
+        }
     } else {
         None
     }

@@ -1,8 +1,9 @@
 //! The lines and the words of a text, in one pass.
 
-ghost use Rattle.std.specs.Prelude.{◌≡◌, ◌==◌, ◌<◌, [], ◌∷◌, true, drop, length, position, Some, None, IfSome, MatchOption, if◌then◌else◌};
+ghost use Rattle.std.specs.Prelude.{◌≡◌, ◌==◌, ◌<◌, ℕ, List, [], ◌∷◌, ◌++◌, true, false, drop, length, position, Some, None, IfSome, MatchOption, if◌then◌else◌};
 ghost use Rattle.std.specs.List.{position_or_len, before_first, after_first};
 ghost use Rattle.bitrun_text.specs.Numeral.{number_below, first_number};
+ghost use Rattle.bitrun_text.specs.Fast.{is_whole};
 ghost use Rattle.bitrun_text.specs.Text.{ends_line, is_blank, is_solid, ends_word, word_lines, Left, left_of};
 
 use std::marker::Model;
@@ -40,6 +41,24 @@ impl<'a> Cursor<'a> {
         let (word, rest) = split_word(without_blanks(self.rest));
         self.rest = rest;
         if word.is_empty() { None } else { Some(word) }
+    }
+
+    /// Takes the next word of the line, where it is this one, which no byte of its own ends. The end of a longer word isn't looked for.
+    pub fn take_word(&mut self, word: &[u8]) -> bool
+        requires whole { is_whole word.now ≡ true }
+        requires some { 0 < length word.now }
+        ensures word { result ≡ true → self.old.words ≡ word.now ∷ self.new.words }
+        ensures other { result ≡ false → (words : List (List ℕ)) → self.old.words ≡ word.now ∷ words → ⊥ }
+        ensures same { result ≡ false → self.new ≡ self.old }
+        ensures later { self.new.later ≡ self.old.later }
+    {
+        match after_word(without_blanks(self.rest), word) {
+            Some(rest) => {
+                self.rest = rest;
+                true
+            }
+            None => false,
+        }
     }
 
     /// Takes the next word of the line, where it is a number below the limit.
@@ -120,6 +139,16 @@ pub fn split_word(text: &[u8]) -> (&[u8], &[u8])
         Some(end) => text.split_at(end),
         None => (text, b""),
     }
+}
+
+/// What follows the word, where the text begins with it.
+fn after_word<'a>(text: &'a [u8], word: &[u8]) -> Option<&'a [u8]>
+    ensures { MatchOption result
+        ((rest : List ℕ) → text.now ≡ word.now ++ rest → position_or_len ends_word rest ≡ 0 → ⊥)
+        (λ rest. (text.now ≡ word.now ++ rest.now) × (position_or_len ends_word rest.now ≡ 0)) }
+{
+    let rest = text.strip_prefix(word)?;
+    if is_word_end(rest) { Some(rest) } else { None }
 }
 
 /// The number that the word writes with which the text begins, if it is below the limit, and what
