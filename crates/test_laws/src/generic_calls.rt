@@ -168,3 +168,17 @@ pub fn shifts_by_none<V: FixedWidth>(x: V) -> bool
 {
     x.wrapping_shl(0) == x && x.wrapping_shr(0) == x
 }
+
+pub fn checked_sum_with_zero<V: FixedWidth>(x: V) -> bool
+    requires { V.valid }
+    ensures { IsTrue result }
+{
+    x.checked_add(V::zero()) == Some(x)
+}
+
+pub fn checked_difference_with_zero<V: FixedWidth>(x: V) -> bool
+    requires { V.valid }
+    ensures { IsTrue result }
+{
+    x.checked_sub(V::zero()) == Some(x)
+}
