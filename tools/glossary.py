@@ -16,7 +16,7 @@ COLUMNS = 100
 # The module that keeps names of before 1.0.0 for users: it, and what is below a heading or on a line that names it, may have them.
 FORMER = 'former_names'
 # How many clause lines of the libraries are longer than that.
-LONG = 324
+LONG = 0
 
 
 def retired():

@@ -13,7 +13,8 @@ use crate::truncation::{from_low_bits, low_bits};
 pub fn and<T: Storage>(x: T, y: T, bits: usize) -> T
     requires width { 1 ≤ bits }
     requires storage { bits ≤ T.WIDTH }
-    ensures value { T.number result ≡ val T.SIGNED (bits_and (bit_list bits (T.number x)) (bit_list bits (T.number y))) }
+    ensures value { let list = bit_list bits in
+        T.number result ≡ val T.SIGNED (bits_and (list (T.number x)) (list (T.number y))) }
     ensures range { InRange T.SIGNED bits (T.number result) }
 {
     from_low_bits(
@@ -27,7 +28,8 @@ pub fn and<T: Storage>(x: T, y: T, bits: usize) -> T
 pub fn or<T: Storage>(x: T, y: T, bits: usize) -> T
     requires width { 1 ≤ bits }
     requires storage { bits ≤ T.WIDTH }
-    ensures value { T.number result ≡ val T.SIGNED (bits_or (bit_list bits (T.number x)) (bit_list bits (T.number y))) }
+    ensures value { let list = bit_list bits in
+        T.number result ≡ val T.SIGNED (bits_or (list (T.number x)) (list (T.number y))) }
     ensures range { InRange T.SIGNED bits (T.number result) }
 {
     from_low_bits(
@@ -41,7 +43,8 @@ pub fn or<T: Storage>(x: T, y: T, bits: usize) -> T
 pub fn xor<T: Storage>(x: T, y: T, bits: usize) -> T
     requires width { 1 ≤ bits }
     requires storage { bits ≤ T.WIDTH }
-    ensures value { T.number result ≡ val T.SIGNED (bits_xor (bit_list bits (T.number x)) (bit_list bits (T.number y))) }
+    ensures value { let list = bit_list bits in
+        T.number result ≡ val T.SIGNED (bits_xor (list (T.number x)) (list (T.number y))) }
     ensures range { InRange T.SIGNED bits (T.number result) }
 {
     from_low_bits(

@@ -129,7 +129,9 @@ pub fn mul<T: Storage>(x: T, y: T, bits: usize) -> Option<T>
 
 /// Whether a quotient of two numbers below 0 came out below 0.
 fn is_turned<T: Storage>(x: &T, y: &T, quotient: &T) -> bool
-    ensures { result ≡ (int_lt (T.number x.now) (pos 0) && (int_lt (T.number y.now) (pos 0) && int_lt (T.number quotient.now) (pos 0))) }
+    ensures { let number = T.number in
+        result ≡ (int_lt (number x.now) (pos 0)
+        && (int_lt (number y.now) (pos 0) && int_lt (number quotient.now) (pos 0))) }
 {
     is_below_zero(x) && (is_below_zero(y) && is_below_zero(quotient))
 }

@@ -91,7 +91,8 @@ pub fn div<T: Storage>(x: T, y: T, bits: usize) -> (T, bool)
     requires divisor { T.number y ≢ pos 0 }
     ensures value { T.number result.0 ≡ wrap T.SIGNED bits (int_div (T.number x) (T.number y)) }
     ensures range { InRange T.SIGNED bits (T.number result.0) }
-    ensures overflow { IsTrue result.1 ↔ ¬ (InRange T.SIGNED bits (int_div (T.number x) (T.number y))) }
+    ensures overflow { let quotient = int_div (T.number x) (T.number y) in
+        IsTrue result.1 ↔ ¬ (InRange T.SIGNED bits quotient) }
 {
     let exact = checked::div_by_nonzero(x, y, bits);
     (wrapping::div(x, y, bits), exact.is_none())

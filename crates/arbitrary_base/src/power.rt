@@ -70,7 +70,8 @@ fn exact_power<T: Storage>(x: T, exp: u32, bits: usize, count: &mut u32) -> Opti
     requires some { 2 ≤ bits }
     requires storage { bits ≤ T.WIDTH }
     requires range { InRange T.SIGNED bits (T.number x) }
-    ensures value { MatchOption result (hi T.SIGNED bits <ℤ pos (unsigned_abs (int_pow (T.number x) exp))) (λ y. T.number y ≡ int_pow (T.number x) exp) }
+    ensures value { let power = int_pow (T.number x) exp in MatchOption result
+        (hi T.SIGNED bits <ℤ pos (unsigned_abs power)) (λ y. T.number y ≡ power) }
     ensures counted { count.new ≤ 2 * length (digits_of 2 exp) }
 {
     let mut product = one::<T>();

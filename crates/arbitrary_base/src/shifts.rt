@@ -23,7 +23,8 @@ pub fn shl<T: Storage>(x: T, amount: usize, bits: usize) -> T
     requires width { 1 ≤ bits }
     requires storage { bits ≤ T.WIDTH }
     requires within { amount < bits }
-    ensures value { T.number result ≡ val T.SIGNED (shifted_left (bit_list bits (T.number x)) amount) }
+    ensures value { let list = bit_list bits (T.number x) in
+        T.number result ≡ val T.SIGNED (shifted_left list amount) }
     ensures range { InRange T.SIGNED bits (T.number result) }
 {
     truncated(x.shl_by(amount), bits)
@@ -36,7 +37,8 @@ pub fn shr<T: Storage>(x: T, amount: usize, bits: usize) -> T
     requires width { 1 ≤ bits }
     requires storage { bits ≤ T.WIDTH }
     requires within { amount < bits }
-    ensures value { T.number result ≡ val T.SIGNED (shifted_right (bit_list bits (T.number x)) amount (fill T.SIGNED (bit_list bits (T.number x)))) }
+    ensures value { let list = bit_list bits (T.number x) in
+        T.number result ≡ val T.SIGNED (shifted_right list amount (fill T.SIGNED list)) }
     ensures range { InRange T.SIGNED bits (T.number result) }
 {
     truncated(x, bits).shr_by(amount)

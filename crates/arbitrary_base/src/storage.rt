@@ -77,7 +77,8 @@ pub trait Storage: Sealed + Copy + Ord + Hash + Display + Debug + Drop {
     /// The product, wrapped, and whether the exact one is out of range.
     fn overflowing_mul(self, other: Self) -> (Self, bool)
         ensures value { number result.0 ≡ wrap SIGNED WIDTH (number self *ℤ number other) }
-        ensures overflow { IsTrue result.1 ↔ ¬ (InRange SIGNED WIDTH (number self *ℤ number other)) };
+        ensures overflow { let product = number self *ℤ number other in
+            IsTrue result.1 ↔ ¬ (InRange SIGNED WIDTH product) };
 
     /// The number whose bits are these, moved `n` places toward the high end, with zeros below.
     fn shl_by(self, n: usize) -> Self
@@ -88,7 +89,8 @@ pub trait Storage: Sealed + Copy + Ord + Hash + Display + Debug + Drop {
     /// zeros where there is none.
     fn shr_by(self, n: usize) -> Self
         requires { n < WIDTH }
-        ensures { number result ≡ val SIGNED (shr (bits WIDTH (number self)) n (fill SIGNED (bits WIDTH (number self)))) };
+        ensures { let list = bits WIDTH (number self) in
+            number result ≡ val SIGNED (shr list n (fill SIGNED list)) };
 
     ghost width_law: { (1 ≤ WIDTH) × (WIDTH ≤ 128) };
 

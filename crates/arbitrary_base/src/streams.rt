@@ -13,9 +13,12 @@ use std::io::{ErrorKind, Read, Write};
 
 /// Fills `buf`, by at most as many calls as it has bytes. An input that ends before is `UnexpectedEof`.
 pub fn read_full<R: Read>(reader: &mut Watched<R>, buf: &mut [u8]) -> io::Result<()>
-    ensures all { OnOk result (Consumes (R.remaining (inner_of reader.old)) (R.remaining (inner_of reader.new)) buf.new) }
+    ensures all { let before = R.remaining (inner_of reader.old) in
+        let after = R.remaining (inner_of reader.new) in
+        OnOk result (Consumes before after buf.new) }
     ensures no_failure { OnOk result (NoFailure reader.old reader.new) }
-    ensures why { OnErr result (IfSome (R.remaining (inner_of reader.old)) (λ held. Failure reader.old reader.new ⊎ (length held < length buf.old))) }
+    ensures why { let before = R.remaining (inner_of reader.old) in OnErr result (IfSome before
+        (λ held. Failure reader.old reader.new ⊎ (length held < length buf.old))) }
 {
     let mut at = 0;
     while at < buf.len() {
@@ -31,9 +34,13 @@ pub fn read_full<R: Read>(reader: &mut Watched<R>, buf: &mut [u8]) -> io::Result
 /// Writes all of the bytes, by at most as many calls as there are bytes. A writer that takes nothing is
 /// `WriteZero`.
 pub fn write_full<W: Write>(writer: &mut Watched<W>, bytes: &[u8]) -> io::Result<()>
-    ensures all { OnOk result (Appends (W.contents (inner_of writer.old)) (W.contents (inner_of writer.new)) bytes.now) }
+    ensures all { let before = W.contents (inner_of writer.old) in
+        let after = W.contents (inner_of writer.new) in
+        OnOk result (Appends before after bytes.now) }
     ensures no_failure { OnOk result (NoFailure writer.old writer.new) }
-    ensures begun { OnErr result (AppendsBeginning (W.contents (inner_of writer.old)) (W.contents (inner_of writer.new)) bytes.now) }
+    ensures begun { let before = W.contents (inner_of writer.old) in
+        let after = W.contents (inner_of writer.new) in
+        OnErr result (AppendsBeginning before after bytes.now) }
     ensures failed { OnErr result (Failure writer.old writer.new) }
 {
     let mut at = 0;

@@ -69,7 +69,9 @@ impl<D: Read> Watched<D> {
     /// One call of the reader's `read`, with its result. An `Err`, of any kind, is a failure.
     pub fn read(&mut self, buf: &mut [u8]) -> io::Result<usize>
         ensures bound { ReadsAtMost result buf.new }
-        ensures bytes { ReadConsumes (D.remaining (inner_of self.old)) (D.remaining (inner_of self.new)) result buf.new }
+        ensures bytes { let before = D.remaining (inner_of self.old) in
+            let after = D.remaining (inner_of self.new) in
+            ReadConsumes before after result buf.new }
         ensures no_failure { OnOk result (NoFailure self.old self.new) }
         ensures raised { OnErr result (Failure self.old self.new) }
     {
@@ -86,9 +88,13 @@ impl<D: Write> Watched<D> {
     /// is a writer that takes nothing of at least one byte.
     pub fn write(&mut self, buf: &[u8]) -> io::Result<usize>
         ensures bound { WritesAtMost result buf.now }
-        ensures bytes { WriteAppends (D.contents (inner_of self.old)) (D.contents (inner_of self.new)) result buf.now }
-        ensures no_failure { IfOk result (λ n. (n ≡ 0 → length buf.now ≡ 0) → NoFailure self.old self.new) }
-        ensures took_nothing { IfOk result (λ n. n ≡ 0 → 0 < length buf.now → Failure self.old self.new) }
+        ensures bytes { let before = D.contents (inner_of self.old) in
+            let after = D.contents (inner_of self.new) in
+            WriteAppends before after result buf.now }
+        ensures no_failure { let count = length buf.now in
+            IfOk result (λ n. (n ≡ 0 → count ≡ 0) → NoFailure self.old self.new) }
+        ensures took_nothing { let count = length buf.now in
+            IfOk result (λ n. n ≡ 0 → 0 < count → Failure self.old self.new) }
         ensures raised { OnErr result (Failure self.old self.new) }
     {
         let outcome = self.inner.write(buf);

@@ -40,7 +40,8 @@ pub trait FixedWidthCalls: Numbered + LowBits {
     fn from_storage(value: Self::Representation) -> Self
         requires some { 1 ≤ Self.BITS }
         requires storage { Self.BITS ≤ Self.Representation.WIDTH }
-        requires range { InRange Self.Representation.SIGNED Self.BITS (Self.Representation.number value) }
+        requires range { let given = Self.Representation.number value in
+            InRange Self.Representation.SIGNED Self.BITS given }
         ensures { Self.number result ≡ Self.Representation.number value };
 
     // A valid width is one that the storage has room for.
@@ -50,11 +51,16 @@ pub trait FixedWidthCalls: Numbered + LowBits {
 
     /// The sum, wrapped.
     final fn wrapping_add(self, rhs: Self) -> Self
-        ensures operation { Self.number result ≡ wrapped_sum Self.IS_SIGNED Self.BITS (Self.number self) (Self.number rhs) }
-        ensures value { Self.number result ≡ wrap Self.IS_SIGNED Self.BITS (Self.number self +ℤ Self.number rhs) }
-        ensures exact { InRange Self.IS_SIGNED Self.BITS (Self.number self +ℤ Self.number rhs) → Self.number result ≡ Self.number self +ℤ Self.number rhs }
-        ensures congruent { Congruent Self.BITS (Self.number result) (Self.number self +ℤ Self.number rhs) }
-        ensures undo { wrapped_difference Self.IS_SIGNED Self.BITS (Self.number result) (Self.number rhs) ≡ Self.number self }
+        ensures operation { let number = Self.number in
+            number result ≡ wrapped_sum Self.IS_SIGNED Self.BITS (number self) (number rhs) }
+        ensures value { let sum = Self.number self +ℤ Self.number rhs in
+            Self.number result ≡ wrap Self.IS_SIGNED Self.BITS sum }
+        ensures exact { let sum = Self.number self +ℤ Self.number rhs in
+            InRange Self.IS_SIGNED Self.BITS sum → Self.number result ≡ sum }
+        ensures congruent { let sum = Self.number self +ℤ Self.number rhs in
+            Congruent Self.BITS (Self.number result) sum }
+        ensures undo { let number = Self.number in
+            wrapped_difference Self.IS_SIGNED Self.BITS (number result) (number rhs) ≡ number self }
         ensures range { InRange Self.IS_SIGNED Self.BITS (Self.number self) }
         ensures operand { InRange Self.IS_SIGNED Self.BITS (Self.number rhs) }
     {
@@ -64,10 +70,16 @@ pub trait FixedWidthCalls: Numbered + LowBits {
     /// The sum, or the end of the range that is nearest to it.
     #[tactic(auto, using(arbitrary_base::proofs::storages::Clamp::clamped))]
     final fn saturating_add(self, rhs: Self) -> Self
-        ensures value { Self.number result ≡ clamp Self.IS_SIGNED Self.BITS (Self.number self +ℤ Self.number rhs) }
-        ensures exact { InRange Self.IS_SIGNED Self.BITS (Self.number self +ℤ Self.number rhs) → Self.number result ≡ Self.number self +ℤ Self.number rhs }
-        ensures above { hi Self.IS_SIGNED Self.BITS <ℤ (Self.number self +ℤ Self.number rhs) → Self.number result ≡ hi Self.IS_SIGNED Self.BITS }
-        ensures below { (Self.number self +ℤ Self.number rhs) <ℤ lo Self.IS_SIGNED Self.BITS → Self.number result ≡ lo Self.IS_SIGNED Self.BITS }
+        ensures value { let sum = Self.number self +ℤ Self.number rhs in
+            Self.number result ≡ clamp Self.IS_SIGNED Self.BITS sum }
+        ensures exact { let sum = Self.number self +ℤ Self.number rhs in
+            InRange Self.IS_SIGNED Self.BITS sum → Self.number result ≡ sum }
+        ensures above { let sum = Self.number self +ℤ Self.number rhs in
+            let highest = hi Self.IS_SIGNED Self.BITS in
+            highest <ℤ sum → Self.number result ≡ highest }
+        ensures below { let sum = Self.number self +ℤ Self.number rhs in
+            let lowest = lo Self.IS_SIGNED Self.BITS in
+            sum <ℤ lowest → Self.number result ≡ lowest }
         ensures range { InRange Self.IS_SIGNED Self.BITS (Self.number self) }
         ensures bounded { InRange Self.IS_SIGNED Self.BITS (Self.number result) }
         ensures swap { Self.number self +ℤ Self.number rhs ≡ Self.number rhs +ℤ Self.number self }
@@ -77,11 +89,12 @@ pub trait FixedWidthCalls: Numbered + LowBits {
 
     /// The sum, and `None` exactly where it is out of range.
     final fn checked_add(self, rhs: Self) -> Option<Self>
-        ensures exact { SomeIff (option_map Self.number result)
-            (InRange Self.IS_SIGNED Self.BITS (Self.number self +ℤ Self.number rhs))
-            (Self.number self +ℤ Self.number rhs) }
+        ensures exact { let sum = Self.number self +ℤ Self.number rhs in
+            let fits = InRange Self.IS_SIGNED Self.BITS sum in
+            SomeIff (option_map Self.number result) fits sum }
         ensures swap { Self.number self +ℤ Self.number rhs ≡ Self.number rhs +ℤ Self.number self }
-        ensures zero { Self.number rhs ≡ pos 0 → option_map Self.number result ≡ Some (Self.number self) }
+        ensures zero { let number = Self.number in
+            number rhs ≡ pos 0 → option_map number result ≡ Some (number self) }
     {
         match checked::add(self.to_storage(), rhs.to_storage(), Self::BITS) {
             Some(sum) => Some(Self::from_storage(sum)),
@@ -92,10 +105,14 @@ pub trait FixedWidthCalls: Numbered + LowBits {
     /// The sum, wrapped, and whether the exact one is out of range.
     #[tactic(auto, using(arbitrary_base::proofs::modular::ExactOrCongruent::wrapped))]
     final fn overflowing_add(self, rhs: Self) -> (Self, bool)
-        ensures value { Self.number result.0 ≡ wrap Self.IS_SIGNED Self.BITS (Self.number self +ℤ Self.number rhs) }
-        ensures overflow { IsTrue result.1 ↔ ¬ (InRange Self.IS_SIGNED Self.BITS (Self.number self +ℤ Self.number rhs)) }
-        ensures exact { InRange Self.IS_SIGNED Self.BITS (Self.number self +ℤ Self.number rhs) → Self.number result.0 ≡ Self.number self +ℤ Self.number rhs }
-        ensures congruent { Congruent Self.BITS (Self.number result.0) (Self.number self +ℤ Self.number rhs) }
+        ensures value { let sum = Self.number self +ℤ Self.number rhs in
+            Self.number result.0 ≡ wrap Self.IS_SIGNED Self.BITS sum }
+        ensures overflow { let sum = Self.number self +ℤ Self.number rhs in
+            IsTrue result.1 ↔ ¬ (InRange Self.IS_SIGNED Self.BITS sum) }
+        ensures exact { let sum = Self.number self +ℤ Self.number rhs in
+            InRange Self.IS_SIGNED Self.BITS sum → Self.number result.0 ≡ sum }
+        ensures congruent { let sum = Self.number self +ℤ Self.number rhs in
+            Congruent Self.BITS (Self.number result.0) sum }
         ensures swap { Self.number self +ℤ Self.number rhs ≡ Self.number rhs +ℤ Self.number self }
     {
         let (sum, overflow) = overflowing::add(self.to_storage(), rhs.to_storage(), Self::BITS);
@@ -104,11 +121,16 @@ pub trait FixedWidthCalls: Numbered + LowBits {
 
     /// The difference, wrapped.
     final fn wrapping_sub(self, rhs: Self) -> Self
-        ensures operation { Self.number result ≡ wrapped_difference Self.IS_SIGNED Self.BITS (Self.number self) (Self.number rhs) }
-        ensures value { Self.number result ≡ wrap Self.IS_SIGNED Self.BITS (Self.number self -ℤ Self.number rhs) }
-        ensures exact { InRange Self.IS_SIGNED Self.BITS (Self.number self -ℤ Self.number rhs) → Self.number result ≡ Self.number self -ℤ Self.number rhs }
-        ensures congruent { Congruent Self.BITS (Self.number result) (Self.number self -ℤ Self.number rhs) }
-        ensures undo { wrapped_sum Self.IS_SIGNED Self.BITS (Self.number result) (Self.number rhs) ≡ Self.number self }
+        ensures operation { let number = Self.number in
+            number result ≡ wrapped_difference Self.IS_SIGNED Self.BITS (number self) (number rhs) }
+        ensures value { let difference = Self.number self -ℤ Self.number rhs in
+            Self.number result ≡ wrap Self.IS_SIGNED Self.BITS difference }
+        ensures exact { let difference = Self.number self -ℤ Self.number rhs in
+            InRange Self.IS_SIGNED Self.BITS difference → Self.number result ≡ difference }
+        ensures congruent { let difference = Self.number self -ℤ Self.number rhs in
+            Congruent Self.BITS (Self.number result) difference }
+        ensures undo { let number = Self.number in
+            wrapped_sum Self.IS_SIGNED Self.BITS (number result) (number rhs) ≡ number self }
         ensures range { InRange Self.IS_SIGNED Self.BITS (Self.number self) }
         ensures operand { InRange Self.IS_SIGNED Self.BITS (Self.number rhs) }
     {
@@ -118,10 +140,16 @@ pub trait FixedWidthCalls: Numbered + LowBits {
     /// The difference, or the end of the range that is nearest to it.
     #[tactic(auto, using(arbitrary_base::proofs::storages::Clamp::clamped))]
     final fn saturating_sub(self, rhs: Self) -> Self
-        ensures value { Self.number result ≡ clamp Self.IS_SIGNED Self.BITS (Self.number self -ℤ Self.number rhs) }
-        ensures exact { InRange Self.IS_SIGNED Self.BITS (Self.number self -ℤ Self.number rhs) → Self.number result ≡ Self.number self -ℤ Self.number rhs }
-        ensures above { hi Self.IS_SIGNED Self.BITS <ℤ (Self.number self -ℤ Self.number rhs) → Self.number result ≡ hi Self.IS_SIGNED Self.BITS }
-        ensures below { (Self.number self -ℤ Self.number rhs) <ℤ lo Self.IS_SIGNED Self.BITS → Self.number result ≡ lo Self.IS_SIGNED Self.BITS }
+        ensures value { let difference = Self.number self -ℤ Self.number rhs in
+            Self.number result ≡ clamp Self.IS_SIGNED Self.BITS difference }
+        ensures exact { let difference = Self.number self -ℤ Self.number rhs in
+            InRange Self.IS_SIGNED Self.BITS difference → Self.number result ≡ difference }
+        ensures above { let difference = Self.number self -ℤ Self.number rhs in
+            let highest = hi Self.IS_SIGNED Self.BITS in
+            highest <ℤ difference → Self.number result ≡ highest }
+        ensures below { let difference = Self.number self -ℤ Self.number rhs in
+            let lowest = lo Self.IS_SIGNED Self.BITS in
+            difference <ℤ lowest → Self.number result ≡ lowest }
         ensures range { InRange Self.IS_SIGNED Self.BITS (Self.number self) }
         ensures bounded { InRange Self.IS_SIGNED Self.BITS (Self.number result) }
     {
@@ -130,10 +158,11 @@ pub trait FixedWidthCalls: Numbered + LowBits {
 
     /// The difference, and `None` exactly where it is out of range.
     final fn checked_sub(self, rhs: Self) -> Option<Self>
-        ensures exact { SomeIff (option_map Self.number result)
-            (InRange Self.IS_SIGNED Self.BITS (Self.number self -ℤ Self.number rhs))
-            (Self.number self -ℤ Self.number rhs) }
-        ensures zero { Self.number rhs ≡ pos 0 → option_map Self.number result ≡ Some (Self.number self) }
+        ensures exact { let difference = Self.number self -ℤ Self.number rhs in
+            let fits = InRange Self.IS_SIGNED Self.BITS difference in
+            SomeIff (option_map Self.number result) fits difference }
+        ensures zero { let number = Self.number in
+            number rhs ≡ pos 0 → option_map number result ≡ Some (number self) }
     {
         match checked::sub(self.to_storage(), rhs.to_storage(), Self::BITS) {
             Some(difference) => Some(Self::from_storage(difference)),
@@ -144,10 +173,14 @@ pub trait FixedWidthCalls: Numbered + LowBits {
     /// The difference, wrapped, and whether the exact one is out of range.
     #[tactic(auto, using(arbitrary_base::proofs::modular::ExactOrCongruent::wrapped))]
     final fn overflowing_sub(self, rhs: Self) -> (Self, bool)
-        ensures value { Self.number result.0 ≡ wrap Self.IS_SIGNED Self.BITS (Self.number self -ℤ Self.number rhs) }
-        ensures overflow { IsTrue result.1 ↔ ¬ (InRange Self.IS_SIGNED Self.BITS (Self.number self -ℤ Self.number rhs)) }
-        ensures exact { InRange Self.IS_SIGNED Self.BITS (Self.number self -ℤ Self.number rhs) → Self.number result.0 ≡ Self.number self -ℤ Self.number rhs }
-        ensures congruent { Congruent Self.BITS (Self.number result.0) (Self.number self -ℤ Self.number rhs) }
+        ensures value { let difference = Self.number self -ℤ Self.number rhs in
+            Self.number result.0 ≡ wrap Self.IS_SIGNED Self.BITS difference }
+        ensures overflow { let difference = Self.number self -ℤ Self.number rhs in
+            IsTrue result.1 ↔ ¬ (InRange Self.IS_SIGNED Self.BITS difference) }
+        ensures exact { let difference = Self.number self -ℤ Self.number rhs in
+            InRange Self.IS_SIGNED Self.BITS difference → Self.number result.0 ≡ difference }
+        ensures congruent { let difference = Self.number self -ℤ Self.number rhs in
+            Congruent Self.BITS (Self.number result.0) difference }
     {
         let (difference, overflow) = overflowing::sub(
             self.to_storage(),
@@ -159,10 +192,14 @@ pub trait FixedWidthCalls: Numbered + LowBits {
 
     /// The product, wrapped.
     final fn wrapping_mul(self, rhs: Self) -> Self
-        ensures operation { Self.number result ≡ wrapped_product Self.IS_SIGNED Self.BITS (Self.number self) (Self.number rhs) }
-        ensures value { Self.number result ≡ wrap Self.IS_SIGNED Self.BITS (Self.number self *ℤ Self.number rhs) }
-        ensures exact { InRange Self.IS_SIGNED Self.BITS (Self.number self *ℤ Self.number rhs) → Self.number result ≡ Self.number self *ℤ Self.number rhs }
-        ensures congruent { Congruent Self.BITS (Self.number result) (Self.number self *ℤ Self.number rhs) }
+        ensures operation { let number = Self.number in
+            number result ≡ wrapped_product Self.IS_SIGNED Self.BITS (number self) (number rhs) }
+        ensures value { let product = Self.number self *ℤ Self.number rhs in
+            Self.number result ≡ wrap Self.IS_SIGNED Self.BITS product }
+        ensures exact { let product = Self.number self *ℤ Self.number rhs in
+            InRange Self.IS_SIGNED Self.BITS product → Self.number result ≡ product }
+        ensures congruent { let product = Self.number self *ℤ Self.number rhs in
+            Congruent Self.BITS (Self.number result) product }
     {
         Self::from_u128_bits(self.low_bits().wrapping_mul(rhs.low_bits()))
     }
@@ -170,10 +207,16 @@ pub trait FixedWidthCalls: Numbered + LowBits {
     /// The product, or the end of the range that is nearest to it.
     #[tactic(auto, using(arbitrary_base::proofs::storages::Clamp::clamped))]
     final fn saturating_mul(self, rhs: Self) -> Self
-        ensures value { Self.number result ≡ clamp Self.IS_SIGNED Self.BITS (Self.number self *ℤ Self.number rhs) }
-        ensures exact { InRange Self.IS_SIGNED Self.BITS (Self.number self *ℤ Self.number rhs) → Self.number result ≡ Self.number self *ℤ Self.number rhs }
-        ensures above { hi Self.IS_SIGNED Self.BITS <ℤ (Self.number self *ℤ Self.number rhs) → Self.number result ≡ hi Self.IS_SIGNED Self.BITS }
-        ensures below { (Self.number self *ℤ Self.number rhs) <ℤ lo Self.IS_SIGNED Self.BITS → Self.number result ≡ lo Self.IS_SIGNED Self.BITS }
+        ensures value { let product = Self.number self *ℤ Self.number rhs in
+            Self.number result ≡ clamp Self.IS_SIGNED Self.BITS product }
+        ensures exact { let product = Self.number self *ℤ Self.number rhs in
+            InRange Self.IS_SIGNED Self.BITS product → Self.number result ≡ product }
+        ensures above { let product = Self.number self *ℤ Self.number rhs in
+            let highest = hi Self.IS_SIGNED Self.BITS in
+            highest <ℤ product → Self.number result ≡ highest }
+        ensures below { let product = Self.number self *ℤ Self.number rhs in
+            let lowest = lo Self.IS_SIGNED Self.BITS in
+            product <ℤ lowest → Self.number result ≡ lowest }
         ensures range { InRange Self.IS_SIGNED Self.BITS (Self.number self) }
         ensures bounded { InRange Self.IS_SIGNED Self.BITS (Self.number result) }
         ensures swap { Self.number self *ℤ Self.number rhs ≡ Self.number rhs *ℤ Self.number self }
@@ -183,9 +226,9 @@ pub trait FixedWidthCalls: Numbered + LowBits {
 
     /// The product, and `None` exactly where it is out of range.
     final fn checked_mul(self, rhs: Self) -> Option<Self>
-        ensures exact { SomeIff (option_map Self.number result)
-            (InRange Self.IS_SIGNED Self.BITS (Self.number self *ℤ Self.number rhs))
-            (Self.number self *ℤ Self.number rhs) }
+        ensures exact { let product = Self.number self *ℤ Self.number rhs in
+            let fits = InRange Self.IS_SIGNED Self.BITS product in
+            SomeIff (option_map Self.number result) fits product }
         ensures swap { Self.number self *ℤ Self.number rhs ≡ Self.number rhs *ℤ Self.number self }
     {
         match checked::mul(self.to_storage(), rhs.to_storage(), Self::BITS) {
@@ -197,10 +240,14 @@ pub trait FixedWidthCalls: Numbered + LowBits {
     /// The product, wrapped, and whether the exact one is out of range.
     #[tactic(auto, using(arbitrary_base::proofs::modular::ExactOrCongruent::wrapped))]
     final fn overflowing_mul(self, rhs: Self) -> (Self, bool)
-        ensures value { Self.number result.0 ≡ wrap Self.IS_SIGNED Self.BITS (Self.number self *ℤ Self.number rhs) }
-        ensures overflow { IsTrue result.1 ↔ ¬ (InRange Self.IS_SIGNED Self.BITS (Self.number self *ℤ Self.number rhs)) }
-        ensures exact { InRange Self.IS_SIGNED Self.BITS (Self.number self *ℤ Self.number rhs) → Self.number result.0 ≡ Self.number self *ℤ Self.number rhs }
-        ensures congruent { Congruent Self.BITS (Self.number result.0) (Self.number self *ℤ Self.number rhs) }
+        ensures value { let product = Self.number self *ℤ Self.number rhs in
+            Self.number result.0 ≡ wrap Self.IS_SIGNED Self.BITS product }
+        ensures overflow { let product = Self.number self *ℤ Self.number rhs in
+            IsTrue result.1 ↔ ¬ (InRange Self.IS_SIGNED Self.BITS product) }
+        ensures exact { let product = Self.number self *ℤ Self.number rhs in
+            InRange Self.IS_SIGNED Self.BITS product → Self.number result.0 ≡ product }
+        ensures congruent { let product = Self.number self *ℤ Self.number rhs in
+            Congruent Self.BITS (Self.number result.0) product }
         ensures swap { Self.number self *ℤ Self.number rhs ≡ Self.number rhs *ℤ Self.number self }
     {
         let (product, overflow) = overflowing::mul(self.to_storage(), rhs.to_storage(), Self::BITS);
@@ -211,10 +258,16 @@ pub trait FixedWidthCalls: Numbered + LowBits {
     #[tactic(auto, using(arbitrary_base::proofs::modular::ExactOrCongruent::wrapped))]
     final fn wrapping_div(self, rhs: Self) -> Self
         requires { Self.number rhs ≢ pos 0 }
-        ensures value { Self.number result ≡ wrap Self.IS_SIGNED Self.BITS (int_div (Self.number self) (Self.number rhs)) }
-        ensures exact { InRange Self.IS_SIGNED Self.BITS (int_div (Self.number self) (Self.number rhs)) → Self.number result ≡ int_div (Self.number self) (Self.number rhs) }
-        ensures of_least { Self.number self ≡ lo Self.IS_SIGNED Self.BITS → Self.number rhs ≡ neg_ℤ (pos 1) → Self.number result ≡ Self.number self }
-        ensures itself { InRange Self.IS_SIGNED Self.BITS (pos 1) → Self.number self ≡ Self.number rhs → Self.number result ≡ pos 1 }
+        ensures value { let quotient = int_div (Self.number self) (Self.number rhs) in
+            Self.number result ≡ wrap Self.IS_SIGNED Self.BITS quotient }
+        ensures exact { let quotient = int_div (Self.number self) (Self.number rhs) in
+            InRange Self.IS_SIGNED Self.BITS quotient → Self.number result ≡ quotient }
+        ensures of_least { let number = Self.number in
+            number self ≡ lo Self.IS_SIGNED Self.BITS → number rhs ≡ neg_ℤ (pos 1)
+            → number result ≡ number self }
+        ensures itself { let number = Self.number in
+            InRange Self.IS_SIGNED Self.BITS (pos 1) → number self ≡ number rhs
+            → number result ≡ pos 1 }
     {
         Self::from_storage(wrapping::div(self.to_storage(), rhs.to_storage(), Self::BITS))
     }
@@ -223,23 +276,32 @@ pub trait FixedWidthCalls: Numbered + LowBits {
     #[tactic(auto, using(arbitrary_base::proofs::storages::Clamp::clamped))]
     final fn saturating_div(self, rhs: Self) -> Self
         requires { Self.number rhs ≢ pos 0 }
-        ensures value { Self.number result ≡ clamp Self.IS_SIGNED Self.BITS (int_div (Self.number self) (Self.number rhs)) }
-        ensures exact { InRange Self.IS_SIGNED Self.BITS (int_div (Self.number self) (Self.number rhs)) → Self.number result ≡ int_div (Self.number self) (Self.number rhs) }
-        ensures above { hi Self.IS_SIGNED Self.BITS <ℤ (int_div (Self.number self) (Self.number rhs)) → Self.number result ≡ hi Self.IS_SIGNED Self.BITS }
-        ensures below { (int_div (Self.number self) (Self.number rhs)) <ℤ lo Self.IS_SIGNED Self.BITS → Self.number result ≡ lo Self.IS_SIGNED Self.BITS }
+        ensures value { let quotient = int_div (Self.number self) (Self.number rhs) in
+            Self.number result ≡ clamp Self.IS_SIGNED Self.BITS quotient }
+        ensures exact { let quotient = int_div (Self.number self) (Self.number rhs) in
+            InRange Self.IS_SIGNED Self.BITS quotient → Self.number result ≡ quotient }
+        ensures above { let quotient = int_div (Self.number self) (Self.number rhs) in
+            let highest = hi Self.IS_SIGNED Self.BITS in
+            highest <ℤ quotient → Self.number result ≡ highest }
+        ensures below { let quotient = int_div (Self.number self) (Self.number rhs) in
+            let lowest = lo Self.IS_SIGNED Self.BITS in
+            quotient <ℤ lowest → Self.number result ≡ lowest }
         ensures range { InRange Self.IS_SIGNED Self.BITS (Self.number self) }
         ensures bounded { InRange Self.IS_SIGNED Self.BITS (Self.number result) }
-        ensures itself { InRange Self.IS_SIGNED Self.BITS (pos 1) → Self.number self ≡ Self.number rhs → Self.number result ≡ pos 1 }
+        ensures itself { let number = Self.number in
+            InRange Self.IS_SIGNED Self.BITS (pos 1) → number self ≡ number rhs
+            → number result ≡ pos 1 }
     {
         Self::from_storage(saturating::div(self.to_storage(), rhs.to_storage(), Self::BITS))
     }
 
     /// The quotient, and `None` exactly where the divisor is zero or the quotient is out of range.
     final fn checked_div(self, rhs: Self) -> Option<Self>
-        ensures exact { SomeIff (option_map Self.number result)
-            ((Self.number rhs ≢ pos 0) × InRange Self.IS_SIGNED Self.BITS (int_div (Self.number self) (Self.number rhs)))
-            (int_div (Self.number self) (Self.number rhs)) }
-        ensures itself { Self.number rhs ≢ pos 0 → Self.number self ≡ Self.number rhs → int_div (Self.number self) (Self.number rhs) ≡ pos 1 }
+        ensures exact { let quotient = int_div (Self.number self) (Self.number rhs) in
+            let fits = InRange Self.IS_SIGNED Self.BITS quotient in
+            SomeIff (option_map Self.number result) ((Self.number rhs ≢ pos 0) × fits) quotient }
+        ensures itself { let quotient = int_div (Self.number self) (Self.number rhs) in
+            Self.number rhs ≢ pos 0 → Self.number self ≡ Self.number rhs → quotient ≡ pos 1 }
     {
         match checked::div(self.to_storage(), rhs.to_storage(), Self::BITS) {
             Some(quotient) => Some(Self::from_storage(quotient)),
@@ -251,11 +313,18 @@ pub trait FixedWidthCalls: Numbered + LowBits {
     #[tactic(auto, using(arbitrary_base::proofs::modular::ExactOrCongruent::wrapped))]
     final fn overflowing_div(self, rhs: Self) -> (Self, bool)
         requires { Self.number rhs ≢ pos 0 }
-        ensures value { Self.number result.0 ≡ wrap Self.IS_SIGNED Self.BITS (int_div (Self.number self) (Self.number rhs)) }
-        ensures overflow { IsTrue result.1 ↔ ¬ (InRange Self.IS_SIGNED Self.BITS (int_div (Self.number self) (Self.number rhs))) }
-        ensures exact { InRange Self.IS_SIGNED Self.BITS (int_div (Self.number self) (Self.number rhs)) → Self.number result.0 ≡ int_div (Self.number self) (Self.number rhs) }
-        ensures of_least { Self.number self ≡ lo Self.IS_SIGNED Self.BITS → Self.number rhs ≡ neg_ℤ (pos 1) → Self.number result.0 ≡ Self.number self }
-        ensures itself { InRange Self.IS_SIGNED Self.BITS (pos 1) → Self.number self ≡ Self.number rhs → Self.number result.0 ≡ pos 1 }
+        ensures value { let quotient = int_div (Self.number self) (Self.number rhs) in
+            Self.number result.0 ≡ wrap Self.IS_SIGNED Self.BITS quotient }
+        ensures overflow { let quotient = int_div (Self.number self) (Self.number rhs) in
+            IsTrue result.1 ↔ ¬ (InRange Self.IS_SIGNED Self.BITS quotient) }
+        ensures exact { let quotient = int_div (Self.number self) (Self.number rhs) in
+            InRange Self.IS_SIGNED Self.BITS quotient → Self.number result.0 ≡ quotient }
+        ensures of_least { let number = Self.number in
+            number self ≡ lo Self.IS_SIGNED Self.BITS → number rhs ≡ neg_ℤ (pos 1)
+            → number result.0 ≡ number self }
+        ensures itself { let number = Self.number in
+            InRange Self.IS_SIGNED Self.BITS (pos 1) → number self ≡ number rhs
+            → number result.0 ≡ pos 1 }
     {
         let (quotient, overflow) = overflowing::div(
             self.to_storage(),
@@ -268,10 +337,16 @@ pub trait FixedWidthCalls: Numbered + LowBits {
     /// `self` to the power `exp`, or the end of the range that is nearest to it. 0 to the power 0 is 1.
     #[tactic(auto, using(arbitrary_base::proofs::storages::Clamp::clamped))]
     final fn saturating_pow(self, exp: u32) -> Self
-        ensures value { Self.number result ≡ clamp Self.IS_SIGNED Self.BITS (int_pow (Self.number self) exp) }
-        ensures exact { InRange Self.IS_SIGNED Self.BITS (int_pow (Self.number self) exp) → Self.number result ≡ int_pow (Self.number self) exp }
-        ensures above { hi Self.IS_SIGNED Self.BITS <ℤ (int_pow (Self.number self) exp) → Self.number result ≡ hi Self.IS_SIGNED Self.BITS }
-        ensures below { (int_pow (Self.number self) exp) <ℤ lo Self.IS_SIGNED Self.BITS → Self.number result ≡ lo Self.IS_SIGNED Self.BITS }
+        ensures value { let power = int_pow (Self.number self) exp in
+            Self.number result ≡ clamp Self.IS_SIGNED Self.BITS power }
+        ensures exact { let power = int_pow (Self.number self) exp in
+            InRange Self.IS_SIGNED Self.BITS power → Self.number result ≡ power }
+        ensures above { let power = int_pow (Self.number self) exp in
+            let highest = hi Self.IS_SIGNED Self.BITS in
+            highest <ℤ power → Self.number result ≡ highest }
+        ensures below { let power = int_pow (Self.number self) exp in
+            let lowest = lo Self.IS_SIGNED Self.BITS in
+            power <ℤ lowest → Self.number result ≡ lowest }
         ensures range { InRange Self.IS_SIGNED Self.BITS (Self.number self) }
         ensures bounded { InRange Self.IS_SIGNED Self.BITS (Self.number result) }
         ensures first { exp ≡ 1 → Self.number result ≡ Self.number self }
@@ -285,12 +360,18 @@ pub trait FixedWidthCalls: Numbered + LowBits {
     /// digit of `exp`, so at most 64.
     #[tactic(auto, using(arbitrary_base::proofs::storages::Clamp::clamped))]
     final fn saturating_pow_counted(self, exp: u32) -> (Self, u32)
-        ensures value { Self.number result.0 ≡ clamp Self.IS_SIGNED Self.BITS (int_pow (Self.number self) exp) }
+        ensures value { let power = int_pow (Self.number self) exp in
+            Self.number result.0 ≡ clamp Self.IS_SIGNED Self.BITS power }
         ensures count { result.1 ≤ 2 * length (digits_of 2 exp) }
         ensures bound { result.1 ≤ 64 }
-        ensures exact { InRange Self.IS_SIGNED Self.BITS (int_pow (Self.number self) exp) → Self.number result.0 ≡ int_pow (Self.number self) exp }
-        ensures above { hi Self.IS_SIGNED Self.BITS <ℤ (int_pow (Self.number self) exp) → Self.number result.0 ≡ hi Self.IS_SIGNED Self.BITS }
-        ensures below { (int_pow (Self.number self) exp) <ℤ lo Self.IS_SIGNED Self.BITS → Self.number result.0 ≡ lo Self.IS_SIGNED Self.BITS }
+        ensures exact { let power = int_pow (Self.number self) exp in
+            InRange Self.IS_SIGNED Self.BITS power → Self.number result.0 ≡ power }
+        ensures above { let power = int_pow (Self.number self) exp in
+            let highest = hi Self.IS_SIGNED Self.BITS in
+            highest <ℤ power → Self.number result.0 ≡ highest }
+        ensures below { let power = int_pow (Self.number self) exp in
+            let lowest = lo Self.IS_SIGNED Self.BITS in
+            power <ℤ lowest → Self.number result.0 ≡ lowest }
         ensures range { InRange Self.IS_SIGNED Self.BITS (Self.number self) }
         ensures bounded { InRange Self.IS_SIGNED Self.BITS (Self.number result.0) }
         ensures first { exp ≡ 1 → Self.number result.0 ≡ Self.number self }
@@ -303,11 +384,20 @@ pub trait FixedWidthCalls: Numbered + LowBits {
 
     /// The bits moved `amount` modulo `BITS` places toward the high end: zeros come in below, and what passes the end is lost.
     final fn wrapping_shl(self, amount: u32) -> Self
-        ensures operation { Self.number result ≡ shifted_left Self.IS_SIGNED Self.BITS (Self.number self) (amount % Self.BITS) }
-        ensures value { (y : ℤ) → Self.number self ≡ y → Self.number result ≡ val Self.IS_SIGNED (shl (bits Self.BITS y) (amount % Self.BITS)) }
-        ensures plain { Self.IS_SIGNED ≡ false → Self.number result ≡ pos (unsigned_abs (Self.number self) * 2 ^ (amount % Self.BITS) % 2 ^ Self.BITS) }
-        ensures exact { InRange Self.IS_SIGNED Self.BITS (Self.number self *ℤ pos (2 ^ (amount % Self.BITS))) → Self.number result ≡ Self.number self *ℤ pos (2 ^ (amount % Self.BITS)) }
-        ensures congruent { (y : ℤ) → y ≡ Self.number self *ℤ pos (2 ^ (amount % Self.BITS)) → Congruent Self.BITS (Self.number result) y }
+        ensures operation { let number = Self.number in let places = amount % Self.BITS in
+            number result ≡ shifted_left Self.IS_SIGNED Self.BITS (number self) places }
+        ensures value { let places = amount % Self.BITS in
+            (y : ℤ) → Self.number self ≡ y → let list = bits Self.BITS y in
+            Self.number result ≡ val Self.IS_SIGNED (shl list places) }
+        ensures plain { let places = amount % Self.BITS in
+            let product = unsigned_abs (Self.number self) * 2 ^ places in
+            Self.IS_SIGNED ≡ false → Self.number result ≡ pos (product % 2 ^ Self.BITS) }
+        ensures exact { let places = amount % Self.BITS in
+            let product = Self.number self *ℤ pos (2 ^ places) in
+            InRange Self.IS_SIGNED Self.BITS product → Self.number result ≡ product }
+        ensures congruent { let places = amount % Self.BITS in
+            let product = Self.number self *ℤ pos (2 ^ places) in
+            (y : ℤ) → y ≡ product → Congruent Self.BITS (Self.number result) y }
         ensures none { amount % Self.BITS ≡ 0 → Self.number result ≡ Self.number self }
         ensures operand { InRange Self.IS_SIGNED Self.BITS (Self.number self) }
     {
@@ -319,10 +409,15 @@ pub trait FixedWidthCalls: Numbered + LowBits {
     /// or more.
     final fn checked_shl(self, amount: u32) -> Option<Self>
         ensures refused { IsNone result ↔ (Self.BITS ≤ amount) }
-        ensures operation { IfSome result (λ r. Self.number r ≡ shifted_left Self.IS_SIGNED Self.BITS (Self.number self) amount) }
-        ensures value { IfSome result (λ r. Self.number r ≡ val Self.IS_SIGNED (shl (bits Self.BITS (Self.number self)) amount)) }
-        ensures plain { Self.IS_SIGNED ≡ false → IfSome result (λ r. Self.number r ≡ pos (unsigned_abs (Self.number self) * 2 ^ amount % 2 ^ Self.BITS)) }
-        ensures congruent { IfSome result (λ r. Congruent Self.BITS (Self.number r) (Self.number self *ℤ pos (2 ^ amount))) }
+        ensures operation { let number = Self.number in IfSome result
+            (λ r. number r ≡ shifted_left Self.IS_SIGNED Self.BITS (number self) amount) }
+        ensures value { let list = bits Self.BITS (Self.number self) in IfSome result
+            (λ r. Self.number r ≡ val Self.IS_SIGNED (shl list amount)) }
+        ensures plain { let product = unsigned_abs (Self.number self) * 2 ^ amount in
+            Self.IS_SIGNED ≡ false
+            → IfSome result (λ r. Self.number r ≡ pos (product % 2 ^ Self.BITS)) }
+        ensures congruent { let product = Self.number self *ℤ pos (2 ^ amount) in
+            IfSome result (λ r. Congruent Self.BITS (Self.number r) product) }
         ensures none { amount ≡ 0 → IfSome result (λ r. Self.number r ≡ Self.number self) }
     {
         if (amount as usize) < Self::BITS {
@@ -334,11 +429,18 @@ pub trait FixedWidthCalls: Numbered + LowBits {
 
     /// `wrapping_shl`, and whether `amount` is `BITS` or more.
     final fn overflowing_shl(self, amount: u32) -> (Self, bool)
-        ensures operation { Self.number result.0 ≡ shifted_left Self.IS_SIGNED Self.BITS (Self.number self) (amount % Self.BITS) }
-        ensures value { Self.number result.0 ≡ val Self.IS_SIGNED (shl (bits Self.BITS (Self.number self)) (amount % Self.BITS)) }
+        ensures operation { let number = Self.number in let places = amount % Self.BITS in
+            number result.0 ≡ shifted_left Self.IS_SIGNED Self.BITS (number self) places }
+        ensures value { let places = amount % Self.BITS in
+            let list = bits Self.BITS (Self.number self) in
+            Self.number result.0 ≡ val Self.IS_SIGNED (shl list places) }
         ensures overflow { IsTrue result.1 ↔ (Self.BITS ≤ amount) }
-        ensures plain { Self.IS_SIGNED ≡ false → Self.number result.0 ≡ pos (unsigned_abs (Self.number self) * 2 ^ (amount % Self.BITS) % 2 ^ Self.BITS) }
-        ensures congruent { Congruent Self.BITS (Self.number result.0) (Self.number self *ℤ pos (2 ^ (amount % Self.BITS))) }
+        ensures plain { let places = amount % Self.BITS in
+            let product = unsigned_abs (Self.number self) * 2 ^ places in
+            Self.IS_SIGNED ≡ false → Self.number result.0 ≡ pos (product % 2 ^ Self.BITS) }
+        ensures congruent { let places = amount % Self.BITS in
+            let product = Self.number self *ℤ pos (2 ^ places) in
+            Congruent Self.BITS (Self.number result.0) product }
         ensures none { amount % Self.BITS ≡ 0 → Self.number result.0 ≡ Self.number self }
     {
         (self.wrapping_shl(amount), amount as usize >= Self::BITS)
@@ -346,12 +448,19 @@ pub trait FixedWidthCalls: Numbered + LowBits {
 
     /// The bits moved `amount` modulo `BITS` places toward the low end: copies of the sign come in above, or zeros where the type has none.
     final fn wrapping_shr(self, amount: u32) -> Self
-        ensures operation { Self.number result ≡ shifted_right Self.IS_SIGNED Self.BITS (Self.number self) (amount % Self.BITS) }
-        ensures value { (y : ℤ) → Self.number self ≡ y → Self.number result ≡ val Self.IS_SIGNED (shr (bits Self.BITS y) (amount % Self.BITS) (fill Self.IS_SIGNED (bits Self.BITS y))) }
-        ensures quotient { Self.IS_SIGNED ≡ false → Self.number result ≡ int_div (Self.number self) (pos (2 ^ (amount % Self.BITS))) }
+        ensures operation { let number = Self.number in let places = amount % Self.BITS in
+            number result ≡ shifted_right Self.IS_SIGNED Self.BITS (number self) places }
+        ensures value { let places = amount % Self.BITS in
+            (y : ℤ) → Self.number self ≡ y → let list = bits Self.BITS y in
+            Self.number result ≡ val Self.IS_SIGNED (shr list places (fill Self.IS_SIGNED list)) }
+        ensures quotient { let places = amount % Self.BITS in
+            let quotient = int_div (Self.number self) (pos (2 ^ places)) in
+            Self.IS_SIGNED ≡ false → Self.number result ≡ quotient }
         ensures low { (Self.number result *ℤ pos (2 ^ (amount % Self.BITS))) ≤ℤ Self.number self }
-        ensures high { (y : ℤ) → Self.number self ≡ y → y <ℤ (Self.number result *ℤ pos (2 ^ (amount % Self.BITS)) +ℤ pos (2 ^ (amount % Self.BITS))) }
-        ensures range { InRange Self.IS_SIGNED (Self.BITS - (amount % Self.BITS)) (Self.number result) }
+        ensures high { let places = amount % Self.BITS in let power = pos (2 ^ places) in
+            (y : ℤ) → Self.number self ≡ y → y <ℤ (Self.number result *ℤ power +ℤ power) }
+        ensures range { let places = amount % Self.BITS in
+            InRange Self.IS_SIGNED (Self.BITS - places) (Self.number result) }
         ensures none { amount % Self.BITS ≡ 0 → Self.number result ≡ Self.number self }
         ensures operand { InRange Self.IS_SIGNED Self.BITS (Self.number self) }
     {
@@ -363,12 +472,17 @@ pub trait FixedWidthCalls: Numbered + LowBits {
     /// or more.
     final fn checked_shr(self, amount: u32) -> Option<Self>
         ensures refused { IsNone result ↔ (Self.BITS ≤ amount) }
-        ensures operation { IfSome result (λ r. Self.number r ≡ shifted_right Self.IS_SIGNED Self.BITS (Self.number self) amount) }
-        ensures value { IfSome result (λ r. Self.number r ≡ val Self.IS_SIGNED (shr (bits Self.BITS (Self.number self)) amount (fill Self.IS_SIGNED (bits Self.BITS (Self.number self))))) }
-        ensures quotient { Self.IS_SIGNED ≡ false → IfSome result (λ r. Self.number r ≡ int_div (Self.number self) (pos (2 ^ amount))) }
+        ensures operation { let number = Self.number in IfSome result
+            (λ r. number r ≡ shifted_right Self.IS_SIGNED Self.BITS (number self) amount) }
+        ensures value { let list = bits Self.BITS (Self.number self) in IfSome result
+            (λ r. Self.number r ≡ val Self.IS_SIGNED (shr list amount (fill Self.IS_SIGNED list))) }
+        ensures quotient { let quotient = int_div (Self.number self) (pos (2 ^ amount)) in
+            Self.IS_SIGNED ≡ false → IfSome result (λ r. Self.number r ≡ quotient) }
         ensures low { IfSome result (λ r. (Self.number r *ℤ pos (2 ^ amount)) ≤ℤ Self.number self) }
-        ensures high { IfSome result (λ r. Self.number self <ℤ (Self.number r *ℤ pos (2 ^ amount) +ℤ pos (2 ^ amount))) }
-        ensures range { IfSome result (λ r. InRange Self.IS_SIGNED (Self.BITS - amount) (Self.number r)) }
+        ensures high { let power = pos (2 ^ amount) in
+            IfSome result (λ r. Self.number self <ℤ (Self.number r *ℤ power +ℤ power)) }
+        ensures range { let number = Self.number in
+            IfSome result (λ r. InRange Self.IS_SIGNED (Self.BITS - amount) (number r)) }
         ensures none { amount ≡ 0 → IfSome result (λ r. Self.number r ≡ Self.number self) }
     {
         if (amount as usize) < Self::BITS {
@@ -380,13 +494,20 @@ pub trait FixedWidthCalls: Numbered + LowBits {
 
     /// `wrapping_shr`, and whether `amount` is `BITS` or more.
     final fn overflowing_shr(self, amount: u32) -> (Self, bool)
-        ensures operation { Self.number result.0 ≡ shifted_right Self.IS_SIGNED Self.BITS (Self.number self) (amount % Self.BITS) }
-        ensures value { Self.number result.0 ≡ val Self.IS_SIGNED (shr (bits Self.BITS (Self.number self)) (amount % Self.BITS) (fill Self.IS_SIGNED (bits Self.BITS (Self.number self)))) }
+        ensures operation { let number = Self.number in let places = amount % Self.BITS in
+            number result.0 ≡ shifted_right Self.IS_SIGNED Self.BITS (number self) places }
+        ensures value { let places = amount % Self.BITS in
+            let list = bits Self.BITS (Self.number self) in
+            Self.number result.0 ≡ val Self.IS_SIGNED (shr list places (fill Self.IS_SIGNED list)) }
         ensures overflow { IsTrue result.1 ↔ (Self.BITS ≤ amount) }
-        ensures quotient { Self.IS_SIGNED ≡ false → Self.number result.0 ≡ int_div (Self.number self) (pos (2 ^ (amount % Self.BITS))) }
+        ensures quotient { let places = amount % Self.BITS in
+            let quotient = int_div (Self.number self) (pos (2 ^ places)) in
+            Self.IS_SIGNED ≡ false → Self.number result.0 ≡ quotient }
         ensures low { (Self.number result.0 *ℤ pos (2 ^ (amount % Self.BITS))) ≤ℤ Self.number self }
-        ensures high { Self.number self <ℤ (Self.number result.0 *ℤ pos (2 ^ (amount % Self.BITS)) +ℤ pos (2 ^ (amount % Self.BITS))) }
-        ensures range { InRange Self.IS_SIGNED (Self.BITS - (amount % Self.BITS)) (Self.number result.0) }
+        ensures high { let places = amount % Self.BITS in let power = pos (2 ^ places) in
+            Self.number self <ℤ (Self.number result.0 *ℤ power +ℤ power) }
+        ensures range { let places = amount % Self.BITS in
+            InRange Self.IS_SIGNED (Self.BITS - places) (Self.number result.0) }
         ensures none { amount % Self.BITS ≡ 0 → Self.number result.0 ≡ Self.number self }
     {
         (self.wrapping_shr(amount), amount as usize >= Self::BITS)
@@ -395,9 +516,13 @@ pub trait FixedWidthCalls: Numbered + LowBits {
     /// The bits moved `amount` modulo `BITS` places toward the high end. What passes the end comes back
     /// below.
     final fn rotate_left(self, amount: u32) -> Self
-        ensures operation { Self.number result ≡ rotated_left Self.IS_SIGNED Self.BITS (Self.number self) (amount % Self.BITS) }
-        ensures value { (y : ℤ) → Self.number self ≡ y → Self.number result ≡ val Self.IS_SIGNED (slice_rotate_right (bits Self.BITS y) (amount % Self.BITS)) }
-        ensures undo { rotated_right Self.IS_SIGNED Self.BITS (Self.number result) (amount % Self.BITS) ≡ Self.number self }
+        ensures operation { let number = Self.number in let places = amount % Self.BITS in
+            number result ≡ rotated_left Self.IS_SIGNED Self.BITS (number self) places }
+        ensures value { let places = amount % Self.BITS in
+            (y : ℤ) → Self.number self ≡ y → let list = bits Self.BITS y in
+            Self.number result ≡ val Self.IS_SIGNED (slice_rotate_right list places) }
+        ensures undo { let number = Self.number in let places = amount % Self.BITS in
+            rotated_right Self.IS_SIGNED Self.BITS (number result) places ≡ number self }
         ensures round { amount % Self.BITS ≡ 0 → Self.number result ≡ Self.number self }
         ensures range { InRange Self.IS_SIGNED Self.BITS (Self.number self) }
     {
@@ -407,9 +532,13 @@ pub trait FixedWidthCalls: Numbered + LowBits {
     /// The bits moved `amount` modulo `BITS` places toward the low end. What passes the end comes back
     /// above.
     final fn rotate_right(self, amount: u32) -> Self
-        ensures operation { Self.number result ≡ rotated_right Self.IS_SIGNED Self.BITS (Self.number self) (amount % Self.BITS) }
-        ensures value { (y : ℤ) → Self.number self ≡ y → Self.number result ≡ val Self.IS_SIGNED (rotr (bits Self.BITS y) (amount % Self.BITS)) }
-        ensures undo { rotated_left Self.IS_SIGNED Self.BITS (Self.number result) (amount % Self.BITS) ≡ Self.number self }
+        ensures operation { let number = Self.number in let places = amount % Self.BITS in
+            number result ≡ rotated_right Self.IS_SIGNED Self.BITS (number self) places }
+        ensures value { let places = amount % Self.BITS in
+            (y : ℤ) → Self.number self ≡ y → let list = bits Self.BITS y in
+            Self.number result ≡ val Self.IS_SIGNED (rotr list places) }
+        ensures undo { let number = Self.number in let places = amount % Self.BITS in
+            rotated_left Self.IS_SIGNED Self.BITS (number result) places ≡ number self }
         ensures round { amount % Self.BITS ≡ 0 → Self.number result ≡ Self.number self }
         ensures range { InRange Self.IS_SIGNED Self.BITS (Self.number self) }
     {
@@ -418,8 +547,10 @@ pub trait FixedWidthCalls: Numbered + LowBits {
 
     /// The bits from the high end to the low one.
     final fn reverse_bits(self) -> Self
-        ensures operation { Self.number result ≡ reversed Self.IS_SIGNED Self.BITS (Self.number self) }
-        ensures value { (y : ℤ) → Self.number self ≡ y → Self.number result ≡ val Self.IS_SIGNED (reverse (bits Self.BITS y)) }
+        ensures operation { let number = Self.number in
+            number result ≡ reversed Self.IS_SIGNED Self.BITS (number self) }
+        ensures value { (y : ℤ) → Self.number self ≡ y → let list = bits Self.BITS y in
+            Self.number result ≡ val Self.IS_SIGNED (reverse list) }
         ensures undo { reversed Self.IS_SIGNED Self.BITS (Self.number result) ≡ Self.number self }
         ensures range { InRange Self.IS_SIGNED Self.BITS (Self.number self) }
     {
@@ -430,13 +561,15 @@ pub trait FixedWidthCalls: Numbered + LowBits {
     #[tactic(auto, using(arbitrary_base::proofs::bit_lists::ResultOfPattern::count_laws, arbitrary_base::proofs::operations::ZeroRunBounds::ones_bounds, arbitrary_base::proofs::operations::OneRunBounds::ones_ends))]
     final fn count_ones(self) -> u32
         ensures value { result ≡ count_by (λ b. b) (bits Self.BITS (Self.number self)) }
-        ensures plain { Self.IS_SIGNED ≡ false → result ≡ count_ones (unsigned_abs (Self.number self)) }
+        ensures plain { let number = Self.number self in
+            Self.IS_SIGNED ≡ false → result ≡ count_ones (unsigned_abs number) }
         ensures bound { result ≤ Self.BITS }
         ensures none { Self.number self ≡ pos 0 → result ≡ 0 }
         ensures some { Self.number self ≢ pos 0 → 1 ≤ result }
         ensures highest { Self.number self ≡ pos (2 ^ Self.BITS) -ℤ pos 1 → result ≡ Self.BITS }
         ensures minus_one { Self.number self ≡ neg_ℤ (pos 1) → result ≡ Self.BITS }
-        ensures found { Self.number self ≢ pos (2 ^ Self.BITS) -ℤ pos 1 → Self.number self ≢ neg_ℤ (pos 1) → result < Self.BITS }
+        ensures found { let number = Self.number self in
+            number ≢ pos (2 ^ Self.BITS) -ℤ pos 1 → number ≢ neg_ℤ (pos 1) → result < Self.BITS }
     {
         patterns::count_ones(self.low_bits(), Self::BITS)
     }
@@ -445,13 +578,15 @@ pub trait FixedWidthCalls: Numbered + LowBits {
     #[tactic(auto, using(arbitrary_base::proofs::bit_lists::ResultOfPattern::count_laws, arbitrary_base::proofs::operations::OneRunBounds::zeros_ends))]
     final fn count_zeros(self) -> u32
         ensures value { result ≡ Self.BITS - count_by (λ b. b) (bits Self.BITS (Self.number self)) }
-        ensures plain { Self.IS_SIGNED ≡ false → result + count_ones (unsigned_abs (Self.number self)) ≡ Self.BITS }
+        ensures plain { let number = Self.number self in
+            Self.IS_SIGNED ≡ false → result + count_ones (unsigned_abs number) ≡ Self.BITS }
         ensures bound { result ≤ Self.BITS }
         ensures none { Self.number self ≡ pos 0 → result ≡ Self.BITS }
         ensures found { Self.number self ≢ pos 0 → result < Self.BITS }
         ensures highest { Self.number self ≡ pos (2 ^ Self.BITS) -ℤ pos 1 → result ≡ 0 }
         ensures minus_one { Self.number self ≡ neg_ℤ (pos 1) → result ≡ 0 }
-        ensures some { Self.number self ≢ pos (2 ^ Self.BITS) -ℤ pos 1 → Self.number self ≢ neg_ℤ (pos 1) → 1 ≤ result }
+        ensures some { let number = Self.number self in
+            number ≢ pos (2 ^ Self.BITS) -ℤ pos 1 → number ≢ neg_ℤ (pos 1) → 1 ≤ result }
     {
         let pattern = self.low_bits();
         Self::BITS as u32 - patterns::count_ones(pattern, Self::BITS)
@@ -464,8 +599,10 @@ pub trait FixedWidthCalls: Numbered + LowBits {
         ensures bound { result ≤ Self.BITS }
         ensures highest { Self.number self ≡ pos (2 ^ Self.BITS) -ℤ pos 1 → result ≡ Self.BITS }
         ensures minus_one { Self.number self ≡ neg_ℤ (pos 1) → result ≡ Self.BITS }
-        ensures found { Self.number self ≢ pos (2 ^ Self.BITS) -ℤ pos 1 → Self.number self ≢ neg_ℤ (pos 1) → result < Self.BITS }
-        ensures none { pos 0 ≤ℤ Self.number self → Self.number self <ℤ pos (2 ^ (Self.BITS - 1)) → result ≡ 0 }
+        ensures found { let number = Self.number self in
+            number ≢ pos (2 ^ Self.BITS) -ℤ pos 1 → number ≢ neg_ℤ (pos 1) → result < Self.BITS }
+        ensures none { let number = Self.number self in
+            pos 0 ≤ℤ number → number <ℤ pos (2 ^ (Self.BITS - 1)) → result ≡ 0 }
         ensures some { pos (2 ^ (Self.BITS - 1)) ≤ℤ Self.number self → 1 ≤ result }
         ensures negative { Self.number self <ℤ pos 0 → 1 ≤ result }
         ensures within { result ≤ count_by (λ b. b) (bits Self.BITS (Self.number self)) }
@@ -481,11 +618,15 @@ pub trait FixedWidthCalls: Numbered + LowBits {
         ensures none { Self.number self ≡ pos 0 → result ≡ Self.BITS }
         ensures found { Self.number self ≢ pos 0 → result < Self.BITS }
         ensures negative { Self.number self <ℤ pos 0 → result ≡ 0 }
-        ensures low { pos 0 <ℤ Self.number self → pos (2 ^ (Self.BITS - 1 - result)) ≤ℤ Self.number self }
-        ensures high { pos 0 ≤ℤ Self.number self → Self.number self <ℤ pos (2 ^ (Self.BITS - result)) }
+        ensures low { let number = Self.number self in
+            pos 0 <ℤ number → pos (2 ^ (Self.BITS - 1 - result)) ≤ℤ number }
+        ensures high { let number = Self.number self in
+            pos 0 ≤ℤ number → number <ℤ pos (2 ^ (Self.BITS - result)) }
         ensures highest_set { pos (2 ^ (Self.BITS - 1)) ≤ℤ Self.number self → result ≡ 0 }
-        ensures highest_clear { pos 0 ≤ℤ Self.number self → Self.number self <ℤ pos (2 ^ (Self.BITS - 1)) → 1 ≤ result }
-        ensures beside { result + count_by (λ b. b) (bits Self.BITS (Self.number self)) ≤ Self.BITS }
+        ensures highest_clear { let number = Self.number self in
+            pos 0 ≤ℤ number → number <ℤ pos (2 ^ (Self.BITS - 1)) → 1 ≤ result }
+        ensures beside { let list = bits Self.BITS (Self.number self) in
+            result + count_by (λ b. b) list ≤ Self.BITS }
     {
         patterns::leading_zeros(masked(self.low_bits(), Self::BITS), Self::BITS)
     }
@@ -497,7 +638,8 @@ pub trait FixedWidthCalls: Numbered + LowBits {
         ensures bound { result ≤ Self.BITS }
         ensures highest { Self.number self ≡ pos (2 ^ Self.BITS) -ℤ pos 1 → result ≡ Self.BITS }
         ensures minus_one { Self.number self ≡ neg_ℤ (pos 1) → result ≡ Self.BITS }
-        ensures found { Self.number self ≢ pos (2 ^ Self.BITS) -ℤ pos 1 → Self.number self ≢ neg_ℤ (pos 1) → result < Self.BITS }
+        ensures found { let number = Self.number self in
+            number ≢ pos (2 ^ Self.BITS) -ℤ pos 1 → number ≢ neg_ℤ (pos 1) → result < Self.BITS }
         ensures none { Congruent 1 (Self.number self) (pos 0) → result ≡ 0 }
         ensures some { Congruent 1 (Self.number self) (pos 1) → 1 ≤ result }
         ensures lowest { (result ≡ 0) ↔ (unsigned_abs (Self.number self) % 2 ≡ 0) }
@@ -514,11 +656,13 @@ pub trait FixedWidthCalls: Numbered + LowBits {
         ensures none { Self.number self ≡ pos 0 → result ≡ Self.BITS }
         ensures found { Self.number self ≢ pos 0 → result < Self.BITS }
         ensures low { Congruent result (Self.number self) (pos 0) }
-        ensures one { Self.number self ≢ pos 0 → Congruent (result + 1) (Self.number self) (pos (2 ^ result)) }
+        ensures one { let number = Self.number self in
+            number ≢ pos 0 → Congruent (result + 1) number (pos (2 ^ result)) }
         ensures odd { Congruent 1 (Self.number self) (pos 1) → result ≡ 0 }
         ensures even { Congruent 1 (Self.number self) (pos 0) → 1 ≤ result }
         ensures lowest { (result ≡ 0) ↔ (unsigned_abs (Self.number self) % 2 ≡ 1) }
-        ensures beside { result + count_by (λ b. b) (bits Self.BITS (Self.number self)) ≤ Self.BITS }
+        ensures beside { let list = bits Self.BITS (Self.number self) in
+            result + count_by (λ b. b) list ≤ Self.BITS }
     {
         patterns::trailing_zeros(self.low_bits(), Self::BITS)
     }

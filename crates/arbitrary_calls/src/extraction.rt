@@ -17,9 +17,11 @@ pub trait Extraction: FixedWidthCalls {
         requires within { start_bit + Self.BITS ≤ 8 }
         ensures value { Self.number result
             ≡ val Self.IS_SIGNED (take Self.BITS (drop start_bit (bits 8 (pos value)))) }
-        ensures plain { Self.IS_SIGNED ≡ false → Self.number result ≡ pos (value / 2 ^ start_bit % 2 ^ Self.BITS) }
+        ensures plain { let quotient = value / 2 ^ start_bit in
+            Self.IS_SIGNED ≡ false → Self.number result ≡ pos (quotient % 2 ^ Self.BITS) }
         ensures congruent { Congruent Self.BITS (Self.number result) (pos (value / 2 ^ start_bit)) }
-        ensures wrapped { Self.number result ≡ wrap Self.IS_SIGNED Self.BITS (field value start_bit Self.BITS) }
+        ensures wrapped { let taken = field value start_bit Self.BITS in
+            Self.number result ≡ wrap Self.IS_SIGNED Self.BITS taken }
     {
         Self::from_storage(extraction::extract(value, start_bit, Self::BITS))
     }
@@ -31,9 +33,11 @@ pub trait Extraction: FixedWidthCalls {
         requires within { start_bit + Self.BITS ≤ 16 }
         ensures value { Self.number result
             ≡ val Self.IS_SIGNED (take Self.BITS (drop start_bit (bits 16 (pos value)))) }
-        ensures plain { Self.IS_SIGNED ≡ false → Self.number result ≡ pos (value / 2 ^ start_bit % 2 ^ Self.BITS) }
+        ensures plain { let quotient = value / 2 ^ start_bit in
+            Self.IS_SIGNED ≡ false → Self.number result ≡ pos (quotient % 2 ^ Self.BITS) }
         ensures congruent { Congruent Self.BITS (Self.number result) (pos (value / 2 ^ start_bit)) }
-        ensures wrapped { Self.number result ≡ wrap Self.IS_SIGNED Self.BITS (field value start_bit Self.BITS) }
+        ensures wrapped { let taken = field value start_bit Self.BITS in
+            Self.number result ≡ wrap Self.IS_SIGNED Self.BITS taken }
     {
         Self::from_storage(extraction::extract(value, start_bit, Self::BITS))
     }
@@ -45,9 +49,11 @@ pub trait Extraction: FixedWidthCalls {
         requires within { start_bit + Self.BITS ≤ 32 }
         ensures value { Self.number result
             ≡ val Self.IS_SIGNED (take Self.BITS (drop start_bit (bits 32 (pos value)))) }
-        ensures plain { Self.IS_SIGNED ≡ false → Self.number result ≡ pos (value / 2 ^ start_bit % 2 ^ Self.BITS) }
+        ensures plain { let quotient = value / 2 ^ start_bit in
+            Self.IS_SIGNED ≡ false → Self.number result ≡ pos (quotient % 2 ^ Self.BITS) }
         ensures congruent { Congruent Self.BITS (Self.number result) (pos (value / 2 ^ start_bit)) }
-        ensures wrapped { Self.number result ≡ wrap Self.IS_SIGNED Self.BITS (field value start_bit Self.BITS) }
+        ensures wrapped { let taken = field value start_bit Self.BITS in
+            Self.number result ≡ wrap Self.IS_SIGNED Self.BITS taken }
     {
         Self::from_storage(extraction::extract(value, start_bit, Self::BITS))
     }
@@ -59,9 +65,11 @@ pub trait Extraction: FixedWidthCalls {
         requires within { start_bit + Self.BITS ≤ 64 }
         ensures value { Self.number result
             ≡ val Self.IS_SIGNED (take Self.BITS (drop start_bit (bits 64 (pos value)))) }
-        ensures plain { Self.IS_SIGNED ≡ false → Self.number result ≡ pos (value / 2 ^ start_bit % 2 ^ Self.BITS) }
+        ensures plain { let quotient = value / 2 ^ start_bit in
+            Self.IS_SIGNED ≡ false → Self.number result ≡ pos (quotient % 2 ^ Self.BITS) }
         ensures congruent { Congruent Self.BITS (Self.number result) (pos (value / 2 ^ start_bit)) }
-        ensures wrapped { Self.number result ≡ wrap Self.IS_SIGNED Self.BITS (field value start_bit Self.BITS) }
+        ensures wrapped { let taken = field value start_bit Self.BITS in
+            Self.number result ≡ wrap Self.IS_SIGNED Self.BITS taken }
     {
         Self::from_storage(extraction::extract(value, start_bit, Self::BITS))
     }
@@ -73,9 +81,11 @@ pub trait Extraction: FixedWidthCalls {
         requires within { start_bit + Self.BITS ≤ 128 }
         ensures value { Self.number result
             ≡ val Self.IS_SIGNED (take Self.BITS (drop start_bit (bits 128 (pos value)))) }
-        ensures plain { Self.IS_SIGNED ≡ false → Self.number result ≡ pos (value / 2 ^ start_bit % 2 ^ Self.BITS) }
+        ensures plain { let quotient = value / 2 ^ start_bit in
+            Self.IS_SIGNED ≡ false → Self.number result ≡ pos (quotient % 2 ^ Self.BITS) }
         ensures congruent { Congruent Self.BITS (Self.number result) (pos (value / 2 ^ start_bit)) }
-        ensures wrapped { Self.number result ≡ wrap Self.IS_SIGNED Self.BITS (field value start_bit Self.BITS) }
+        ensures wrapped { let taken = field value start_bit Self.BITS in
+            Self.number result ≡ wrap Self.IS_SIGNED Self.BITS taken }
     {
         Self::from_storage(extraction::extract(value, start_bit, Self::BITS))
     }

@@ -153,7 +153,8 @@ pub trait FixedWidth: Integer + FixedWidthCalls {
     ghost shl_of: { (a : Self) → Amount Self.BITS → Self };
 
     ghost shl_law: { (x : ℤ) (m : ℕ) → Self.valid
-        → shifted_left Self.IS_SIGNED Self.BITS x m ≡ Self.number (shl_of (value_of x) (amount Self.BITS m)) };
+        → shifted_left Self.IS_SIGNED Self.BITS x m
+        ≡ Self.number (shl_of (value_of x) (amount Self.BITS m)) };
 
     ghost shl_fits: { (a : Self) (t : Amount Self.BITS) → fits (shl_of a t) ≡ true };
 
@@ -174,7 +175,8 @@ pub trait FixedWidth: Integer + FixedWidthCalls {
     ghost shr_of: { (a : Self) → Amount Self.BITS → Self };
 
     ghost shr_law: { (x : ℤ) (m : ℕ) → Self.valid
-        → shifted_right Self.IS_SIGNED Self.BITS x m ≡ Self.number (shr_of (value_of x) (amount Self.BITS m)) };
+        → shifted_right Self.IS_SIGNED Self.BITS x m
+        ≡ Self.number (shr_of (value_of x) (amount Self.BITS m)) };
 
     ghost shr_fits: { (a : Self) (t : Amount Self.BITS) → fits (shr_of a t) ≡ true };
 
@@ -199,7 +201,8 @@ pub trait FixedWidth: Integer + FixedWidthCalls {
     ghost rotl_of: { (a : Self) → Amount Self.BITS → Self };
 
     ghost rotl_law: { (x : ℤ) (m : ℕ)
-        → rotated_left Self.IS_SIGNED Self.BITS x m ≡ Self.number (rotl_of (value_of x) (amount Self.BITS m)) };
+        → rotated_left Self.IS_SIGNED Self.BITS x m
+        ≡ Self.number (rotl_of (value_of x) (amount Self.BITS m)) };
 
     ghost rotr_law: { (x : ℤ) (m : ℕ) → rotated_right Self.IS_SIGNED Self.BITS x m
         ≡ Self.number (rotl_of (value_of x) (rest Self.BITS (amount Self.BITS m))) };
@@ -211,8 +214,8 @@ pub trait FixedWidth: Integer + FixedWidthCalls {
     ghost rotl_zero: { (a : Self) (t : Amount Self.BITS) → Self.valid → a ≡ value_of (pos 0)
         → rotl_of a t ≡ a };
 
-    ghost rotl_ones: { (a : Self) (t : Amount Self.BITS) → Self.valid → a ≡ not_of (value_of (pos 0))
-        → rotl_of a t ≡ a };
+    ghost rotl_ones: { (a : Self) (t : Amount Self.BITS) → Self.valid
+        → a ≡ not_of (value_of (pos 0)) → rotl_of a t ≡ a };
 
     ghost no_amount: { (m : ℕ) → m ≡ 0 → amount Self.BITS m ≡ none Self.BITS };
 
@@ -315,7 +318,8 @@ pub trait FixedWidth: Integer + FixedWidthCalls {
     ghost difference_of: { (a b : Self) → Self };
 
     ghost difference_law: { (x y : ℤ)
-        → wrapped_difference Self.IS_SIGNED Self.BITS x y ≡ Self.number (difference_of (value_of x) (value_of y)) };
+        → wrapped_difference Self.IS_SIGNED Self.BITS x y
+        ≡ Self.number (difference_of (value_of x) (value_of y)) };
 
     ghost difference_fits: { (a b : Self) → Self.valid → fits (difference_of a b) ≡ true };
 
@@ -343,8 +347,8 @@ pub trait FixedWidth: Integer + FixedWidthCalls {
     ghost difference_of_ones: { (a b : Self) → Self.valid → b ≡ not_of (value_of (pos 0))
         → difference_of b a ≡ not_of a };
 
-    ghost sum_of_disjoint: { (a b c : Self) → Self.valid → and_of a b ≡ value_of (pos 0) → c ≡ sum_of a b
-        → c ≡ or_of a b };
+    ghost sum_of_disjoint: { (a b c : Self) → Self.valid → and_of a b ≡ value_of (pos 0)
+        → c ≡ sum_of a b → c ≡ or_of a b };
 
     ghost product_of: { (a b : Self) → Self };
 

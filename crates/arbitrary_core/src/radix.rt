@@ -18,7 +18,8 @@ pub mod unsigned;
 pub(crate) fn words<T: Storage>(value: T) -> (u64, u64)
     ensures high { T.WIDTH ≤ 64 → result.0 ≡ 0 }
     ensures low { T.WIDTH ≤ 64 → result.1 ≡ residue T.WIDTH (T.number value) }
-    ensures natural { T.WIDTH ≤ 64 → pos 0 ≤ℤ T.number value → result.1 ≡ unsigned_abs (T.number value) }
+    ensures natural { let number = T.number value in
+        T.WIDTH ≤ 64 → pos 0 ≤ℤ number → result.1 ≡ unsigned_abs number }
 {
     let pattern = value.storage_bits();
     if pattern <= u64::MAX as u128 {
@@ -33,9 +34,11 @@ pub(crate) fn lower_hex<T: Storage, W: fmt::Write>(
     value: T,
     f: &mut fmt::Formatter<W>,
 ) -> fmt::Result
-    ensures pattern { T.WIDTH ≤ 64 → WritesOnOk W.write_str_gives f.old result (digits 16 false (residue T.WIDTH (T.number value))) f.new }
-    ensures natural { T.WIDTH ≤ 64 → pos 0 ≤ℤ T.number value
-        → WritesOnOk W.write_str_gives f.old result (digits 16 false (unsigned_abs (T.number value))) f.new }
+    ensures pattern { let text = digits 16 false (residue T.WIDTH (T.number value)) in
+        T.WIDTH ≤ 64 → WritesOnOk W.write_str_gives f.old result text f.new }
+    ensures natural { let text = digits 16 false (unsigned_abs (T.number value)) in
+        T.WIDTH ≤ 64 → pos 0 ≤ℤ T.number value
+        → WritesOnOk W.write_str_gives f.old result text f.new }
 {
     let (high, low) = words(value);
     if high == 0 {
@@ -50,9 +53,11 @@ pub(crate) fn upper_hex<T: Storage, W: fmt::Write>(
     value: T,
     f: &mut fmt::Formatter<W>,
 ) -> fmt::Result
-    ensures pattern { T.WIDTH ≤ 64 → WritesOnOk W.write_str_gives f.old result (digits 16 true (residue T.WIDTH (T.number value))) f.new }
-    ensures natural { T.WIDTH ≤ 64 → pos 0 ≤ℤ T.number value
-        → WritesOnOk W.write_str_gives f.old result (digits 16 true (unsigned_abs (T.number value))) f.new }
+    ensures pattern { let text = digits 16 true (residue T.WIDTH (T.number value)) in
+        T.WIDTH ≤ 64 → WritesOnOk W.write_str_gives f.old result text f.new }
+    ensures natural { let text = digits 16 true (unsigned_abs (T.number value)) in
+        T.WIDTH ≤ 64 → pos 0 ≤ℤ T.number value
+        → WritesOnOk W.write_str_gives f.old result text f.new }
 {
     let (high, low) = words(value);
     if high == 0 {
@@ -64,9 +69,11 @@ pub(crate) fn upper_hex<T: Storage, W: fmt::Write>(
 
 /// Writes the storage's bits to the base 8.
 pub(crate) fn octal<T: Storage, W: fmt::Write>(value: T, f: &mut fmt::Formatter<W>) -> fmt::Result
-    ensures pattern { T.WIDTH ≤ 64 → WritesOnOk W.write_str_gives f.old result (digits 8 false (residue T.WIDTH (T.number value))) f.new }
-    ensures natural { T.WIDTH ≤ 64 → pos 0 ≤ℤ T.number value
-        → WritesOnOk W.write_str_gives f.old result (digits 8 false (unsigned_abs (T.number value))) f.new }
+    ensures pattern { let text = digits 8 false (residue T.WIDTH (T.number value)) in
+        T.WIDTH ≤ 64 → WritesOnOk W.write_str_gives f.old result text f.new }
+    ensures natural { let text = digits 8 false (unsigned_abs (T.number value)) in
+        T.WIDTH ≤ 64 → pos 0 ≤ℤ T.number value
+        → WritesOnOk W.write_str_gives f.old result text f.new }
 {
     let (high, low) = words(value);
     if high == 0 {
@@ -78,9 +85,11 @@ pub(crate) fn octal<T: Storage, W: fmt::Write>(value: T, f: &mut fmt::Formatter<
 
 /// Writes the storage's bits to the base 2.
 pub(crate) fn binary<T: Storage, W: fmt::Write>(value: T, f: &mut fmt::Formatter<W>) -> fmt::Result
-    ensures pattern { T.WIDTH ≤ 64 → WritesOnOk W.write_str_gives f.old result (digits 2 false (residue T.WIDTH (T.number value))) f.new }
-    ensures natural { T.WIDTH ≤ 64 → pos 0 ≤ℤ T.number value
-        → WritesOnOk W.write_str_gives f.old result (digits 2 false (unsigned_abs (T.number value))) f.new }
+    ensures pattern { let text = digits 2 false (residue T.WIDTH (T.number value)) in
+        T.WIDTH ≤ 64 → WritesOnOk W.write_str_gives f.old result text f.new }
+    ensures natural { let text = digits 2 false (unsigned_abs (T.number value)) in
+        T.WIDTH ≤ 64 → pos 0 ≤ℤ T.number value
+        → WritesOnOk W.write_str_gives f.old result text f.new }
 {
     let (high, low) = words(value);
     if high == 0 {

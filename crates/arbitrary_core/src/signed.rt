@@ -43,12 +43,14 @@ impl<T: SignedStorage, const BITS: usize, U: UnsignedOf<T>> Model for Int<T, BIT
     ghost view = { λ a. wrap T.SIGNED BITS (U.number a.bits) };
 
     // The number is in range, and the bits are its pattern: zeros stand above the width.
-    ghost invariant = { λ a. IsInRange 1 T.WIDTH BITS × InRange T.SIGNED BITS (wrap T.SIGNED BITS (U.number a.bits))
-        × (pos (residue BITS (wrap T.SIGNED BITS (U.number a.bits))) ≡ U.number a.bits) };
+    ghost invariant = { λ a. let number = wrap T.SIGNED BITS (U.number a.bits) in
+        IsInRange 1 T.WIDTH BITS × InRange T.SIGNED BITS number
+        × (pos (residue BITS number) ≡ U.number a.bits) };
 
     ghost inverse = { λ x. record { bits = U.of_number (pos (residue BITS x)); of = record {} } };
 
-    ghost inverse_ok = { λ a h. ap (λ v. record { bits = v; of = a.of }) (ap U.of_number h.2 ∙ U.round_trip_law a.bits) };
+    ghost inverse_ok = { λ a h. let same_bits = ap U.of_number h.2 ∙ U.round_trip_law a.bits in
+        ap (λ v. record { bits = v; of = a.of }) same_bits };
 }
 
 impl<T: SignedStorage, const BITS: usize, U: UnsignedOf<T>> Copy for Int<T, BITS, U> {}
@@ -175,9 +177,9 @@ where
     #[tactic(auto, using(arbitrary_base::proofs::modular::Truncation::patterns))]
     pub fn try_from_bits(bits: T::Unsigned) -> Result<Self, TryNewError>
         requires width { IsInRange 1 T.WIDTH BITS }
-        ensures bits { MatchResult result
-            (λ x. InRange T.Unsigned.SIGNED BITS (T.Unsigned.number bits) × (pos (residue BITS x) ≡ T.Unsigned.number bits))
-            (λ _. ¬ (InRange T.Unsigned.SIGNED BITS (T.Unsigned.number bits))) }
+        ensures bits { let pattern = T.Unsigned.number bits in MatchResult result
+            (λ x. InRange T.Unsigned.SIGNED BITS pattern × (pos (residue BITS x) ≡ pattern))
+            (λ _. ¬ (InRange T.Unsigned.SIGNED BITS pattern)) }
         ensures number { IfOk result (λ x. x ≡ wrap T.SIGNED BITS (T.Unsigned.number bits)) }
         ensures congruent { IfOk result (λ x. Congruent BITS x (T.Unsigned.number bits)) }
     {

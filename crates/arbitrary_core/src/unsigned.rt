@@ -124,8 +124,11 @@ impl<T: UnsignedStorage, const BITS: usize> UInt<T, BITS> {
     pub fn extract(value: T, start_bit: usize) -> Self
         requires width { IsInRange 1 T.WIDTH BITS }
         requires within { start_bit + BITS ≤ T.WIDTH }
-        ensures value { result ≡ val T.SIGNED (take BITS (drop start_bit (bits T.WIDTH (T.number value)))) }
-        ensures plain { InRange T.SIGNED T.WIDTH (T.number value) → result ≡ pos (unsigned_abs (T.number value) / 2 ^ start_bit % 2 ^ BITS) }
+        ensures value { let list = bits T.WIDTH (T.number value) in
+            result ≡ val T.SIGNED (take BITS (drop start_bit list)) }
+        ensures plain { let number = T.number value in
+            let quotient = unsigned_abs number / 2 ^ start_bit in
+            InRange T.SIGNED T.WIDTH number → result ≡ pos (quotient % 2 ^ BITS) }
     {
         UInt::new(extraction::extract(value, start_bit, BITS))
     }

@@ -25,9 +25,13 @@ pub trait BorshSerialize {
     /// Writes the bytes of the value, and nothing else. An error is the writer's own, or `WriteZero` where it
     /// takes nothing; a beginning of the bytes was written then. No call is made after a failed one.
     fn serialize<W: Write>(&self, writer: &mut Watched<W>) -> io::Result<()>
-        ensures all { OnOk result (Appends (W.contents (inner_of writer.old)) (W.contents (inner_of writer.new)) (bytes_of self.now)) }
+        ensures all { let before = W.contents (inner_of writer.old) in
+            let after = W.contents (inner_of writer.new) in
+            OnOk result (Appends before after (bytes_of self.now)) }
         ensures no_failure { OnOk result (NoFailure writer.old writer.new) }
-        ensures begun { OnErr result (AppendsBeginning (W.contents (inner_of writer.old)) (W.contents (inner_of writer.new)) (bytes_of self.now)) }
+        ensures begun { let before = W.contents (inner_of writer.old) in
+            let after = W.contents (inner_of writer.new) in
+            OnErr result (AppendsBeginning before after (bytes_of self.now)) }
         ensures failed { OnErr result (Failure writer.old writer.new) };
 
     /// Puts the bytes of the value at the front of `out`, and tells how many they are. The rest of `out` stays
@@ -56,15 +60,20 @@ pub trait BorshDeserialize: Sized {
     /// then read, and what follows is left. No call is made after a failed one. The width is valid.
     fn deserialize_reader<R: Read>(reader: &mut Watched<R>) -> io::Result<Self>
         requires { readable }
-        ensures taken { IfOk result (λ x. Consumes (R.remaining (inner_of reader.old)) (R.remaining (inner_of reader.new)) (read_bytes x)) }
+        ensures taken { let before = R.remaining (inner_of reader.old) in
+            let after = R.remaining (inner_of reader.new) in
+            IfOk result (λ x. Consumes before after (read_bytes x)) }
         ensures canonical { IfOk result (λ x. canonical (read_bytes x)) }
         ensures no_failure { OnOk result (NoFailure reader.old reader.new) }
-        ensures why { OnErr result (Unreadable canonical (R.remaining (inner_of reader.old)) (R.remaining (inner_of reader.new)) (Failure reader.old reader.new) count) };
+        ensures why { let before = R.remaining (inner_of reader.old) in
+            let after = R.remaining (inner_of reader.new) in OnErr result
+            (Unreadable canonical before after (Failure reader.old reader.new) count) };
 
     /// The value that has these bytes, and `None` exactly where they are not canonical. The width is valid.
     fn from_borsh_bytes(bytes: &[u8]) -> Option<Self>
         requires { readable }
-        ensures { MatchOption result (¬ (canonical bytes.now)) (λ x. canonical bytes.now × (read_bytes x ≡ bytes.now)) };
+        ensures { let is_canonical = canonical bytes.now in
+            MatchOption result (¬ is_canonical) (λ x. is_canonical × (read_bytes x ≡ bytes.now)) };
 }
 
 /// The bytes of the value, at the front of as many as any value has, and how many they are.

@@ -24,9 +24,13 @@ pub trait ByteOrders<const N: usize>: Numbered {
     /// The bytes, the lowest first. Where the type has no sign, they spell the number.
     final fn to_le_bytes(self) -> [u8; N]
         ensures bytes { result ≡ bytes N (Self.number self) }
-        ensures unsigned { Self.IS_SIGNED ≡ false → pos (bytes_number result) ≡ Self.number self }
-        ensures signed { Self.IS_SIGNED ≡ true → Congruent Self.BITS (pos (bytes_number result)) (Self.number self) }
-        ensures plain { Self.IS_SIGNED ≡ false → (i : ℕ) → i < N → get_or result i 0 ≡ unsigned_abs (Self.number self) / 256 ^ i % 256 }
+        ensures unsigned { let spelled = pos (bytes_number result) in
+            Self.IS_SIGNED ≡ false → spelled ≡ Self.number self }
+        ensures signed { let spelled = pos (bytes_number result) in
+            Self.IS_SIGNED ≡ true → Congruent Self.BITS spelled (Self.number self) }
+        ensures plain { let number = Self.number self in
+            Self.IS_SIGNED ≡ false → (i : ℕ) → i < N
+            → get_or result i 0 ≡ unsigned_abs number / 256 ^ i % 256 }
         ensures range { InRange Self.IS_SIGNED Self.BITS (Self.number self) }
     {
         let all = all_bytes(self.to_u128_bits());
@@ -38,9 +42,13 @@ pub trait ByteOrders<const N: usize>: Numbered {
     /// The bytes, the highest first. Where the type has no sign, they spell the number.
     final fn to_be_bytes(self) -> [u8; N]
         ensures bytes { result ≡ reverse (bytes N (Self.number self)) }
-        ensures unsigned { Self.IS_SIGNED ≡ false → pos (bytes_number (reverse result)) ≡ Self.number self }
-        ensures signed { Self.IS_SIGNED ≡ true → Congruent Self.BITS (pos (bytes_number (reverse result))) (Self.number self) }
-        ensures plain { Self.IS_SIGNED ≡ false → (i : ℕ) → i < N → get_or result i 0 ≡ unsigned_abs (Self.number self) / 256 ^ (N - 1 - i) % 256 }
+        ensures unsigned { let spelled = pos (bytes_number (reverse result)) in
+            Self.IS_SIGNED ≡ false → spelled ≡ Self.number self }
+        ensures signed { let spelled = pos (bytes_number (reverse result)) in
+            Self.IS_SIGNED ≡ true → Congruent Self.BITS spelled (Self.number self) }
+        ensures plain { let number = Self.number self in
+            Self.IS_SIGNED ≡ false → (i : ℕ) → i < N
+            → get_or result i 0 ≡ unsigned_abs number / 256 ^ (N - 1 - i) % 256 }
         ensures range { InRange Self.IS_SIGNED Self.BITS (Self.number self) }
     {
         let mut list = self.to_le_bytes();
@@ -51,9 +59,13 @@ pub trait ByteOrders<const N: usize>: Numbered {
     /// The bytes as the machine keeps them: `to_le_bytes`.
     final fn to_ne_bytes(self) -> [u8; N]
         ensures bytes { result ≡ bytes N (Self.number self) }
-        ensures unsigned { Self.IS_SIGNED ≡ false → pos (bytes_number result) ≡ Self.number self }
-        ensures signed { Self.IS_SIGNED ≡ true → Congruent Self.BITS (pos (bytes_number result)) (Self.number self) }
-        ensures plain { Self.IS_SIGNED ≡ false → (i : ℕ) → i < N → get_or result i 0 ≡ unsigned_abs (Self.number self) / 256 ^ i % 256 }
+        ensures unsigned { let spelled = pos (bytes_number result) in
+            Self.IS_SIGNED ≡ false → spelled ≡ Self.number self }
+        ensures signed { let spelled = pos (bytes_number result) in
+            Self.IS_SIGNED ≡ true → Congruent Self.BITS spelled (Self.number self) }
+        ensures plain { let number = Self.number self in
+            Self.IS_SIGNED ≡ false → (i : ℕ) → i < N
+            → get_or result i 0 ≡ unsigned_abs number / 256 ^ i % 256 }
         ensures range { InRange Self.IS_SIGNED Self.BITS (Self.number self) }
     {
         self.to_le_bytes()
@@ -62,10 +74,14 @@ pub trait ByteOrders<const N: usize>: Numbered {
     /// The value that has these bytes, the lowest first.
     final fn from_le_bytes(list: [u8; N]) -> Self
         ensures bytes { bytes N (Self.number result) ≡ list.entry }
-        ensures number { Self.number result ≡ wrap Self.IS_SIGNED Self.BITS (pos (bytes_number list.entry)) }
-        ensures unsigned { Self.IS_SIGNED ≡ false → Self.number result ≡ pos (bytes_number list.entry) }
-        ensures signed { Self.IS_SIGNED ≡ true → Congruent Self.BITS (Self.number result) (pos (bytes_number list.entry)) }
-        ensures only { (x : ℤ) → InRange Self.IS_SIGNED Self.BITS x → bytes N x ≡ list.entry → Self.number result ≡ x }
+        ensures number { let spelled = pos (bytes_number list.entry) in
+            Self.number result ≡ wrap Self.IS_SIGNED Self.BITS spelled }
+        ensures unsigned { let spelled = pos (bytes_number list.entry) in
+            Self.IS_SIGNED ≡ false → Self.number result ≡ spelled }
+        ensures signed { let spelled = pos (bytes_number list.entry) in
+            Self.IS_SIGNED ≡ true → Congruent Self.BITS (Self.number result) spelled }
+        ensures only { (x : ℤ) → let own = bytes N x in
+            InRange Self.IS_SIGNED Self.BITS x → own ≡ list.entry → Self.number result ≡ x }
     {
         Self::from_u128_bits(pattern_of(&list))
     }
@@ -73,10 +89,14 @@ pub trait ByteOrders<const N: usize>: Numbered {
     /// The value that has these bytes, the highest first.
     final fn from_be_bytes(list: [u8; N]) -> Self
         ensures bytes { reverse (bytes N (Self.number result)) ≡ list.entry }
-        ensures number { Self.number result ≡ wrap Self.IS_SIGNED Self.BITS (pos (bytes_number (reverse list.entry))) }
-        ensures unsigned { Self.IS_SIGNED ≡ false → Self.number result ≡ pos (bytes_number (reverse list.entry)) }
-        ensures signed { Self.IS_SIGNED ≡ true → Congruent Self.BITS (Self.number result) (pos (bytes_number (reverse list.entry))) }
-        ensures only { (x : ℤ) → InRange Self.IS_SIGNED Self.BITS x → reverse (bytes N x) ≡ list.entry → Self.number result ≡ x }
+        ensures number { let spelled = pos (bytes_number (reverse list.entry)) in
+            Self.number result ≡ wrap Self.IS_SIGNED Self.BITS spelled }
+        ensures unsigned { let spelled = pos (bytes_number (reverse list.entry)) in
+            Self.IS_SIGNED ≡ false → Self.number result ≡ spelled }
+        ensures signed { let spelled = pos (bytes_number (reverse list.entry)) in
+            Self.IS_SIGNED ≡ true → Congruent Self.BITS (Self.number result) spelled }
+        ensures only { (x : ℤ) → let own = reverse (bytes N x) in
+            InRange Self.IS_SIGNED Self.BITS x → own ≡ list.entry → Self.number result ≡ x }
     {
         let mut turned = list;
         turned.reverse();
@@ -86,10 +106,14 @@ pub trait ByteOrders<const N: usize>: Numbered {
     /// The value that has these bytes as the machine keeps them: `from_le_bytes`.
     final fn from_ne_bytes(list: [u8; N]) -> Self
         ensures bytes { bytes N (Self.number result) ≡ list.entry }
-        ensures number { Self.number result ≡ wrap Self.IS_SIGNED Self.BITS (pos (bytes_number list.entry)) }
-        ensures unsigned { Self.IS_SIGNED ≡ false → Self.number result ≡ pos (bytes_number list.entry) }
-        ensures signed { Self.IS_SIGNED ≡ true → Congruent Self.BITS (Self.number result) (pos (bytes_number list.entry)) }
-        ensures only { (x : ℤ) → InRange Self.IS_SIGNED Self.BITS x → bytes N x ≡ list.entry → Self.number result ≡ x }
+        ensures number { let spelled = pos (bytes_number list.entry) in
+            Self.number result ≡ wrap Self.IS_SIGNED Self.BITS spelled }
+        ensures unsigned { let spelled = pos (bytes_number list.entry) in
+            Self.IS_SIGNED ≡ false → Self.number result ≡ spelled }
+        ensures signed { let spelled = pos (bytes_number list.entry) in
+            Self.IS_SIGNED ≡ true → Congruent Self.BITS (Self.number result) spelled }
+        ensures only { (x : ℤ) → let own = bytes N x in
+            InRange Self.IS_SIGNED Self.BITS x → own ≡ list.entry → Self.number result ≡ x }
     {
         Self::from_le_bytes(list)
     }
@@ -97,7 +121,9 @@ pub trait ByteOrders<const N: usize>: Numbered {
     /// The value that has the same bytes in the other order.
     final fn swap_bytes(self) -> Self
         ensures bytes { bytes N (Self.number result) ≡ reverse (bytes N (Self.number self)) }
-        ensures undo { (y : ℤ) → InRange Self.IS_SIGNED Self.BITS y → bytes N (Self.number self) ≡ reverse (bytes N y) → Self.number result ≡ y }
+        ensures undo { (y : ℤ) → let turned = reverse (bytes N y) in
+            InRange Self.IS_SIGNED Self.BITS y → bytes N (Self.number self) ≡ turned
+            → Self.number result ≡ y }
         ensures range { InRange Self.IS_SIGNED Self.BITS (Self.number self) }
     {
         Self::from_be_bytes(self.to_le_bytes())

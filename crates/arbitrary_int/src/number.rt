@@ -54,9 +54,9 @@ pub trait Number: UnsignedInteger + Integer<UnderlyingType = <Self as Number>::U
     /// The number of `value`, and an error exactly where it is out of range. The width is valid.
     final fn try_new(value: <Self as Number>::UnderlyingType) -> Result<Self, TryNewError>
         requires { Self.valid }
-        ensures { MatchResult result
-            (λ x. InRange Self.IS_SIGNED Self.Numbered.BITS (Self.underlying value) × (Self.number x ≡ Self.underlying value))
-            (λ _. ¬ (InRange Self.IS_SIGNED Self.Numbered.BITS (Self.underlying value))) }
+        ensures { let given = Self.underlying value in MatchResult result
+            (λ x. InRange Self.IS_SIGNED Self.Numbered.BITS given × (Self.number x ≡ given))
+            (λ _. ¬ (InRange Self.IS_SIGNED Self.Numbered.BITS given)) }
     {
         <Self as Integer>::try_new(value)
     }
@@ -82,7 +82,8 @@ pub trait Number: UnsignedInteger + Integer<UnderlyingType = <Self as Number>::U
     /// The truncation of `value` at this width: high bits are dropped. The width is valid.
     final fn masked_new<T: Number>(value: T) -> Self
         requires { Self.valid }
-        ensures value { Self.number result ≡ wrap Self.IS_SIGNED Self.Numbered.BITS (T.number value) }
+        ensures value { let given = T.number value in
+            Self.number result ≡ wrap Self.IS_SIGNED Self.Numbered.BITS given }
         ensures wider { T.Numbered.BITS ≤ Self.Numbered.BITS → Self.number result ≡ T.number value }
     {
         <Self as Numbered>::masked_new(value)

@@ -18,7 +18,9 @@ pub struct ValueRange<V: FixedWidth> {
 
 /// The values from `start` to `end`, none where `start` is greater.
 pub fn range_inclusive<V: FixedWidth>(start: V, end: V) -> ValueRange<V>
-    ensures { left result.done (V.number result.start) (V.number result.end) ≡ numbers (V.number start) (V.number end) }
+    ensures { let number = V.number in
+        left result.done (number result.start) (number result.end)
+        ≡ numbers (number start) (number end) }
 {
     ValueRange {
         start,
@@ -32,7 +34,8 @@ impl<V: FixedWidth> Iterator for ValueRange<V> {
 
     ghost can_next = { λ _. ⊤ };
 
-    ghost next_gives = { YieldsFirstBy V.number (λ r. left r.done (V.number r.start) (V.number r.end)) };
+    ghost next_gives = { let number = V.number in
+        YieldsFirstBy number (λ r. left r.done (number r.start) (number r.end)) };
 
     ghost remaining = { λ r. at_most (length (left r.done (V.number r.start) (V.number r.end))) };
 
@@ -59,7 +62,8 @@ impl<V: FixedWidth> Iterator for ValueRange<V> {
 impl<V: FixedWidth> DoubleEndedIterator for ValueRange<V> {
     ghost can_next_back = { λ _. ⊤ };
 
-    ghost next_back_gives = { YieldsLastBy V.number (λ r. left r.done (V.number r.start) (V.number r.end)) };
+    ghost next_back_gives = { let number = V.number in
+        YieldsLastBy number (λ r. left r.done (number r.start) (number r.end)) };
 
     #[tactic(auto, using(crate::proofs::RangeSteps::last_steps))]
     fn next_back(&mut self) -> Option<V> {

@@ -44,9 +44,9 @@ fn is_zero<R: Integer>(x: R) -> bool
 
 /// The quotient, wrapped, or a stop at a divisor of zero.
 fn wrapping_quotient<R: FixedWidth>(x: R, y: R) -> Result<R, Why>
-    ensures { MatchResult result
-        (λ v. two_meaning R.IS_SIGNED R.BITS TwoOp.WrappingDiv (R.number x) (R.number y) ≡ Ok (R.number v))
-        (λ why. two_meaning R.IS_SIGNED R.BITS TwoOp.WrappingDiv (R.number x) (R.number y) ≡ Err why) }
+    ensures { let meant = two_meaning R.IS_SIGNED R.BITS TwoOp.WrappingDiv in MatchResult result
+        (λ v. meant (R.number x) (R.number y) ≡ Ok (R.number v))
+        (λ why. meant (R.number x) (R.number y) ≡ Err why) }
 {
     if is_zero(y) {
         Err(Why::ZeroDivisor)
@@ -57,9 +57,9 @@ fn wrapping_quotient<R: FixedWidth>(x: R, y: R) -> Result<R, Why>
 
 /// The quotient, clamped, or a stop at a divisor of zero.
 fn saturating_quotient<R: FixedWidth>(x: R, y: R) -> Result<R, Why>
-    ensures { MatchResult result
-        (λ v. two_meaning R.IS_SIGNED R.BITS TwoOp.SaturatingDiv (R.number x) (R.number y) ≡ Ok (R.number v))
-        (λ why. two_meaning R.IS_SIGNED R.BITS TwoOp.SaturatingDiv (R.number x) (R.number y) ≡ Err why) }
+    ensures { let meant = two_meaning R.IS_SIGNED R.BITS TwoOp.SaturatingDiv in MatchResult result
+        (λ v. meant (R.number x) (R.number y) ≡ Ok (R.number v))
+        (λ why. meant (R.number x) (R.number y) ≡ Err why) }
 {
     if is_zero(y) {
         Err(Why::ZeroDivisor)
@@ -173,9 +173,9 @@ fn target(step: &Step) -> usize
 #[tactic(auto, using(crate::proofs::StepLemmas::writes))]
 fn apply<R: FixedWidth>(step: &Step, registers: &mut [R]) -> Result<(), Why>
     requires { StepWithin (length registers.old) step.now }
-    ensures { MatchResult result
-        (λ _. meaning R.IS_SIGNED R.BITS step.now (map R.number registers.old) ≡ Ok (map R.number registers.new))
-        (λ why. (meaning R.IS_SIGNED R.BITS step.now (map R.number registers.old) ≡ Err why) × (registers.new ≡ registers.old)) }
+    ensures { let meant = meaning R.IS_SIGNED R.BITS step.now in MatchResult result
+        (λ _. meant (map R.number registers.old) ≡ Ok (map R.number registers.new))
+        (λ why. (meant (map R.number registers.old) ≡ Err why) × (registers.new ≡ registers.old)) }
 {
     let value = step_result(step, registers)?;
     registers[target(step)] = value;
@@ -193,10 +193,14 @@ fn apply<R: FixedWidth>(step: &Step, registers: &mut [R]) -> Result<(), Why>
 #[tactic(auto, using(crate::proofs::RunLemmas::runs))]
 pub fn run<R: FixedWidth>(steps: &[Step], registers: &mut [R]) -> Result<(), Stop>
     requires { All (StepWithin (length registers.old)) steps.now }
-    ensures registers { map R.number registers.new ≡ (RunOf R.IS_SIGNED R.BITS steps.now (map R.number registers.old)).0 }
-    ensures ending { result ≡ (RunOf R.IS_SIGNED R.BITS steps.now (map R.number registers.old)).1 }
-    ensures wider { All IsCheckedArithmetic steps.now → (s : Bool) (B : ℕ) → RangeWithin R.IS_SIGNED R.BITS s B
-        → RunOf s B (carried_out result steps.now) (map R.number registers.old) ≡ (map R.number registers.new, Ok tt) }
+    ensures registers { let before = map R.number registers.old in
+        map R.number registers.new ≡ (RunOf R.IS_SIGNED R.BITS steps.now before).0 }
+    ensures ending { let before = map R.number registers.old in
+        result ≡ (RunOf R.IS_SIGNED R.BITS steps.now before).1 }
+    ensures wider { let before = map R.number registers.old in
+        let after = map R.number registers.new in
+        All IsCheckedArithmetic steps.now → (s : Bool) (B : ℕ) → RangeWithin R.IS_SIGNED R.BITS s B
+        → RunOf s B (carried_out result steps.now) before ≡ (after, Ok tt) }
 {
     for (at, step) in steps.iter().enumerate() {
         if let Err(why) = apply(step, registers) {

@@ -13,7 +13,8 @@ pub fn try_sum<V: FixedWidth, I: Iterator<Item = V> + Drop>(iter: I) -> Option<V
     requires width { V.valid }
     requires can { I.can_next iter }
     requires ends { IsFinite (I.remaining iter) }
-    ensures { TotalOrNone V.IS_SIGNED V.BITS (λ a b. a +ℤ b) (pos 0) I.next_gives V.number iter result }
+    ensures { let number = V.number in
+        TotalOrNone V.IS_SIGNED V.BITS (λ a b. a +ℤ b) (pos 0) I.next_gives number iter result }
 {
     let mut total = V::zero();
     for item in iter {
@@ -48,7 +49,8 @@ pub fn try_product<V: FixedWidth, I: Iterator<Item = V> + Drop>(iter: I) -> Opti
     requires width { V.valid }
     requires can { I.can_next iter }
     requires ends { IsFinite (I.remaining iter) }
-    ensures { TotalOrNone V.IS_SIGNED V.BITS (λ a b. a *ℤ b) (pos 1) I.next_gives V.number iter result }
+    ensures { let number = V.number in
+        TotalOrNone V.IS_SIGNED V.BITS (λ a b. a *ℤ b) (pos 1) I.next_gives number iter result }
 {
     let mut total = one::<V>()?;
     for item in iter {

@@ -47,11 +47,15 @@ pub fn run_wide<W: FixedWidth, N: FixedWidth>(
 ) -> Result<(), Stop>
     requires well_formed { All (StepWithin (length wide.old)) steps.now }
     requires same_length { length wide.old ≡ length narrow.old }
-    ensures registers { map W.number wide.new ≡ (RunOf W.IS_SIGNED W.BITS steps.now (map W.number wide.old)).0 }
-    ensures ending { result ≡ (RunOf W.IS_SIGNED W.BITS steps.now (map W.number wide.old)).1 }
+    ensures registers { let before = map W.number wide.old in
+        map W.number wide.new ≡ (RunOf W.IS_SIGNED W.BITS steps.now before).0 }
+    ensures ending { let before = map W.number wide.old in
+        result ≡ (RunOf W.IS_SIGNED W.BITS steps.now before).1 }
     ensures low { map N.number narrow.new ≡ map (wrap N.IS_SIGNED N.BITS) (map W.number wide.new) }
-    ensures low_run { N.BITS ≤ W.BITS → All (IsLowBit N.BITS) steps.now
-        → RunOf N.IS_SIGNED N.BITS steps.now (map (wrap N.IS_SIGNED N.BITS) (map W.number wide.old)) ≡ (map N.number narrow.new, Ok tt) }
+    ensures low_run { let before = map (wrap N.IS_SIGNED N.BITS) (map W.number wide.old) in
+        let after = map N.number narrow.new in
+        N.BITS ≤ W.BITS → All (IsLowBit N.BITS) steps.now
+        → RunOf N.IS_SIGNED N.BITS steps.now before ≡ (after, Ok tt) }
     ensures low_ending { N.BITS ≤ W.BITS → All (IsLowBit N.BITS) steps.now → result ≡ Ok tt }
 {
     let ending = run(steps, wide);

@@ -89,9 +89,9 @@ pub trait Integer: Numbered
     /// The number of `value`, and an error exactly where it is out of range. The width is valid.
     fn try_new(value: Self::UnderlyingType) -> Result<Self, TryNewError>
         requires { Self.valid }
-        ensures { MatchResult result
-            (λ x. InRange Self.IS_SIGNED Self.BITS (underlying value) × (Self.number x ≡ underlying value))
-            (λ _. ¬ (InRange Self.IS_SIGNED Self.BITS (underlying value))) };
+        ensures { let given = underlying value in MatchResult result
+            (λ x. InRange Self.IS_SIGNED Self.BITS given × (Self.number x ≡ given))
+            (λ _. ¬ (InRange Self.IS_SIGNED Self.BITS given)) };
 
     /// The number, in the storage.
     fn value(self) -> Self::UnderlyingType
@@ -109,7 +109,9 @@ pub trait Integer: Numbered
     fn from_unsigned(value: Self::UnsignedInteger) -> Self
         ensures value { Self.number result ≡ wrap Self.IS_SIGNED Self.BITS (unsigned_number value) }
         ensures congruent { Congruent Self.BITS (Self.number result) (unsigned_number value) }
-        ensures undo { (y : ℤ) → InRange Self.IS_SIGNED Self.BITS y → unsigned_number value ≡ wrap false Self.BITS y → Self.number result ≡ y };
+        ensures undo { (y : ℤ) → let pattern = wrap false Self.BITS y in
+            InRange Self.IS_SIGNED Self.BITS y → unsigned_number value ≡ pattern
+            → Self.number result ≡ y };
 
     // A clone is the same value, and is always to be had.
     ghost clone_law: { (a b : Self) → Self.is_clone a b → b ≡ a };
@@ -120,59 +122,77 @@ pub trait Integer: Numbered
 
     ghost cmp_law: { (a b : Self) → Self.cmp a b ≡ int_cmp (Self.number a) (Self.number b) };
 
-    ghost output_law: { (a : Self) → Self.output a ≡ Some (signed_decimal (Self.number a)) };
+    ghost output_law: { (a : Self) → let text = signed_decimal (Self.number a) in
+        Self.output a ≡ Some text };
 
-    ghost debug_output_law: { (a : Self) → Self.debug_output a ≡ Some (signed_decimal (Self.number a)) };
+    ghost debug_output_law: { (a : Self) → let text = signed_decimal (Self.number a) in
+        Self.debug_output a ≡ Some text };
 
     // In a law a value of a primitive is any number, hence the premises on the range.
-    ghost can_add_law: { (a b : Self) → InRange Self.IS_SIGNED Self.BITS (Self.number a +ℤ Self.number b) → Self.can_add a b };
+    ghost can_add_law: { (a b : Self) → let sum = Self.number a +ℤ Self.number b in
+        InRange Self.IS_SIGNED Self.BITS sum → Self.can_add a b };
 
-    ghost add_law: { (a b r : Self) → Self.add_gives a b r → InRange Self.IS_SIGNED Self.BITS (Self.number a +ℤ Self.number b)
-        → Self.number r ≡ Self.number a +ℤ Self.number b };
+    ghost add_law: { (a b r : Self) → let sum = Self.number a +ℤ Self.number b in
+        Self.add_gives a b r → InRange Self.IS_SIGNED Self.BITS sum
+        → Self.number r ≡ sum };
 
-    ghost can_sub_law: { (a b : Self) → InRange Self.IS_SIGNED Self.BITS (Self.number a -ℤ Self.number b) → Self.can_sub a b };
+    ghost can_sub_law: { (a b : Self) → let difference = Self.number a -ℤ Self.number b in
+        InRange Self.IS_SIGNED Self.BITS difference → Self.can_sub a b };
 
-    ghost sub_law: { (a b r : Self) → Self.sub_gives a b r → InRange Self.IS_SIGNED Self.BITS (Self.number a -ℤ Self.number b)
-        → Self.number r ≡ Self.number a -ℤ Self.number b };
+    ghost sub_law: { (a b r : Self) → let difference = Self.number a -ℤ Self.number b in
+        Self.sub_gives a b r → InRange Self.IS_SIGNED Self.BITS difference
+        → Self.number r ≡ difference };
 
-    ghost can_mul_law: { (a b : Self) → InRange Self.IS_SIGNED Self.BITS (Self.number a *ℤ Self.number b) → Self.can_mul a b };
+    ghost can_mul_law: { (a b : Self) → let product = Self.number a *ℤ Self.number b in
+        InRange Self.IS_SIGNED Self.BITS product → Self.can_mul a b };
 
-    ghost mul_law: { (a b r : Self) → Self.mul_gives a b r → InRange Self.IS_SIGNED Self.BITS (Self.number a *ℤ Self.number b)
-        → Self.number r ≡ Self.number a *ℤ Self.number b };
+    ghost mul_law: { (a b r : Self) → let product = Self.number a *ℤ Self.number b in
+        Self.mul_gives a b r → InRange Self.IS_SIGNED Self.BITS product
+        → Self.number r ≡ product };
 
-    ghost can_div_law: { (a b : Self) → InRange Self.IS_SIGNED Self.BITS (Self.number b) → Self.number b ≢ pos 0
-        → InRange Self.IS_SIGNED Self.BITS (int_div (Self.number a) (Self.number b)) → Self.can_div a b };
+    ghost can_div_law: { (a b : Self) → let quotient = int_div (Self.number a) (Self.number b) in
+        InRange Self.IS_SIGNED Self.BITS (Self.number b) → Self.number b ≢ pos 0
+        → InRange Self.IS_SIGNED Self.BITS quotient → Self.can_div a b };
 
-    ghost div_law: { (a b r : Self) → Self.div_gives a b r → Self.number r ≡ int_div (Self.number a) (Self.number b) };
+    ghost div_law: { (a b r : Self) → let quotient = int_div (Self.number a) (Self.number b) in
+        Self.div_gives a b r → Self.number r ≡ quotient };
 
     ghost can_bitand_law: { (a b : Self) → Self.can_bitand a b };
 
-    ghost bitand_law: { (a b r : Self) → Self.bitand_gives a b r → InRange Self.IS_SIGNED Self.BITS (Self.number a) → InRange Self.IS_SIGNED Self.BITS (Self.number b)
-        → Self.number r ≡ val Self.IS_SIGNED (bits_and (bits Self.BITS (Self.number a)) (bits Self.BITS (Self.number b))) };
+    ghost bitand_law: { (a b r : Self) → let number = Self.number in let list = bits Self.BITS in
+        Self.bitand_gives a b r
+        → InRange Self.IS_SIGNED Self.BITS (number a) → InRange Self.IS_SIGNED Self.BITS (number b)
+        → number r ≡ val Self.IS_SIGNED (bits_and (list (number a)) (list (number b))) };
 
     ghost can_bitor_law: { (a b : Self) → Self.can_bitor a b };
 
-    ghost bitor_law: { (a b r : Self) → Self.bitor_gives a b r → InRange Self.IS_SIGNED Self.BITS (Self.number a) → InRange Self.IS_SIGNED Self.BITS (Self.number b)
-        → Self.number r ≡ val Self.IS_SIGNED (bits_or (bits Self.BITS (Self.number a)) (bits Self.BITS (Self.number b))) };
+    ghost bitor_law: { (a b r : Self) → let number = Self.number in let list = bits Self.BITS in
+        Self.bitor_gives a b r
+        → InRange Self.IS_SIGNED Self.BITS (number a) → InRange Self.IS_SIGNED Self.BITS (number b)
+        → number r ≡ val Self.IS_SIGNED (bits_or (list (number a)) (list (number b))) };
 
     ghost can_bitxor_law: { (a b : Self) → Self.can_bitxor a b };
 
-    ghost bitxor_law: { (a b r : Self) → Self.bitxor_gives a b r → InRange Self.IS_SIGNED Self.BITS (Self.number a) → InRange Self.IS_SIGNED Self.BITS (Self.number b)
-        → Self.number r ≡ val Self.IS_SIGNED (bits_xor (bits Self.BITS (Self.number a)) (bits Self.BITS (Self.number b))) };
+    ghost bitxor_law: { (a b r : Self) → let number = Self.number in let list = bits Self.BITS in
+        Self.bitxor_gives a b r
+        → InRange Self.IS_SIGNED Self.BITS (number a) → InRange Self.IS_SIGNED Self.BITS (number b)
+        → number r ≡ val Self.IS_SIGNED (bits_xor (list (number a)) (list (number b))) };
 
     ghost can_not_law: { (a : Self) → Self.can_not a };
 
-    ghost not_law: { (a r : Self) → Self.not_gives a r → InRange Self.IS_SIGNED Self.BITS (Self.number a)
-        → Self.number r ≡ val Self.IS_SIGNED (map not (bits Self.BITS (Self.number a))) };
+    ghost not_law: { (a r : Self) → let number = Self.number in let list = bits Self.BITS in
+        Self.not_gives a r → InRange Self.IS_SIGNED Self.BITS (number a)
+        → number r ≡ val Self.IS_SIGNED (map not (list (number a))) };
 
     // Each assigning form may be made where its operator may, and gives what that gives.
-    ghost assign_law: { IsAssigned Self.can_add Self.can_add_assign Self.add_gives Self.add_assign_gives
-        × IsAssigned Self.can_sub Self.can_sub_assign Self.sub_gives Self.sub_assign_gives
-        × IsAssigned Self.can_mul Self.can_mul_assign Self.mul_gives Self.mul_assign_gives
-        × IsAssigned Self.can_div Self.can_div_assign Self.div_gives Self.div_assign_gives
-        × IsAssigned Self.can_bitand Self.can_bitand_assign Self.bitand_gives Self.bitand_assign_gives
-        × IsAssigned Self.can_bitor Self.can_bitor_assign Self.bitor_gives Self.bitor_assign_gives
-        × IsAssigned Self.can_bitxor Self.can_bitxor_assign Self.bitxor_gives Self.bitxor_assign_gives };
+    ghost assign_law: { let agree = IsAssigned in
+        agree Self.can_add Self.can_add_assign Self.add_gives Self.add_assign_gives
+        × agree Self.can_sub Self.can_sub_assign Self.sub_gives Self.sub_assign_gives
+        × agree Self.can_mul Self.can_mul_assign Self.mul_gives Self.mul_assign_gives
+        × agree Self.can_div Self.can_div_assign Self.div_gives Self.div_assign_gives
+        × agree Self.can_bitand Self.can_bitand_assign Self.bitand_gives Self.bitand_assign_gives
+        × agree Self.can_bitor Self.can_bitor_assign Self.bitor_gives Self.bitor_assign_gives
+        × agree Self.can_bitxor Self.can_bitxor_assign Self.bitxor_gives Self.bitxor_assign_gives };
 }
 
 /// An integer type that has no sign.
@@ -185,7 +205,8 @@ pub trait UnsignedInteger: Integer {
 pub trait SignedInteger: Integer + Neg<Output = Self> {
     ghost signed_law: { Self.IS_SIGNED ≡ true };
 
-    ghost can_neg_law: { (a : Self) → InRange Self.IS_SIGNED Self.BITS (neg_ℤ (Self.number a)) → Self.can_neg a };
+    ghost can_neg_law: { (a : Self) → let negated = neg_ℤ (Self.number a) in
+        InRange Self.IS_SIGNED Self.BITS negated → Self.can_neg a };
 
     ghost neg_law: { (a r : Self) → Self.neg_gives a r → Self.number r ≡ neg_ℤ (Self.number a) };
 }

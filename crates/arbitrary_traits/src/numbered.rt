@@ -37,12 +37,14 @@ pub trait Numbered: Copy + Sealed {
     fn from_u128_bits(pattern: u128) -> Self
         requires { valid }
         ensures value { number result ≡ wrap IS_SIGNED BITS (pos pattern) }
-        ensures undo { (y : ℤ) → InRange IS_SIGNED BITS y → pattern ≡ residue 128 y → number result ≡ y };
+        ensures undo { (y : ℤ) → let low = residue 128 y in
+            InRange IS_SIGNED BITS y → pattern ≡ low → number result ≡ y };
 
     /// The same number, which is in range of this type, from any other. The width is valid.
     final fn from_<T: Numbered>(value: T) -> Self
         requires width { valid }
-        requires range { InRange T.IS_SIGNED T.BITS (T.number value) → InRange IS_SIGNED BITS (T.number value) }
+        requires range { let given = T.number value in
+            InRange T.IS_SIGNED T.BITS given → InRange IS_SIGNED BITS given }
         ensures value { number result ≡ T.number value }
         ensures range { InRange T.IS_SIGNED T.BITS (T.number value) }
     {
@@ -62,8 +64,10 @@ pub trait Numbered: Copy + Sealed {
         ensures wider { T.IS_SIGNED ≡ false → T.BITS < BITS → number result ≡ T.number value }
         ensures low { IS_SIGNED ≡ false → T.IS_SIGNED ≡ false → BITS ≤ T.BITS
             → number result ≡ pos (unsigned_abs (T.number value) % 2 ^ BITS) }
-        ensures narrower { IS_SIGNED ≡ true → BITS ≤ T.BITS → Congruent BITS (number result) (T.number value) }
-        ensures other_sign { T.IS_SIGNED ≡ not IS_SIGNED → Congruent BITS (number result) (T.number value) }
+        ensures narrower { let given = T.number value in
+            IS_SIGNED ≡ true → BITS ≤ T.BITS → Congruent BITS (number result) given }
+        ensures other_sign { let given = T.number value in
+            T.IS_SIGNED ≡ not IS_SIGNED → Congruent BITS (number result) given }
         ensures congruent { (y : ℤ) → T.number value ≡ y → Congruent BITS (number result) y }
         ensures range { InRange T.IS_SIGNED T.BITS (T.number value) }
         ensures width { T.valid }
@@ -80,8 +84,10 @@ pub trait Numbered: Copy + Sealed {
         ensures wider { IS_SIGNED ≡ false → BITS < T.BITS → T.number result ≡ number self }
         ensures low { T.IS_SIGNED ≡ false → IS_SIGNED ≡ false → T.BITS ≤ BITS
             → T.number result ≡ pos (unsigned_abs (number self) % 2 ^ T.BITS) }
-        ensures narrower { T.IS_SIGNED ≡ true → T.BITS ≤ BITS → Congruent T.BITS (T.number result) (number self) }
-        ensures other_sign { IS_SIGNED ≡ not T.IS_SIGNED → Congruent T.BITS (T.number result) (number self) }
+        ensures narrower { let given = number self in
+            T.IS_SIGNED ≡ true → T.BITS ≤ BITS → Congruent T.BITS (T.number result) given }
+        ensures other_sign { let given = number self in
+            IS_SIGNED ≡ not T.IS_SIGNED → Congruent T.BITS (T.number result) given }
         ensures congruent { (y : ℤ) → number self ≡ y → Congruent T.BITS (T.number result) y }
         ensures range { InRange IS_SIGNED BITS (number self) }
         ensures width { valid }

@@ -53,57 +53,74 @@ pub trait Primitive: BuiltinInteger
 
     ghost eq_law: { (a b : Self) → Self.eq a b ≡ int_eq (Self.number a) (Self.number b) };
 
-    ghost debug_output_law: { (a : Self) → Self.debug_output a ≡ Some (signed_decimal (Self.number a)) };
+    ghost debug_output_law: { (a : Self) → let text = signed_decimal (Self.number a) in
+        Self.debug_output a ≡ Some text };
 
     // In a law a value of a primitive is any number, hence the premises on the range.
-    ghost can_add_law: { (a b : Self) → InRange Self.SIGNED Self.WIDTH (Self.number a +ℤ Self.number b) → Self.can_add a b };
+    ghost can_add_law: { (a b : Self) → let sum = Self.number a +ℤ Self.number b in
+        InRange Self.SIGNED Self.WIDTH sum → Self.can_add a b };
 
-    ghost add_law: { (a b r : Self) → Self.add_gives a b r → InRange Self.SIGNED Self.WIDTH (Self.number a +ℤ Self.number b)
-        → Self.number r ≡ Self.number a +ℤ Self.number b };
+    ghost add_law: { (a b r : Self) → let sum = Self.number a +ℤ Self.number b in
+        Self.add_gives a b r → InRange Self.SIGNED Self.WIDTH sum
+        → Self.number r ≡ sum };
 
-    ghost can_sub_law: { (a b : Self) → InRange Self.SIGNED Self.WIDTH (Self.number a -ℤ Self.number b) → Self.can_sub a b };
+    ghost can_sub_law: { (a b : Self) → let difference = Self.number a -ℤ Self.number b in
+        InRange Self.SIGNED Self.WIDTH difference → Self.can_sub a b };
 
-    ghost sub_law: { (a b r : Self) → Self.sub_gives a b r → InRange Self.SIGNED Self.WIDTH (Self.number a -ℤ Self.number b)
-        → Self.number r ≡ Self.number a -ℤ Self.number b };
+    ghost sub_law: { (a b r : Self) → let difference = Self.number a -ℤ Self.number b in
+        Self.sub_gives a b r → InRange Self.SIGNED Self.WIDTH difference
+        → Self.number r ≡ difference };
 
-    ghost can_mul_law: { (a b : Self) → InRange Self.SIGNED Self.WIDTH (Self.number a *ℤ Self.number b) → Self.can_mul a b };
+    ghost can_mul_law: { (a b : Self) → let product = Self.number a *ℤ Self.number b in
+        InRange Self.SIGNED Self.WIDTH product → Self.can_mul a b };
 
-    ghost mul_law: { (a b r : Self) → Self.mul_gives a b r → InRange Self.SIGNED Self.WIDTH (Self.number a *ℤ Self.number b)
-        → Self.number r ≡ Self.number a *ℤ Self.number b };
+    ghost mul_law: { (a b r : Self) → let product = Self.number a *ℤ Self.number b in
+        Self.mul_gives a b r → InRange Self.SIGNED Self.WIDTH product
+        → Self.number r ≡ product };
 
-    ghost can_div_law: { (a b : Self) → InRange Self.SIGNED Self.WIDTH (Self.number b) → Self.number b ≢ pos 0
-        → InRange Self.SIGNED Self.WIDTH (int_div (Self.number a) (Self.number b)) → Self.can_div a b };
+    ghost can_div_law: { (a b : Self) → let quotient = int_div (Self.number a) (Self.number b) in
+        InRange Self.SIGNED Self.WIDTH (Self.number b) → Self.number b ≢ pos 0
+        → InRange Self.SIGNED Self.WIDTH quotient → Self.can_div a b };
 
-    ghost div_law: { (a b r : Self) → Self.div_gives a b r → Self.number r ≡ int_div (Self.number a) (Self.number b) };
+    ghost div_law: { (a b r : Self) → let quotient = int_div (Self.number a) (Self.number b) in
+        Self.div_gives a b r → Self.number r ≡ quotient };
 
     ghost can_bitand_law: { (a b : Self) → Self.can_bitand a b };
 
-    ghost bitand_law: { (a b r : Self) → Self.bitand_gives a b r → InRange Self.SIGNED Self.WIDTH (Self.number a) → InRange Self.SIGNED Self.WIDTH (Self.number b)
-        → Self.number r ≡ val Self.SIGNED (bits_and (bits Self.WIDTH (Self.number a)) (bits Self.WIDTH (Self.number b))) };
+    ghost bitand_law: { (a b r : Self) → let number = Self.number in let list = bits Self.WIDTH in
+        Self.bitand_gives a b r
+        → InRange Self.SIGNED Self.WIDTH (number a) → InRange Self.SIGNED Self.WIDTH (number b)
+        → number r ≡ val Self.SIGNED (bits_and (list (number a)) (list (number b))) };
 
     ghost can_bitor_law: { (a b : Self) → Self.can_bitor a b };
 
-    ghost bitor_law: { (a b r : Self) → Self.bitor_gives a b r → InRange Self.SIGNED Self.WIDTH (Self.number a) → InRange Self.SIGNED Self.WIDTH (Self.number b)
-        → Self.number r ≡ val Self.SIGNED (bits_or (bits Self.WIDTH (Self.number a)) (bits Self.WIDTH (Self.number b))) };
+    ghost bitor_law: { (a b r : Self) → let number = Self.number in let list = bits Self.WIDTH in
+        Self.bitor_gives a b r
+        → InRange Self.SIGNED Self.WIDTH (number a) → InRange Self.SIGNED Self.WIDTH (number b)
+        → number r ≡ val Self.SIGNED (bits_or (list (number a)) (list (number b))) };
 
     ghost can_bitxor_law: { (a b : Self) → Self.can_bitxor a b };
 
-    ghost bitxor_law: { (a b r : Self) → Self.bitxor_gives a b r → InRange Self.SIGNED Self.WIDTH (Self.number a) → InRange Self.SIGNED Self.WIDTH (Self.number b)
-        → Self.number r ≡ val Self.SIGNED (bits_xor (bits Self.WIDTH (Self.number a)) (bits Self.WIDTH (Self.number b))) };
+    ghost bitxor_law: { (a b r : Self) → let number = Self.number in let list = bits Self.WIDTH in
+        Self.bitxor_gives a b r
+        → InRange Self.SIGNED Self.WIDTH (number a) → InRange Self.SIGNED Self.WIDTH (number b)
+        → number r ≡ val Self.SIGNED (bits_xor (list (number a)) (list (number b))) };
 
     ghost can_not_law: { (a : Self) → Self.can_not a };
 
-    ghost not_law: { (a r : Self) → Self.not_gives a r → InRange Self.SIGNED Self.WIDTH (Self.number a)
-        → Self.number r ≡ val Self.SIGNED (map not (bits Self.WIDTH (Self.number a))) };
+    ghost not_law: { (a r : Self) → let number = Self.number in let list = bits Self.WIDTH in
+        Self.not_gives a r → InRange Self.SIGNED Self.WIDTH (number a)
+        → number r ≡ val Self.SIGNED (map not (list (number a))) };
 
     // Each assigning form may be made where its operator may, and gives what that gives.
-    ghost assign_law: { IsAssigned Self.can_add Self.can_add_assign Self.add_gives Self.add_assign_gives
-        × IsAssigned Self.can_sub Self.can_sub_assign Self.sub_gives Self.sub_assign_gives
-        × IsAssigned Self.can_mul Self.can_mul_assign Self.mul_gives Self.mul_assign_gives
-        × IsAssigned Self.can_div Self.can_div_assign Self.div_gives Self.div_assign_gives
-        × IsAssigned Self.can_bitand Self.can_bitand_assign Self.bitand_gives Self.bitand_assign_gives
-        × IsAssigned Self.can_bitor Self.can_bitor_assign Self.bitor_gives Self.bitor_assign_gives
-        × IsAssigned Self.can_bitxor Self.can_bitxor_assign Self.bitxor_gives Self.bitxor_assign_gives };
+    ghost assign_law: { let agree = IsAssigned in
+        agree Self.can_add Self.can_add_assign Self.add_gives Self.add_assign_gives
+        × agree Self.can_sub Self.can_sub_assign Self.sub_gives Self.sub_assign_gives
+        × agree Self.can_mul Self.can_mul_assign Self.mul_gives Self.mul_assign_gives
+        × agree Self.can_div Self.can_div_assign Self.div_gives Self.div_assign_gives
+        × agree Self.can_bitand Self.can_bitand_assign Self.bitand_gives Self.bitand_assign_gives
+        × agree Self.can_bitor Self.can_bitor_assign Self.bitor_gives Self.bitor_assign_gives
+        × agree Self.can_bitxor Self.can_bitxor_assign Self.bitxor_gives Self.bitxor_assign_gives };
 }
 
 impl<T: Primitive> Numbered for T {

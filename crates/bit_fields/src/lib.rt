@@ -37,7 +37,8 @@ impl Record {
     /// primitive. The field ends at or before bit 128. All other bits stay.
     pub fn put<F: Numbered>(&mut self, start: usize, value: F)
         requires { start + F.BITS ≤ 128 }
-        ensures bits { self.new.bits ≡ with_field self.old.bits start (bits_of F.BITS (F.number value)) }
+        ensures bits { let list = bits_of F.BITS (F.number value) in
+            self.new.bits ≡ with_field self.old.bits start list }
         ensures read_back { HasNumber F.IS_SIGNED self.new.bits start F.BITS (F.number value) }
 
         // The same in numbers: the bits below, those of the field, and those above.
@@ -47,7 +48,8 @@ impl Record {
         ensures high { self.new.bits / 2 ^ (start + F.BITS) ≡ self.old.bits / 2 ^ (start + F.BITS) }
 
         // What was there already changes nothing.
-        ensures same { HasNumber F.IS_SIGNED self.old.bits start F.BITS (F.number value) → self.new.bits ≡ self.old.bits }
+        ensures same { let before = self.old.bits in
+            HasNumber F.IS_SIGNED before start F.BITS (F.number value) → self.new.bits ≡ before }
 
         // Each field below this one, and each above, reads as before.
         ensures below { (other width : ℕ) → other + width ≤ start

@@ -144,7 +144,8 @@ where
 {
     type Output = Int<T, BITS>;
 
-    ghost not_gives = { λ a r. (r ≡ val T.SIGNED (map not (bits BITS a))) × (val T.SIGNED (bits BITS a) ≡ a) };
+    ghost not_gives = { λ a r. let list = bits BITS a in
+        (r ≡ val T.SIGNED (map not list)) × (val T.SIGNED list ≡ a) };
 
     fn not(self) -> Int<T, BITS>
         ensures operation { result ≡ bitwise_not T.SIGNED BITS self }

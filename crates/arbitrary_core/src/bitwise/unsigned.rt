@@ -122,7 +122,8 @@ impl<T: UnsignedStorage, const BITS: usize> BitXorAssign<UInt<T, BITS>> for UInt
 impl<T: UnsignedStorage, const BITS: usize> Not for UInt<T, BITS> {
     type Output = UInt<T, BITS>;
 
-    ghost not_gives = { λ a r. (r ≡ val T.SIGNED (map not (bits BITS a))) × (val T.SIGNED (bits BITS a) ≡ a) };
+    ghost not_gives = { λ a r. let list = bits BITS a in
+        (r ≡ val T.SIGNED (map not list)) × (val T.SIGNED list ≡ a) };
 
     fn not(self) -> UInt<T, BITS>
         ensures operation { result ≡ bitwise_not T.SIGNED BITS self }

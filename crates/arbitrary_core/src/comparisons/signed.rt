@@ -18,8 +18,10 @@ use std::cmp::Ordering;
 fn place<T: BuiltinInteger + SignedStorage, const BITS: usize>(x: Int<T, BITS>) -> T::Unsigned
 where
     T::Unsigned: UnsignedOf<T>,
-    ensures above { pos 0 ≤ℤ x → T.Unsigned.number result ≡ x +ℤ pos (2 ^ T.WIDTH) -ℤ pos (2 ^ (BITS - 1)) }
-    ensures below { x <ℤ pos 0 → T.Unsigned.number result ≡ x +ℤ pos (2 ^ (BITS - 1)) }
+    ensures above { let half = pos (2 ^ (BITS - 1)) in
+        pos 0 ≤ℤ x → T.Unsigned.number result ≡ x +ℤ pos (2 ^ T.WIDTH) -ℤ half }
+    ensures below { let half = pos (2 ^ (BITS - 1)) in
+        x <ℤ pos 0 → T.Unsigned.number result ≡ x +ℤ half }
     ensures width { IsInRange 1 T.WIDTH BITS }
 {
     let bits = x.to_bits();
@@ -53,7 +55,8 @@ where
 {
     ghost partial_cmp = { as_partial_cmp int_cmp };
 
-    ghost laws = { partial_order_from_own_ties (Prim.search (comparing, rules)) (Prim.search (comparing, rules)) };
+    ghost laws = { partial_order_from_own_ties (Prim.search (comparing, rules))
+        (Prim.search (comparing, rules)) };
 
     fn partial_cmp(&self, other: &Self) -> Option<Ordering> {
         Some(self.cmp(other))

@@ -27,7 +27,8 @@ impl<T: UnsignedStorage, const BITS: usize> Eq for UInt<T, BITS> {
 impl<T: UnsignedStorage, const BITS: usize> PartialOrd for UInt<T, BITS> {
     ghost partial_cmp = { as_partial_cmp int_cmp };
 
-    ghost laws = { partial_order_from_own_ties (Prim.search (comparing, rules)) (Prim.search (comparing, rules)) };
+    ghost laws = { partial_order_from_own_ties (Prim.search (comparing, rules))
+        (Prim.search (comparing, rules)) };
 
     fn partial_cmp(&self, other: &Self) -> Option<Ordering> {
         Some(self.cmp(other))

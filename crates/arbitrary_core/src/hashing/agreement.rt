@@ -14,7 +14,8 @@ use std::hash::Hash;
 #[tactic(auto, using(crate::proofs::Agreement::agreements))]
 pub fn unsigned_agreement_law<T: UnsignedStorage, const BITS: usize>()
     ensures equality { (x y : ℤ) → IsTrue (⟦<UInt<T, BITS> as PartialEq>⟧.eq x y) ↔ (x ≡ y) }
-    ensures order { (x y : ℤ) → (⟦<UInt<T, BITS> as Ord>⟧.cmp x y ≡ Equal) ↔ IsTrue (⟦<UInt<T, BITS> as PartialEq>⟧.eq x y) }
+    ensures order { (x y : ℤ) → let compared = ⟦<UInt<T, BITS> as Ord>⟧.cmp x y in
+        (compared ≡ Equal) ↔ IsTrue (⟦<UInt<T, BITS> as PartialEq>⟧.eq x y) }
     ensures hash { (x y : ℤ) → IsTrue (⟦<UInt<T, BITS> as PartialEq>⟧.eq x y)
         → ⟦<UInt<T, BITS> as Hash>⟧.hash_input x ≡ ⟦<UInt<T, BITS> as Hash>⟧.hash_input y }
     ensures fed { (x : T) → ⟦<UInt<T, BITS> as Hash>⟧.hash_input (T.number x) ≡ T.hash_input x }
@@ -26,7 +27,8 @@ pub fn signed_agreement_law<T: BuiltinInteger + SignedStorage, const BITS: usize
 where
     T::Unsigned: UnsignedOf<T>,
     ensures equality { (x y : ℤ) → IsTrue (⟦<Int<T, BITS> as PartialEq>⟧.eq x y) ↔ (x ≡ y) }
-    ensures order { (x y : ℤ) → (⟦<Int<T, BITS> as Ord>⟧.cmp x y ≡ Equal) ↔ IsTrue (⟦<Int<T, BITS> as PartialEq>⟧.eq x y) }
+    ensures order { (x y : ℤ) → let compared = ⟦<Int<T, BITS> as Ord>⟧.cmp x y in
+        (compared ≡ Equal) ↔ IsTrue (⟦<Int<T, BITS> as PartialEq>⟧.eq x y) }
     ensures hash { (x y : ℤ) → IsTrue (⟦<Int<T, BITS> as PartialEq>⟧.eq x y)
         → ⟦<Int<T, BITS> as Hash>⟧.hash_input x ≡ ⟦<Int<T, BITS> as Hash>⟧.hash_input y }
     ensures fed { (x : T) → ⟦<Int<T, BITS> as Hash>⟧.hash_input (T.number x) ≡ T.hash_input x }

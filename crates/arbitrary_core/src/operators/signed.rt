@@ -15,7 +15,8 @@ where
 {
     type Output = Int<T, BITS>;
 
-    ghost can_add = { λ a b. InRange T.SIGNED BITS a → InRange T.SIGNED BITS b → InRange T.SIGNED BITS (a +ℤ b) };
+    ghost can_add = { λ a b. let sum = a +ℤ b in
+        InRange T.SIGNED BITS a → InRange T.SIGNED BITS b → InRange T.SIGNED BITS sum };
 
     ghost add_gives = { λ a b r. r ≡ a +ℤ b };
 
@@ -29,7 +30,8 @@ impl<T: BuiltinInteger + SignedStorage, const BITS: usize> AddAssign<Int<T, BITS
 where
     T::Unsigned: UnsignedOf<T>,
 {
-    ghost can_add_assign = { λ a b. InRange T.SIGNED BITS a → InRange T.SIGNED BITS b → InRange T.SIGNED BITS (a +ℤ b) };
+    ghost can_add_assign = { λ a b. let sum = a +ℤ b in
+        InRange T.SIGNED BITS a → InRange T.SIGNED BITS b → InRange T.SIGNED BITS sum };
 
     ghost add_assign_gives = { λ a b r. r ≡ a +ℤ b };
 
@@ -44,7 +46,8 @@ where
 {
     type Output = Int<T, BITS>;
 
-    ghost can_sub = { λ a b. InRange T.SIGNED BITS a → InRange T.SIGNED BITS b → InRange T.SIGNED BITS (a -ℤ b) };
+    ghost can_sub = { λ a b. let difference = a -ℤ b in
+        InRange T.SIGNED BITS a → InRange T.SIGNED BITS b → InRange T.SIGNED BITS difference };
 
     ghost sub_gives = { λ a b r. r ≡ a -ℤ b };
 
@@ -58,7 +61,8 @@ impl<T: BuiltinInteger + SignedStorage, const BITS: usize> SubAssign<Int<T, BITS
 where
     T::Unsigned: UnsignedOf<T>,
 {
-    ghost can_sub_assign = { λ a b. InRange T.SIGNED BITS a → InRange T.SIGNED BITS b → InRange T.SIGNED BITS (a -ℤ b) };
+    ghost can_sub_assign = { λ a b. let difference = a -ℤ b in
+        InRange T.SIGNED BITS a → InRange T.SIGNED BITS b → InRange T.SIGNED BITS difference };
 
     ghost sub_assign_gives = { λ a b r. r ≡ a -ℤ b };
 
@@ -73,7 +77,8 @@ where
 {
     type Output = Int<T, BITS>;
 
-    ghost can_mul = { λ a b. InRange T.SIGNED BITS a → InRange T.SIGNED BITS b → InRange T.SIGNED BITS (a *ℤ b) };
+    ghost can_mul = { λ a b. let product = a *ℤ b in
+        InRange T.SIGNED BITS a → InRange T.SIGNED BITS b → InRange T.SIGNED BITS product };
 
     ghost mul_gives = { λ a b r. r ≡ a *ℤ b };
 
@@ -87,7 +92,8 @@ impl<T: BuiltinInteger + SignedStorage, const BITS: usize> MulAssign<Int<T, BITS
 where
     T::Unsigned: UnsignedOf<T>,
 {
-    ghost can_mul_assign = { λ a b. InRange T.SIGNED BITS a → InRange T.SIGNED BITS b → InRange T.SIGNED BITS (a *ℤ b) };
+    ghost can_mul_assign = { λ a b. let product = a *ℤ b in
+        InRange T.SIGNED BITS a → InRange T.SIGNED BITS b → InRange T.SIGNED BITS product };
 
     ghost mul_assign_gives = { λ a b r. r ≡ a *ℤ b };
 

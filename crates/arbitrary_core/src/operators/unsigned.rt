@@ -12,7 +12,8 @@ use std::ops::{Add, AddAssign, Div, DivAssign, Mul, MulAssign, Sub, SubAssign};
 impl<T: UnsignedStorage, const BITS: usize> Add<UInt<T, BITS>> for UInt<T, BITS> {
     type Output = UInt<T, BITS>;
 
-    ghost can_add = { λ a b. InRange T.SIGNED BITS a → InRange T.SIGNED BITS b → InRange T.SIGNED BITS (a +ℤ b) };
+    ghost can_add = { λ a b. let sum = a +ℤ b in
+        InRange T.SIGNED BITS a → InRange T.SIGNED BITS b → InRange T.SIGNED BITS sum };
 
     ghost add_gives = { λ a b r. r ≡ a +ℤ b };
 
@@ -23,7 +24,8 @@ impl<T: UnsignedStorage, const BITS: usize> Add<UInt<T, BITS>> for UInt<T, BITS>
 }
 
 impl<T: UnsignedStorage, const BITS: usize> AddAssign<UInt<T, BITS>> for UInt<T, BITS> {
-    ghost can_add_assign = { λ a b. InRange T.SIGNED BITS a → InRange T.SIGNED BITS b → InRange T.SIGNED BITS (a +ℤ b) };
+    ghost can_add_assign = { λ a b. let sum = a +ℤ b in
+        InRange T.SIGNED BITS a → InRange T.SIGNED BITS b → InRange T.SIGNED BITS sum };
 
     ghost add_assign_gives = { λ a b r. r ≡ a +ℤ b };
 
@@ -35,7 +37,8 @@ impl<T: UnsignedStorage, const BITS: usize> AddAssign<UInt<T, BITS>> for UInt<T,
 impl<T: UnsignedStorage, const BITS: usize> Sub<UInt<T, BITS>> for UInt<T, BITS> {
     type Output = UInt<T, BITS>;
 
-    ghost can_sub = { λ a b. InRange T.SIGNED BITS a → InRange T.SIGNED BITS b → InRange T.SIGNED BITS (a -ℤ b) };
+    ghost can_sub = { λ a b. let difference = a -ℤ b in
+        InRange T.SIGNED BITS a → InRange T.SIGNED BITS b → InRange T.SIGNED BITS difference };
 
     ghost sub_gives = { λ a b r. r ≡ a -ℤ b };
 
@@ -46,7 +49,8 @@ impl<T: UnsignedStorage, const BITS: usize> Sub<UInt<T, BITS>> for UInt<T, BITS>
 }
 
 impl<T: UnsignedStorage, const BITS: usize> SubAssign<UInt<T, BITS>> for UInt<T, BITS> {
-    ghost can_sub_assign = { λ a b. InRange T.SIGNED BITS a → InRange T.SIGNED BITS b → InRange T.SIGNED BITS (a -ℤ b) };
+    ghost can_sub_assign = { λ a b. let difference = a -ℤ b in
+        InRange T.SIGNED BITS a → InRange T.SIGNED BITS b → InRange T.SIGNED BITS difference };
 
     ghost sub_assign_gives = { λ a b r. r ≡ a -ℤ b };
 
@@ -58,7 +62,8 @@ impl<T: UnsignedStorage, const BITS: usize> SubAssign<UInt<T, BITS>> for UInt<T,
 impl<T: UnsignedStorage, const BITS: usize> Mul<UInt<T, BITS>> for UInt<T, BITS> {
     type Output = UInt<T, BITS>;
 
-    ghost can_mul = { λ a b. InRange T.SIGNED BITS a → InRange T.SIGNED BITS b → InRange T.SIGNED BITS (a *ℤ b) };
+    ghost can_mul = { λ a b. let product = a *ℤ b in
+        InRange T.SIGNED BITS a → InRange T.SIGNED BITS b → InRange T.SIGNED BITS product };
 
     ghost mul_gives = { λ a b r. r ≡ a *ℤ b };
 
@@ -69,7 +74,8 @@ impl<T: UnsignedStorage, const BITS: usize> Mul<UInt<T, BITS>> for UInt<T, BITS>
 }
 
 impl<T: UnsignedStorage, const BITS: usize> MulAssign<UInt<T, BITS>> for UInt<T, BITS> {
-    ghost can_mul_assign = { λ a b. InRange T.SIGNED BITS a → InRange T.SIGNED BITS b → InRange T.SIGNED BITS (a *ℤ b) };
+    ghost can_mul_assign = { λ a b. let product = a *ℤ b in
+        InRange T.SIGNED BITS a → InRange T.SIGNED BITS b → InRange T.SIGNED BITS product };
 
     ghost mul_assign_gives = { λ a b r. r ≡ a *ℤ b };
 

@@ -15,9 +15,11 @@ where
     T::Unsigned: UnsignedOf<T>,
 {
     fn fmt<W: fmt::Write>(&self, f: &mut fmt::Formatter<W>) -> fmt::Result
-        ensures pattern { T.WIDTH ≤ 64 → WritesOnOk W.write_str_gives f.old result (digits 16 false (residue T.WIDTH self.now)) f.new }
-        ensures natural { T.WIDTH ≤ 64 → pos 0 ≤ℤ self.now
-            → WritesOnOk W.write_str_gives f.old result (digits 16 false (unsigned_abs self.now)) f.new }
+        ensures pattern { let text = digits 16 false (residue T.WIDTH self.now) in
+            T.WIDTH ≤ 64 → WritesOnOk W.write_str_gives f.old result text f.new }
+        ensures natural { let text = digits 16 false (unsigned_abs self.now) in
+            T.WIDTH ≤ 64 → pos 0 ≤ℤ self.now
+            → WritesOnOk W.write_str_gives f.old result text f.new }
     {
         radix::lower_hex(self.value(), f)
     }
@@ -28,9 +30,11 @@ where
     T::Unsigned: UnsignedOf<T>,
 {
     fn fmt<W: fmt::Write>(&self, f: &mut fmt::Formatter<W>) -> fmt::Result
-        ensures pattern { T.WIDTH ≤ 64 → WritesOnOk W.write_str_gives f.old result (digits 16 true (residue T.WIDTH self.now)) f.new }
-        ensures natural { T.WIDTH ≤ 64 → pos 0 ≤ℤ self.now
-            → WritesOnOk W.write_str_gives f.old result (digits 16 true (unsigned_abs self.now)) f.new }
+        ensures pattern { let text = digits 16 true (residue T.WIDTH self.now) in
+            T.WIDTH ≤ 64 → WritesOnOk W.write_str_gives f.old result text f.new }
+        ensures natural { let text = digits 16 true (unsigned_abs self.now) in
+            T.WIDTH ≤ 64 → pos 0 ≤ℤ self.now
+            → WritesOnOk W.write_str_gives f.old result text f.new }
     {
         radix::upper_hex(self.value(), f)
     }
@@ -41,9 +45,11 @@ where
     T::Unsigned: UnsignedOf<T>,
 {
     fn fmt<W: fmt::Write>(&self, f: &mut fmt::Formatter<W>) -> fmt::Result
-        ensures pattern { T.WIDTH ≤ 64 → WritesOnOk W.write_str_gives f.old result (digits 8 false (residue T.WIDTH self.now)) f.new }
-        ensures natural { T.WIDTH ≤ 64 → pos 0 ≤ℤ self.now
-            → WritesOnOk W.write_str_gives f.old result (digits 8 false (unsigned_abs self.now)) f.new }
+        ensures pattern { let text = digits 8 false (residue T.WIDTH self.now) in
+            T.WIDTH ≤ 64 → WritesOnOk W.write_str_gives f.old result text f.new }
+        ensures natural { let text = digits 8 false (unsigned_abs self.now) in
+            T.WIDTH ≤ 64 → pos 0 ≤ℤ self.now
+            → WritesOnOk W.write_str_gives f.old result text f.new }
     {
         radix::octal(self.value(), f)
     }
@@ -54,9 +60,11 @@ where
     T::Unsigned: UnsignedOf<T>,
 {
     fn fmt<W: fmt::Write>(&self, f: &mut fmt::Formatter<W>) -> fmt::Result
-        ensures pattern { T.WIDTH ≤ 64 → WritesOnOk W.write_str_gives f.old result (digits 2 false (residue T.WIDTH self.now)) f.new }
-        ensures natural { T.WIDTH ≤ 64 → pos 0 ≤ℤ self.now
-            → WritesOnOk W.write_str_gives f.old result (digits 2 false (unsigned_abs self.now)) f.new }
+        ensures pattern { let text = digits 2 false (residue T.WIDTH self.now) in
+            T.WIDTH ≤ 64 → WritesOnOk W.write_str_gives f.old result text f.new }
+        ensures natural { let text = digits 2 false (unsigned_abs self.now) in
+            T.WIDTH ≤ 64 → pos 0 ≤ℤ self.now
+            → WritesOnOk W.write_str_gives f.old result text f.new }
     {
         radix::binary(self.value(), f)
     }

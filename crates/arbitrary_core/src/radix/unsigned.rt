@@ -12,8 +12,10 @@ use std::fmt;
 impl<T: UnsignedStorage, const BITS: usize> fmt::LowerHex for UInt<T, BITS> {
     #[tactic(auto, using(crate::proofs::Word::naturals))]
     fn fmt<W: fmt::Write>(&self, f: &mut fmt::Formatter<W>) -> fmt::Result
-        ensures pattern { T.WIDTH ≤ 64 → WritesOnOk W.write_str_gives f.old result (digits 16 false (residue T.WIDTH self.now)) f.new }
-        ensures natural { T.WIDTH ≤ 64 → WritesOnOk W.write_str_gives f.old result (digits 16 false (unsigned_abs self.now)) f.new }
+        ensures pattern { let text = digits 16 false (residue T.WIDTH self.now) in
+            T.WIDTH ≤ 64 → WritesOnOk W.write_str_gives f.old result text f.new }
+        ensures natural { let text = digits 16 false (unsigned_abs self.now) in
+            T.WIDTH ≤ 64 → WritesOnOk W.write_str_gives f.old result text f.new }
     {
         radix::lower_hex(self.value(), f)
     }
@@ -22,8 +24,10 @@ impl<T: UnsignedStorage, const BITS: usize> fmt::LowerHex for UInt<T, BITS> {
 impl<T: UnsignedStorage, const BITS: usize> fmt::UpperHex for UInt<T, BITS> {
     #[tactic(auto, using(crate::proofs::Word::naturals))]
     fn fmt<W: fmt::Write>(&self, f: &mut fmt::Formatter<W>) -> fmt::Result
-        ensures pattern { T.WIDTH ≤ 64 → WritesOnOk W.write_str_gives f.old result (digits 16 true (residue T.WIDTH self.now)) f.new }
-        ensures natural { T.WIDTH ≤ 64 → WritesOnOk W.write_str_gives f.old result (digits 16 true (unsigned_abs self.now)) f.new }
+        ensures pattern { let text = digits 16 true (residue T.WIDTH self.now) in
+            T.WIDTH ≤ 64 → WritesOnOk W.write_str_gives f.old result text f.new }
+        ensures natural { let text = digits 16 true (unsigned_abs self.now) in
+            T.WIDTH ≤ 64 → WritesOnOk W.write_str_gives f.old result text f.new }
     {
         radix::upper_hex(self.value(), f)
     }
@@ -32,8 +36,10 @@ impl<T: UnsignedStorage, const BITS: usize> fmt::UpperHex for UInt<T, BITS> {
 impl<T: UnsignedStorage, const BITS: usize> fmt::Octal for UInt<T, BITS> {
     #[tactic(auto, using(crate::proofs::Word::naturals))]
     fn fmt<W: fmt::Write>(&self, f: &mut fmt::Formatter<W>) -> fmt::Result
-        ensures pattern { T.WIDTH ≤ 64 → WritesOnOk W.write_str_gives f.old result (digits 8 false (residue T.WIDTH self.now)) f.new }
-        ensures natural { T.WIDTH ≤ 64 → WritesOnOk W.write_str_gives f.old result (digits 8 false (unsigned_abs self.now)) f.new }
+        ensures pattern { let text = digits 8 false (residue T.WIDTH self.now) in
+            T.WIDTH ≤ 64 → WritesOnOk W.write_str_gives f.old result text f.new }
+        ensures natural { let text = digits 8 false (unsigned_abs self.now) in
+            T.WIDTH ≤ 64 → WritesOnOk W.write_str_gives f.old result text f.new }
     {
         radix::octal(self.value(), f)
     }
@@ -42,8 +48,10 @@ impl<T: UnsignedStorage, const BITS: usize> fmt::Octal for UInt<T, BITS> {
 impl<T: UnsignedStorage, const BITS: usize> fmt::Binary for UInt<T, BITS> {
     #[tactic(auto, using(crate::proofs::Word::naturals))]
     fn fmt<W: fmt::Write>(&self, f: &mut fmt::Formatter<W>) -> fmt::Result
-        ensures pattern { T.WIDTH ≤ 64 → WritesOnOk W.write_str_gives f.old result (digits 2 false (residue T.WIDTH self.now)) f.new }
-        ensures natural { T.WIDTH ≤ 64 → WritesOnOk W.write_str_gives f.old result (digits 2 false (unsigned_abs self.now)) f.new }
+        ensures pattern { let text = digits 2 false (residue T.WIDTH self.now) in
+            T.WIDTH ≤ 64 → WritesOnOk W.write_str_gives f.old result text f.new }
+        ensures natural { let text = digits 2 false (unsigned_abs self.now) in
+            T.WIDTH ≤ 64 → WritesOnOk W.write_str_gives f.old result text f.new }
     {
         radix::binary(self.value(), f)
     }

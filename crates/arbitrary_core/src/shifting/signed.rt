@@ -20,13 +20,17 @@ where
 
     ghost can_shl = { λ a k. (pos 0 ≤ℤ S.amount k) × (S.amount k <ℤ pos BITS) };
 
-    ghost shl_gives = { λ a k r. r ≡ val T.SIGNED (moved_left (bits BITS a) (unsigned_abs (S.amount k))) };
+    ghost shl_gives = { λ a k r. let places = unsigned_abs (S.amount k) in
+        r ≡ val T.SIGNED (moved_left (bits BITS a) places) };
 
     fn shl(self, amount: S) -> Int<T, BITS>
         requires { (pos 0 ≤ℤ S.amount amount) × (S.amount amount <ℤ pos BITS) }
-        ensures operation { result ≡ shifted_left T.SIGNED BITS self (unsigned_abs (S.amount amount)) }
-        ensures bits { result ≡ val T.SIGNED (moved_left (bits BITS self) (unsigned_abs (S.amount amount))) }
-        ensures congruent { Congruent BITS result (self *ℤ pos (2 ^ unsigned_abs (S.amount amount))) }
+        ensures operation { let places = unsigned_abs (S.amount amount) in
+            result ≡ shifted_left T.SIGNED BITS self places }
+        ensures bits { let places = unsigned_abs (S.amount amount) in
+            result ≡ val T.SIGNED (moved_left (bits BITS self) places) }
+        ensures congruent { let places = unsigned_abs (S.amount amount) in
+            Congruent BITS result (self *ℤ pos (2 ^ places)) }
         ensures none { unsigned_abs (S.amount amount) ≡ 0 → result ≡ self }
     {
         Int::<T, BITS>::from_bits(shifts::shl(self.to_bits(), amount.to_amount(), BITS))
@@ -40,13 +44,17 @@ where
 {
     ghost can_shl_assign = { λ a k. (pos 0 ≤ℤ S.amount k) × (S.amount k <ℤ pos BITS) };
 
-    ghost shl_assign_gives = { λ a k r. r ≡ val T.SIGNED (moved_left (bits BITS a) (unsigned_abs (S.amount k))) };
+    ghost shl_assign_gives = { λ a k r. let places = unsigned_abs (S.amount k) in
+        r ≡ val T.SIGNED (moved_left (bits BITS a) places) };
 
     fn shl_assign(&mut self, amount: S)
         requires { (pos 0 ≤ℤ S.amount amount) × (S.amount amount <ℤ pos BITS) }
-        ensures operation { self.new ≡ shifted_left T.SIGNED BITS self.old (unsigned_abs (S.amount amount)) }
-        ensures bits { self.new ≡ val T.SIGNED (moved_left (bits BITS self.old) (unsigned_abs (S.amount amount))) }
-        ensures congruent { Congruent BITS self.new (self.old *ℤ pos (2 ^ unsigned_abs (S.amount amount))) }
+        ensures operation { let places = unsigned_abs (S.amount amount) in
+            self.new ≡ shifted_left T.SIGNED BITS self.old places }
+        ensures bits { let places = unsigned_abs (S.amount amount) in
+            self.new ≡ val T.SIGNED (moved_left (bits BITS self.old) places) }
+        ensures congruent { let places = unsigned_abs (S.amount amount) in
+            Congruent BITS self.new (self.old *ℤ pos (2 ^ places)) }
         ensures none { unsigned_abs (S.amount amount) ≡ 0 → self.new ≡ self.old }
         ensures range { InRange T.SIGNED BITS self.new }
     {
@@ -62,14 +70,21 @@ where
 
     ghost can_shr = { λ a k. (pos 0 ≤ℤ S.amount k) × (S.amount k <ℤ pos BITS) };
 
-    ghost shr_gives = { λ a k r. r ≡ val T.SIGNED (moved_right (bits BITS a) (unsigned_abs (S.amount k)) (fill T.SIGNED (bits BITS a))) };
+    ghost shr_gives = { λ a k r. let places = unsigned_abs (S.amount k) in
+        let list = bits BITS a in
+        r ≡ val T.SIGNED (moved_right list places (fill T.SIGNED list)) };
 
     fn shr(self, amount: S) -> Int<T, BITS>
         requires { (pos 0 ≤ℤ S.amount amount) × (S.amount amount <ℤ pos BITS) }
-        ensures operation { result ≡ shifted_right T.SIGNED BITS self (unsigned_abs (S.amount amount)) }
-        ensures bits { result ≡ val T.SIGNED (moved_right (bits BITS self) (unsigned_abs (S.amount amount)) (fill T.SIGNED (bits BITS self))) }
+        ensures operation { let places = unsigned_abs (S.amount amount) in
+            result ≡ shifted_right T.SIGNED BITS self places }
+        ensures bits { let places = unsigned_abs (S.amount amount) in
+            let list = bits BITS self in
+            result ≡ val T.SIGNED (moved_right list places (fill T.SIGNED list)) }
         ensures low { (result *ℤ pos (2 ^ unsigned_abs (S.amount amount))) ≤ℤ self }
-        ensures high { self <ℤ (result *ℤ pos (2 ^ unsigned_abs (S.amount amount)) +ℤ pos (2 ^ unsigned_abs (S.amount amount))) }
+        ensures high { let places = unsigned_abs (S.amount amount) in
+            let power = pos (2 ^ places) in
+            self <ℤ (result *ℤ power +ℤ power) }
         ensures range { InRange T.SIGNED (BITS - unsigned_abs (S.amount amount)) result }
     {
         Int::<T, BITS>::new(shifts::shr(self.value(), amount.to_amount(), BITS))
@@ -83,14 +98,21 @@ where
 {
     ghost can_shr_assign = { λ a k. (pos 0 ≤ℤ S.amount k) × (S.amount k <ℤ pos BITS) };
 
-    ghost shr_assign_gives = { λ a k r. r ≡ val T.SIGNED (moved_right (bits BITS a) (unsigned_abs (S.amount k)) (fill T.SIGNED (bits BITS a))) };
+    ghost shr_assign_gives = { λ a k r. let places = unsigned_abs (S.amount k) in
+        let list = bits BITS a in
+        r ≡ val T.SIGNED (moved_right list places (fill T.SIGNED list)) };
 
     fn shr_assign(&mut self, amount: S)
         requires { (pos 0 ≤ℤ S.amount amount) × (S.amount amount <ℤ pos BITS) }
-        ensures operation { self.new ≡ shifted_right T.SIGNED BITS self.old (unsigned_abs (S.amount amount)) }
-        ensures bits { self.new ≡ val T.SIGNED (moved_right (bits BITS self.old) (unsigned_abs (S.amount amount)) (fill T.SIGNED (bits BITS self.old))) }
+        ensures operation { let places = unsigned_abs (S.amount amount) in
+            self.new ≡ shifted_right T.SIGNED BITS self.old places }
+        ensures bits { let places = unsigned_abs (S.amount amount) in
+            let list = bits BITS self.old in
+            self.new ≡ val T.SIGNED (moved_right list places (fill T.SIGNED list)) }
         ensures low { (self.new *ℤ pos (2 ^ unsigned_abs (S.amount amount))) ≤ℤ self.old }
-        ensures high { self.old <ℤ (self.new *ℤ pos (2 ^ unsigned_abs (S.amount amount)) +ℤ pos (2 ^ unsigned_abs (S.amount amount))) }
+        ensures high { let places = unsigned_abs (S.amount amount) in
+            let power = pos (2 ^ places) in
+            self.old <ℤ (self.new *ℤ power +ℤ power) }
         ensures range { InRange T.SIGNED (BITS - unsigned_abs (S.amount amount)) self.new }
     {
         *self = *self >> amount;

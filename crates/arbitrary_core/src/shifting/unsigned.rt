@@ -16,14 +16,19 @@ impl<T: UnsignedStorage, const BITS: usize, S: ShiftAmount> Shl<S> for UInt<T, B
 
     ghost can_shl = { λ a k. (pos 0 ≤ℤ S.amount k) × (S.amount k <ℤ pos BITS) };
 
-    ghost shl_gives = { λ a k r. r ≡ val T.SIGNED (moved_left (bits BITS a) (unsigned_abs (S.amount k))) };
+    ghost shl_gives = { λ a k r. let places = unsigned_abs (S.amount k) in
+        r ≡ val T.SIGNED (moved_left (bits BITS a) places) };
 
     fn shl(self, amount: S) -> UInt<T, BITS>
         requires { (pos 0 ≤ℤ S.amount amount) × (S.amount amount <ℤ pos BITS) }
-        ensures operation { result ≡ shifted_left T.SIGNED BITS self (unsigned_abs (S.amount amount)) }
-        ensures bits { result ≡ val T.SIGNED (moved_left (bits BITS self) (unsigned_abs (S.amount amount))) }
-        ensures plain { result ≡ pos (unsigned_abs self * 2 ^ unsigned_abs (S.amount amount) % 2 ^ BITS) }
-        ensures congruent { Congruent BITS result (self *ℤ pos (2 ^ unsigned_abs (S.amount amount))) }
+        ensures operation { let places = unsigned_abs (S.amount amount) in
+            result ≡ shifted_left T.SIGNED BITS self places }
+        ensures bits { let places = unsigned_abs (S.amount amount) in
+            result ≡ val T.SIGNED (moved_left (bits BITS self) places) }
+        ensures plain { let places = unsigned_abs (S.amount amount) in
+            result ≡ pos (unsigned_abs self * 2 ^ places % 2 ^ BITS) }
+        ensures congruent { let places = unsigned_abs (S.amount amount) in
+            Congruent BITS result (self *ℤ pos (2 ^ places)) }
     {
         UInt::new(shifts::shl(self.value(), amount.to_amount(), BITS))
     }
@@ -32,14 +37,19 @@ impl<T: UnsignedStorage, const BITS: usize, S: ShiftAmount> Shl<S> for UInt<T, B
 impl<T: UnsignedStorage, const BITS: usize, S: ShiftAmount> ShlAssign<S> for UInt<T, BITS> {
     ghost can_shl_assign = { λ a k. (pos 0 ≤ℤ S.amount k) × (S.amount k <ℤ pos BITS) };
 
-    ghost shl_assign_gives = { λ a k r. r ≡ val T.SIGNED (moved_left (bits BITS a) (unsigned_abs (S.amount k))) };
+    ghost shl_assign_gives = { λ a k r. let places = unsigned_abs (S.amount k) in
+        r ≡ val T.SIGNED (moved_left (bits BITS a) places) };
 
     fn shl_assign(&mut self, amount: S)
         requires { (pos 0 ≤ℤ S.amount amount) × (S.amount amount <ℤ pos BITS) }
-        ensures operation { self.new ≡ shifted_left T.SIGNED BITS self.old (unsigned_abs (S.amount amount)) }
-        ensures bits { self.new ≡ val T.SIGNED (moved_left (bits BITS self.old) (unsigned_abs (S.amount amount))) }
-        ensures plain { self.new ≡ pos (unsigned_abs self.old * 2 ^ unsigned_abs (S.amount amount) % 2 ^ BITS) }
-        ensures congruent { Congruent BITS self.new (self.old *ℤ pos (2 ^ unsigned_abs (S.amount amount))) }
+        ensures operation { let places = unsigned_abs (S.amount amount) in
+            self.new ≡ shifted_left T.SIGNED BITS self.old places }
+        ensures bits { let places = unsigned_abs (S.amount amount) in
+            self.new ≡ val T.SIGNED (moved_left (bits BITS self.old) places) }
+        ensures plain { let places = unsigned_abs (S.amount amount) in
+            self.new ≡ pos (unsigned_abs self.old * 2 ^ places % 2 ^ BITS) }
+        ensures congruent { let places = unsigned_abs (S.amount amount) in
+            Congruent BITS self.new (self.old *ℤ pos (2 ^ places)) }
     {
         *self = *self << amount;
     }
@@ -50,12 +60,17 @@ impl<T: UnsignedStorage, const BITS: usize, S: ShiftAmount> Shr<S> for UInt<T, B
 
     ghost can_shr = { λ a k. (pos 0 ≤ℤ S.amount k) × (S.amount k <ℤ pos BITS) };
 
-    ghost shr_gives = { λ a k r. r ≡ val T.SIGNED (moved_right (bits BITS a) (unsigned_abs (S.amount k)) (fill T.SIGNED (bits BITS a))) };
+    ghost shr_gives = { λ a k r. let places = unsigned_abs (S.amount k) in
+        let list = bits BITS a in
+        r ≡ val T.SIGNED (moved_right list places (fill T.SIGNED list)) };
 
     fn shr(self, amount: S) -> UInt<T, BITS>
         requires { (pos 0 ≤ℤ S.amount amount) × (S.amount amount <ℤ pos BITS) }
-        ensures operation { result ≡ shifted_right T.SIGNED BITS self (unsigned_abs (S.amount amount)) }
-        ensures bits { result ≡ val T.SIGNED (moved_right (bits BITS self) (unsigned_abs (S.amount amount)) (fill T.SIGNED (bits BITS self))) }
+        ensures operation { let places = unsigned_abs (S.amount amount) in
+            result ≡ shifted_right T.SIGNED BITS self places }
+        ensures bits { let places = unsigned_abs (S.amount amount) in
+            let list = bits BITS self in
+            result ≡ val T.SIGNED (moved_right list places (fill T.SIGNED list)) }
         ensures quotient { result ≡ int_div self (pos (2 ^ unsigned_abs (S.amount amount))) }
     {
         UInt::new(shifts::shr(self.value(), amount.to_amount(), BITS))
@@ -65,12 +80,17 @@ impl<T: UnsignedStorage, const BITS: usize, S: ShiftAmount> Shr<S> for UInt<T, B
 impl<T: UnsignedStorage, const BITS: usize, S: ShiftAmount> ShrAssign<S> for UInt<T, BITS> {
     ghost can_shr_assign = { λ a k. (pos 0 ≤ℤ S.amount k) × (S.amount k <ℤ pos BITS) };
 
-    ghost shr_assign_gives = { λ a k r. r ≡ val T.SIGNED (moved_right (bits BITS a) (unsigned_abs (S.amount k)) (fill T.SIGNED (bits BITS a))) };
+    ghost shr_assign_gives = { λ a k r. let places = unsigned_abs (S.amount k) in
+        let list = bits BITS a in
+        r ≡ val T.SIGNED (moved_right list places (fill T.SIGNED list)) };
 
     fn shr_assign(&mut self, amount: S)
         requires { (pos 0 ≤ℤ S.amount amount) × (S.amount amount <ℤ pos BITS) }
-        ensures operation { self.new ≡ shifted_right T.SIGNED BITS self.old (unsigned_abs (S.amount amount)) }
-        ensures bits { self.new ≡ val T.SIGNED (moved_right (bits BITS self.old) (unsigned_abs (S.amount amount)) (fill T.SIGNED (bits BITS self.old))) }
+        ensures operation { let places = unsigned_abs (S.amount amount) in
+            self.new ≡ shifted_right T.SIGNED BITS self.old places }
+        ensures bits { let places = unsigned_abs (S.amount amount) in
+            let list = bits BITS self.old in
+            self.new ≡ val T.SIGNED (moved_right list places (fill T.SIGNED list)) }
         ensures quotient { self.new ≡ int_div self.old (pos (2 ^ unsigned_abs (S.amount amount))) }
     {
         *self = *self >> amount;
