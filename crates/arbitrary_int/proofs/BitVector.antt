@@ -20,14 +20,17 @@ use Rattle.arbitrary_base.proofs.operations.Folding.{bitwise_xor-chain, bitwise_
 use Rattle.arbitrary_base.proofs.integers.Powers.{power-one, power-zero}
 use Rattle.arbitrary_base.proofs.operations.PowerAndQuotient.{to_u128_bits-back, power-twice, quotient-self, power-of_one, power-of_zero}
 use Rattle.arbitrary_base.proofs.modular.Residue.{wrap-of_in_range}
+use Rattle.arbitrary_int.proofs.BitByBit.{and-compared, bit-and, bit-highest, bit-minus_one, bit-not, bit-or, bit-xor, bit-zero, compared-and, compared-not, compared-or, compared-xor, not-compared, or-compared, xor-compared}
 use Rattle.arbitrary_int.proofs.BitTests.{low-of_right_cleared, low-of_right_other_cleared, low-of_right_other_set, masked-of_other_cleared, masked-of_other_set}
 use Rattle.arbitrary_base.proofs.operations.Multiple.{multiple-before, multiple-next, multiples-added, multiples-apart, sum-doubles, wrapped_product-highest}
 use Rattle.arbitrary_int.proofs.KnownCount.{popcount-of_numeral}
 use Rattle.arbitrary_int.proofs.KnownEnds.{front-of_negative, front_ones-of_negative, front_ones-of_numeral, popcount-of_negative, tail_ones-of_negative, tail_ones-of_numeral}
 use Rattle.arbitrary_int.proofs.CountBounds.{front-of_numeral}
 use Rattle.arbitrary_int.proofs.LeadingZeros.{tail-of_numeral}
+use Rattle.arbitrary_int.proofs.MaskTests.{and_not-none, or-equal_xor, or-unchanged, xor-equal_or, xor-none, xor-unchanged}
 use Rattle.arbitrary_int.proofs.QuotientAndCube.{negated-is_difference, power-thrice, quotient-times}
-use Rattle.arbitrary_int.proofs.SingleBit.{and-one_bit, left-of_one, low-of_right, low-of_right_set}
+use Rattle.arbitrary_int.proofs.ShiftPairs.{further-at_most, left_right-wraps, nearer-at_least, rotated_left-as_sum, rotated_left-as_xor}
+use Rattle.arbitrary_int.proofs.SingleBit.{and-one_bit, left-of_one, low-of_right, low-of_right_not, low-of_right_set, reversed-one, reversed-one_bit}
 use Rattle.arbitrary_int.proofs.WrittenParts.{and-of_written_or, and-written, or-of_written_parts, or-written, xor-of_written_parts, xor-written}
 use Rattle.arbitrary_int.proofs.WrittenMask.{and-none, and-of_cleared_by_negative, or-by_mask, xor-by_mask}
 use Rattle.arbitrary_base.proofs.operations.Shift.{left_right-mask, left_right-mask_not, left_right-numeral, right_left-mask, right_left-mask_not, right_left-mask_signed, right_left-numeral, right_left-numeral_signed, shifted_left-and, shifted_left-difference, shifted_left-is_product, shifted_left-none, shifted_left-or, shifted_left-past, shifted_left-sum, shifted_left-twice, shifted_left-xor, shifted_left-zero, shifted_right-and, shifted_right-none, shifted_right-not, shifted_right-or, shifted_right-twice, shifted_right-xor, shifted_right-zero}
@@ -38,8 +41,8 @@ pub ruleset bits = (Decides-int_eq, bitwise_and-commutes, bitwise_and-associates
 -- `& | ^ !` one over another
 pub ruleset distribution = (Decides-int_eq, and-distributes_or, or-distributes_and, and-distributes_xor, and-absorbs, or-absorbs, not-and_parts, not-or_parts, not-xor_left, xor-is_and, bitwise_and-commutes, bitwise_or-commutes, bitwise_xor-commutes, bitwise_not-twice)
 
--- shifts
-pub ruleset shifts = (Decides-int_eq, shifted_left-none, shifted_left-zero, shifted_left-twice, shifted_left-past, shifted_left-sum, shifted_left-difference, shifted_left-and, shifted_left-or, shifted_left-xor, sum-twice, shifted_right-none, shifted_right-zero, shifted_right-twice, shifted_right-and, shifted_right-or, shifted_right-xor, right_left-mask, right_left-mask_signed, right_left-mask_not, left_right-mask, left_right-mask_not, bitwise_not-zero, bitwise_not-zero_signed, shifted_right-not, right_left-numeral, right_left-numeral_signed, left_right-numeral)
+-- shifts, also left and back
+pub ruleset shifts = (Decides-int_eq, shifted_left-none, shifted_left-zero, shifted_left-twice, shifted_left-past, shifted_left-sum, shifted_left-difference, shifted_left-and, shifted_left-or, shifted_left-xor, sum-twice, shifted_right-none, shifted_right-zero, shifted_right-twice, shifted_right-and, shifted_right-or, shifted_right-xor, right_left-mask, right_left-mask_signed, right_left-mask_not, left_right-mask, left_right-mask_not, bitwise_not-zero, bitwise_not-zero_signed, shifted_right-not, right_left-numeral, right_left-numeral_signed, left_right-numeral, left_right-wraps, wrap-of_in_range)
 
 -- a number under `^` with itself shifted
 pub ruleset shifted_xors = (Decides-int_eq, bitwise_xor-zero, bitwise_xor-undoes, bitwise_xor-chain, bitwise_xor-exchanged, shifted_right-xor, shifted_right-twice, shifted_right-past, shifted_left-xor, shifted_left-twice, shifted_left-past)
@@ -50,8 +53,8 @@ pub ruleset folds = (Decides-int_eq, folded-twice, folded-away)
 -- rotations
 pub ruleset rotations = (Decides-int_eq, rotated_left-none, rotated_left-twice, rotated_left-round, rotated_left-zero, rotated_left-highest, rotated_left-minus_one, rotated_left-not_zero, rotated_left-and, rotated_left-or, rotated_left-xor, rotated_left-not, rotated_right-none, rotated_right-as_left, right-undoes_left, left-undoes_right)
 
--- the reversal, and a rotation as two shifts
-pub ruleset reversals = (Decides-int_eq, reversed-zero, reversed-highest, reversed-minus_one, reversed-not_zero, reversed-and, reversed-or, reversed-xor, reversed-not, reversed-twice, reversed-rotated_left, reversed-rotated_right, reversed-shifted_left, reversed-shifted_right, rotated_left-as_shifts, bitwise_or-commutes, rotated_right-as_left)
+-- the reversal, also of one bit, and a rotation as two shifts joined by `|`, `^` or a sum
+pub ruleset reversals = (Decides-int_eq, reversed-zero, reversed-highest, reversed-minus_one, reversed-not_zero, reversed-and, reversed-or, reversed-xor, reversed-not, reversed-twice, reversed-rotated_left, reversed-rotated_right, reversed-shifted_left, reversed-shifted_right, rotated_left-as_shifts, bitwise_or-commutes, rotated_right-as_left, rotated_left-as_xor, rotated_left-as_sum, reversed-one, reversed-one_bit, bitwise_xor-commutes, wrapped_sum-commutes)
 
 -- counts of bits
 pub ruleset counts = (Decides-int_eq, popcount-of_zero, popcount-of_highest, popcount-of_minus_one, popcount-of_not, popcount-of_reversed, popcount-of_left, popcount-of_right, zero-of_no_ones, no_ones-of_zero, front-of_zero, front-of_not_zero, front-of_highest, front_ones-of_not, front_zeros-of_not, tail-of_zero, tail-of_not_zero, tail-of_highest, tail_ones-of_not, tail_zeros-of_not, tail-of_reversed, front-of_reversed, bitwise_not-zero, bitwise_not-zero_signed, popcount-of_and, popcount-of_and_or, popcount-of_or)
@@ -84,7 +87,7 @@ pub ruleset complements = (Decides-int_eq, not-is_difference, negated-is_sum, no
 pub ruleset carries = (Decides-int_eq, sum-with_carry, sum-less_xor, sum-less_or, sum-less_and, difference-of_parts, difference-with_borrow, difference-less_xor, or-is_sum, xor-is_sum, or-less_xor, sum-with_highest, difference-with_highest, sum-twice, wrapped_product-two, wrapped_product-commutes, bitwise_and-commutes, bitwise_or-commutes, bitwise_xor-commutes, wrapped_sum-commutes)
 
 -- the order: what its tests tell, and bits, shifts and signs beside it
-pub ruleset order = (Decides-int_eq, le-tested, lt-tested, ge-tested, gt-tested, or-above, and-below_or, xor-below_or, or-below_sum, or-below_clamped, difference-below_xor, shifted_right-keeps_order, and-negative, or-negative, xor-negative, bitwise_and-commutes, bitwise_or-commutes, bitwise_xor-commutes)
+pub ruleset order = (Decides-int_eq, le-tested, lt-tested, ge-tested, gt-tested, or-above, and-below_or, xor-below_or, or-below_sum, or-below_clamped, difference-below_xor, shifted_right-keeps_order, and-negative, or-negative, xor-negative, bitwise_and-commutes, bitwise_or-commutes, bitwise_xor-commutes, further-at_most, nearer-at_least)
 
 -- the order of a signed number and its `&` or `|` with another
 pub ruleset signed_order = (le-tested, lt-tested, ge-tested, gt-tested, and-at_most, or-at_least, bitwise_and-commutes, bitwise_or-commutes)
@@ -99,7 +102,7 @@ pub ruleset cancellations = (Decides-int_eq, sums-equal, differences-equal, diff
 pub ruleset single_bits = (Decides-int_eq, left-of_one, and-one_bit, low-of_right, or-by_and, and-by_complement, and-of_cleared, and-of_set)
 
 -- one bit that is set or cleared, and then this one or another tested by `(x >> k) & 1`, another also by `x & (1 << k)`
-pub ruleset bit_tests = (Decides-int_eq, low-of_right_set, low-of_right_cleared, low-of_right_other_set, low-of_right_other_cleared, masked-of_other_set, masked-of_other_cleared)
+pub ruleset bit_tests = (Decides-int_eq, low-of_right_set, low-of_right_cleared, low-of_right_other_set, low-of_right_other_cleared, masked-of_other_set, masked-of_other_cleared, low-of_right_not)
 
 -- flags that are set and cleared by a mask that is written out, exactly
 pub ruleset flags = (Decides-int_eq, and-digits, and-run, and-within, and-none, and-by_complement, and-by_negative, or-by_mask, xor-by_mask, and-of_cleared, and-of_cleared_by_negative, and-of_set)
@@ -115,3 +118,9 @@ pub ruleset negations = (Decides-int_eq, negated-is_difference, negated-twice, n
 
 -- a quotient times its divisor, and small powers
 pub ruleset quotients = (power-zero, power-one, power-twice, power-thrice, quotient-self, quotient-times, wrap-of_in_range, clamp-fits)
+
+-- any law of `& | ^ !`: the two sides are compared bit by bit
+pub ruleset bit_by_bit = (Decides-int_eq, and-compared, or-compared, xor-compared, not-compared, compared-and, compared-or, compared-xor, compared-not, bit-and, bit-or, bit-xor, bit-not, bit-zero, bit-highest, bit-minus_one)
+
+-- two tests of `&`, `|` or `^` that tell the same
+pub ruleset mask_tests = (Decides-int_eq, and_not-none, or-unchanged, or-equal_xor, xor-equal_or, xor-unchanged, xor-none, bitwise_and-commutes, bitwise_and-same, bitwise_or-commutes, bitwise_xor-commutes)

@@ -16,6 +16,9 @@ pub mod EmptyWord
 pub mod SingleBit
 pub mod OtherBits
 pub mod BitTests
+pub mod BitByBit
+pub mod MaskTests
+pub mod ShiftPairs
 pub mod WrittenMask
 pub mod WrittenParts
 pub mod QuotientAndCube

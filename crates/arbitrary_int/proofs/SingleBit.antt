@@ -1,17 +1,26 @@
--- The laws of one bit of a number with no sign, by its place k: as `1 << k`, tested and set.
-use Rattle.std.specs.Prelude.{◌≡◌, ◌⊎◌, ℕ, ℤ, zero, suc, false, pos, negsuc, unsigned_abs, max, ◌≤◌, ◌<◌, ◌*◌, ◌/◌, ◌%◌, ◌^◌, ◌*ℤ◌}
+-- The laws of one bit of a number with no sign, by its place k: as `1 << k`, tested, set and reversed, and under the complement.
+use Rattle.std.specs.Prelude.{◌≡◌, ◌⊎◌, ℕ, ℤ, zero, suc, false, pos, negsuc, unsigned_abs, max, ◌≤◌, ◌<◌, ◌+◌, ◌*◌, ◌/◌, ◌%◌, ◌^◌, ◌-ℤ◌, ◌*ℤ◌, Bool, true, List, [], ◌∷◌, ◌++◌, length, take, replicate, reverse, ◌-◌}
 use Rattle.std.specs.Int.{bit_at}
 use Rattle.std.specs.Int.Bits.{bit_and, bit_or}
-use Rattle.std.proofs.Common.{refl, ap, ◌∙◌, arith, inl, inr, div-le_self}
+use Rattle.std.proofs.Common.{refl, ap, ◌∙◌, arith, sym, subst, inl, inr, div-le_self, mod-lt}
+use Rattle.std.proofs.Math.Nat.{div-add-mod', div-eq_of_lt-le}
+use Rattle.std.proofs.Math.Pow.{shr_lt}
 use Rattle.std.proofs.lemmas.Int.{ints}
+use Rattle.std.proofs.lemmas.List.{length-replicate}
 use Rattle.std.proofs.lemmas.Nat.{pow_below, pow_pos}
 use Rattle.std.proofs.lemmas.Nat.Bits.{and_pow, bit_at-lt, bit_at-pow_same, bit_at_or, shr_and_one}
 use Rattle.arbitrary_base.specs.Range.{InRange}
-use Rattle.arbitrary_base.specs.Operation.{bitwise_and, bitwise_or, shifted_left, shifted_right}
+use Rattle.arbitrary_base.specs.BitList.{bits, shl}
+use Rattle.arbitrary_base.specs.Operation.{bitwise_and, bitwise_not, bitwise_or, reversed, shifted_left, shifted_right}
+use Rattle.arbitrary_base.proofs.integers.Ring.{pos-unsigned_abs}
+use Rattle.arbitrary_base.proofs.modular.Congruence.{pow_half, pow_split}
+use Rattle.arbitrary_base.proofs.bit_lists.Movement.{reverse-cons}
+use Rattle.arbitrary_base.proofs.bit_lists.Rotation.{reverse-alike}
 use Rattle.arbitrary_base.proofs.storages.Primitive.{unsigned-in_range}
-use Rattle.arbitrary_base.proofs.bit_lists.StdBitwise.{and-plain, or-plain}
-use Rattle.arbitrary_base.proofs.operations.Definition.{and-is, left-is, or-is}
+use Rattle.arbitrary_base.proofs.bit_lists.StdBitwise.{and-plain, not-unsigned, or-plain}
+use Rattle.arbitrary_base.proofs.operations.Definition.{and-is, bits-zero, by-bits, left-is, not-in_range, not-is, or-is, reversed-is}
 use Rattle.arbitrary_base.proofs.operations.BitsAndSums.{or-in_range}
+use Rattle.arbitrary_base.proofs.operations.RotateAndReverse.{reversed-shifted_left}
 use Rattle.arbitrary_base.proofs.operations.Shift.{shifted_right-is_shr}
 use Rattle.arbitrary_base.proofs.operations.ShiftAsProduct.{shl-stays}
 
@@ -73,3 +82,58 @@ low-of_right_set B k x h g f =
     let top : max (bit_at n k) (bit_at (2 ^ k) k) ≡ 1 = omega (arith, bit_at-lt n k, bit_at-pow_same k) in
     low-of_right B k _ h g (or-in_range false B x (shifted_left false B (pos 1) k) h) ∙ ap (λ (z : ℤ). pos (unsigned_abs z / 2 ^ k % 2)) (or-one_bit B k x h g f)
     ∙ ap pos (bit_at_or n (2 ^ k) k ∙ top)
+
+-- ---- the complement, tested
+
+-- a quotient by K of what n lacks to the number before 2 * M * K
+quotient-of_rest : (K M n q r : ℕ) → n ≡ q * K + r → r < K → q < 2 * M → (2 * M * K - 1 - n) / K ≡ 2 * M - 1 - q
+quotient-of_rest K M n q r e l h =
+    let t : (2 * M - 1 - q + 1 + q) * K ≡ 2 * M * K = ap (λ (i : ℕ). i * K) (omega arith) in
+    div-eq_of_lt-le K (omega arith) (omega arith)
+
+pub low-of_right_not : (B k : ℕ) (x : ℤ) → 1 ≤ B → k < B → InRange false B x
+    → bitwise_and false B (shifted_right false B (bitwise_not false B x) k) (pos 1) ≡ pos 1 -ℤ bitwise_and false B (shifted_right false B x k) (pos 1)
+low-of_right_not B k x h g f =
+    let n = unsigned_abs x in
+    let m = 2 ^ (B - k - 1) in
+    let b = below B x f in
+    let l = f.low in
+    let p = pos-unsigned_abs x l in
+    let d = not-unsigned false B x _ refl h f (not-is false B x) in
+    let e : 2 ^ B ≡ 2 * m * 2 ^ k = pow_split k B (omega arith) ∙ ap (λ (i : ℕ). i * 2 ^ k) (pow_half (B - k) (omega arith)) in
+    let a : unsigned_abs (bitwise_not false B x) ≡ 2 * m * 2 ^ k - 1 - n = ap unsigned_abs d ∙ (grind (arith, p, b, e)) in
+    let c : n / 2 ^ k < 2 ^ (B - k) = shr_lt (B - k) k (subst (λ (i : ℕ). n < 2 ^ i) (omega arith) b) in
+    let small : n / 2 ^ k < 2 * m = let t = pow_half (B - k) (omega arith) in omega arith in
+    let q = quotient-of_rest (2 ^ k) m n (n / 2 ^ k) (n % 2 ^ k) (sym (div-add-mod' n (2 ^ k))) (mod-lt n (pow_pos k)) small in
+    low-of_right B k (bitwise_not false B x) h g (not-in_range false B x h)
+    ∙ ap (λ (i : ℕ). pos (i % 2)) (ap (λ (i : ℕ). i / 2 ^ k) a ∙ q)
+    ∙ (let w : pos ((2 * m - 1 - n / 2 ^ k) % 2) ≡ pos 1 -ℤ pos (n / 2 ^ k % 2) = omega (arith, ints) in w)
+    ∙ ap (λ (z : ℤ). pos 1 -ℤ z) (sym (low-of_right B k x h g f))
+
+-- ---- reversed
+
+list-of_one : (n : ℕ) → bits (suc n) (pos 1) ≡ true ∷ replicate n false
+unfolding bits
+list-of_one n = ap (λ (l : List Bool). true ∷ l) (bits-zero n)
+
+one-turned : (n : ℕ) → reverse (true ∷ replicate n false) ≡ shl (true ∷ replicate n false) n
+one-turned n =
+    let e : suc (length (replicate n false)) - n ≡ 1 = let r = length-replicate n false in omega (arith, r) in
+    reverse-cons true (replicate n false) ∙ ap (λ (l : List Bool). l ++ true ∷ []) (reverse-alike n false)
+    ∙ ap (λ (i : ℕ). replicate n false ++ take i (true ∷ replicate n false)) (sym e)
+
+pub reversed-one : (B : ℕ) → 1 ≤ B → reversed false B (pos 1) ≡ pos (2 ^ (B - 1))
+reversed-one zero h = absurd (omega arith)
+reversed-one (suc n) h =
+    by-bits _ _ _ _ _ (reversed-is false (suc n) (pos 1)) (left-is false (suc n) (pos 1) n)
+    (ap reverse (list-of_one n) ∙ one-turned n ∙ ap (λ (l : List Bool). shl l n) (sym (list-of_one n)))
+    ∙ left-of_one (suc n) n (omega arith) ∙ ap (λ (i : ℕ). pos (2 ^ i)) (omega arith)
+
+pub reversed-one_bit : (B k : ℕ) → k < B → reversed false B (shifted_left false B (pos 1) k) ≡ shifted_left false B (pos 1) (B - 1 - k)
+reversed-one_bit B k g =
+    let p = pow_pos k in
+    let e = pow_split k (B - 1) (omega arith) in
+    let d : 2 ^ (B - 1) / 2 ^ k ≡ 2 ^ (B - 1 - k) = div-eq_of_lt-le (2 ^ k) (omega arith) (omega arith) in
+    reversed-shifted_left B (pos 1) k (omega arith) ∙ ap (λ (z : ℤ). shifted_right false B z k) (reversed-one B (omega arith))
+    ∙ right-natural B k (pos (2 ^ (B - 1))) (omega arith) g (unsigned-in_range B _ (pow_below (B - 1) B (omega arith))) ∙ ap pos d
+    ∙ sym (left-of_one B (B - 1 - k) (omega arith))

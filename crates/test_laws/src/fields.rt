@@ -45,6 +45,14 @@ pub fn another_bit_is_tested_as_before(map: u24, place: u8, other: u8) -> bool
     ((set >> place) & u24::new(1) == u24::new(1)) == ((map >> place) & u24::new(1) == u24::new(1))
 }
 
+#[tactic(auto, using(arbitrary_int::proofs::BitVector::bit_tests))]
+pub fn complement_is_tested(map: u24, place: u8) -> bool
+    requires { place < 24 }
+    ensures { IsTrue result }
+{
+    ((!map >> place) & u24::new(1) == u24::new(1)) == ((map >> place) & u24::new(1) == u24::zero())
+}
+
 #[tactic(auto, using(arbitrary_int::proofs::Sets::fields))]
 pub fn six_fields(a: u7, b: u5, c: u5, d: u3, e: u5, f: u7) -> u32
     ensures { pos result ≡ pos 33554432 *ℤ a +ℤ pos 1048576 *ℤ b +ℤ pos 32768 *ℤ c +ℤ pos 4096 *ℤ d +ℤ pos 128 *ℤ e +ℤ f }

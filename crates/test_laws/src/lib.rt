@@ -2,6 +2,7 @@
 //! ensures that they are. None has a proof of its own: each file or function names one set of laws.
 #![tactic(auto)]
 
+pub mod bit_by_bit;
 pub mod bits;
 pub mod cancellations;
 pub mod carries;
@@ -15,6 +16,7 @@ pub mod former_names;
 pub mod generic;
 pub mod generic_calls;
 pub mod known_counts;
+pub mod mask_tests;
 pub mod masks;
 pub mod mixed;
 pub mod multiples;

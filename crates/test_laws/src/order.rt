@@ -2,7 +2,7 @@
 //! no order, and `cancellations` those of `==`.
 #![tactic(auto, using(arbitrary_int::proofs::BitVector::order))]
 
-ghost use Rattle.std.specs.Prelude.{IsTrue};
+ghost use Rattle.std.specs.Prelude.{IsTrue, ◌≤◌, ◌<◌};
 
 use arbitrary_int::prelude::*;
 
@@ -70,4 +70,18 @@ pub fn sign_of_xor(x: i48, y: i48) -> bool
     ensures { IsTrue result }
 {
     x.is_negative() || y.is_negative() || !(x ^ y).is_negative()
+}
+
+pub fn shr_by_more(x: u12, j: u8, k: u8) -> bool
+    requires more { j ≤ k }
+    requires place { k < 12 }
+    ensures { IsTrue result }
+{
+    x >> k <= x >> j
+}
+
+pub fn xor_of_min_and_max(x: i12, y: i12) -> bool
+    ensures { IsTrue result }
+{
+    x.min(y) ^ x.max(y) == x ^ y
 }

@@ -1,7 +1,7 @@
 //! Laws of the reversal, and a rotation as two shifts.
 #![tactic(auto, using(arbitrary_int::proofs::BitVector::reversals))]
 
-ghost use Rattle.std.specs.Prelude.{IsTrue};
+ghost use Rattle.std.specs.Prelude.{IsTrue, ◌<◌};
 
 use arbitrary_int::prelude::*;
 
@@ -51,4 +51,35 @@ pub fn rotr_is_shifts(x: u12) -> bool
     ensures { IsTrue result }
 {
     x.rotate_right(3) == (x.wrapping_shr(3) | x.wrapping_shl(12 - 3))
+}
+
+pub fn rotl_by_xor(x: u12) -> bool
+    ensures { IsTrue result }
+{
+    (x << 4) ^ (x >> 8) == x.rotate_left(4)
+}
+
+pub fn rotl_by_sum(x: u12) -> bool
+    ensures { IsTrue result }
+{
+    (x << 4).wrapping_add(x >> 8) == x.rotate_left(4)
+}
+
+pub fn rotr_by_xor(x: u24) -> bool
+    ensures { IsTrue result }
+{
+    (x >> 4) ^ (x << 20) == x.rotate_right(4)
+}
+
+pub fn one_reversed() -> bool
+    ensures { IsTrue result }
+{
+    u4::new(1).reverse_bits() == u4::new(8)
+}
+
+pub fn one_bit_reversed(k: u8) -> bool
+    requires { k < 24 }
+    ensures { IsTrue result }
+{
+    (u24::new(1) << k).reverse_bits() == u24::new(1) << (23 - k)
 }

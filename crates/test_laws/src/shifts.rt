@@ -1,7 +1,7 @@
 //! Laws of shifts, alone and over bits and sums.
 #![tactic(auto, using(arbitrary_int::proofs::BitVector::shifts))]
 
-ghost use Rattle.std.specs.Prelude.{IsTrue};
+ghost use Rattle.std.specs.Prelude.{IsTrue, ◌≤ℤ◌, ◌<ℤ◌, negsuc, pos};
 
 use arbitrary_int::prelude::*;
 
@@ -75,4 +75,18 @@ pub fn shr_xor_signed(x: i12, y: i12) -> bool
     ensures { IsTrue result }
 {
     ((x ^ y).wrapping_shr(2)) == (x.wrapping_shr(2) ^ y.wrapping_shr(2))
+}
+
+pub fn small_shl_shr(x: i12) -> bool
+    requires low { negsuc 127 ≤ℤ x }
+    requires high { x <ℤ pos 128 }
+    ensures { IsTrue result }
+{
+    (x << 4) >> 4 == x
+}
+
+pub fn sign_extended(x: i12) -> bool
+    ensures { IsTrue result }
+{
+    (x << 8) >> 8 == i12::from_(x.as_::<i4>())
 }

@@ -1,0 +1,58 @@
+//! Laws of `& | ^ !`, each by the set `bit_by_bit` alone, at several widths: the two sides are compared bit by bit.
+#![tactic(auto, using(arbitrary_int::proofs::BitVector::bit_by_bit))]
+
+ghost use Rattle.std.specs.Prelude.{IsTrue};
+
+use arbitrary_int::prelude::*;
+
+pub fn and_by_xor(x: u24, y: u24) -> bool
+    ensures { IsTrue result }
+{
+    x & y == x ^ (x & !y)
+}
+
+pub fn both_ors(x: i12, y: i12) -> bool
+    ensures { IsTrue result }
+{
+    (x | y) & (x | !y) == x
+}
+
+pub fn consensus(x: u24, y: u24, z: u24) -> bool
+    ensures { IsTrue result }
+{
+    (x & y) | (!x & z) | (y & z) == (x & y) | (!x & z)
+}
+
+pub fn complement_of_choice(m: u7, x: u7, y: u7) -> bool
+    ensures { IsTrue result }
+{
+    !((m & x) | (!m & y)) == (m & !x) | (!m & !y)
+}
+
+pub fn majority<const BITS: usize>(
+    x: UInt<u16, BITS>,
+    y: UInt<u16, BITS>,
+    z: UInt<u16, BITS>,
+) -> bool
+    ensures { IsTrue result }
+{
+    ((x ^ y) & z) | (x & y) == (x & y) | (x & z) | (y & z)
+}
+
+pub fn set_then_cleared(set: UInt<u8, 8>, bit: UInt<u8, 8>) -> bool
+    ensures { IsTrue result }
+{
+    (set | bit) & !bit == set & !bit
+}
+
+pub fn result_on_the_right(x: u48, y: u48) -> bool
+    ensures { IsTrue result }
+{
+    x == (x & !y) | (x & y)
+}
+
+pub fn turned_over(x: i12, y: i12) -> bool
+    ensures { IsTrue result }
+{
+    (x ^ i12::new(-1)) & y == y & !x
+}

@@ -1,0 +1,42 @@
+//! Two tests of bits that tell the same, each by the set `mask_tests` alone.
+#![tactic(auto, using(arbitrary_int::proofs::BitVector::mask_tests))]
+
+ghost use Rattle.std.specs.Prelude.{IsTrue};
+
+use arbitrary_int::prelude::*;
+
+pub fn within_mask(x: u24, y: u24) -> bool
+    ensures { IsTrue result }
+{
+    (x & y == x) == (x & !y == u24::zero())
+}
+
+pub fn within_by_or(a: UInt<u8, 8>, b: UInt<u8, 8>) -> bool
+    ensures { IsTrue result }
+{
+    (a & b == a) == (a | b == b)
+}
+
+pub fn within_each_other(x: i48, y: i48) -> bool
+    ensures { IsTrue result }
+{
+    (x & !y == i48::zero() && y & !x == i48::zero()) == (x == y)
+}
+
+pub fn changes_nothing(x: u12, y: u12) -> bool
+    ensures { IsTrue result }
+{
+    (x ^ y == x) == (y == u12::zero())
+}
+
+pub fn no_difference(a: u80, b: u80) -> bool
+    ensures { IsTrue result }
+{
+    (a ^ b == u80::zero()) == (a == b)
+}
+
+pub fn no_bit_in_common(a: i12, b: i12) -> bool
+    ensures { IsTrue result }
+{
+    a & b != i12::zero() || a ^ b == a | b
+}
