@@ -13,6 +13,7 @@ pub mod RotateAndReverse
 pub mod RotatedNumber
 pub mod PopulationAndRuns
 pub mod RunBesideCount
+pub mod RunsByDigits
 pub mod ZeroRunBounds
 pub mod OneRunBounds
 pub mod BitsAndSums

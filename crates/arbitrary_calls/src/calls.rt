@@ -4,6 +4,7 @@
 ghost use Rattle.std.specs.Prelude.{length, not, ◌≡◌, ◌≢◌, ◌↔◌, ◌≤◌, ◌<◌, ◌+◌, ◌-◌, ◌*◌, ◌%◌, ◌^◌, ◌≤ℤ◌, ◌<ℤ◌, ◌+ℤ◌, ◌-ℤ◌, ◌*ℤ◌, ℤ, pos, neg_ℤ, unsigned_abs, count_ones, IsTrue, IsNone, IfSome, false, true, int_div, reverse, Some, SomeIff, option_map};
 ghost use Rattle.std.specs.Bool.{beq};
 ghost use Rattle.std.specs.Int.{int_pow};
+ghost use Rattle.std.specs.Int.Count.{count_leading_zeros, count_trailing_zeros};
 ghost use Rattle.std.specs.Int.Digits.{digits_of};
 ghost use Rattle.std.specs.List.{slice_rotate_right, count_by, suffix_len, prefix_len};
 ghost use Rattle.arbitrary_base.specs.Range.{InRange, lo, hi};
@@ -83,6 +84,7 @@ pub trait FixedWidthCalls: Numbered + LowBits {
         ensures range { InRange Self.IS_SIGNED Self.BITS (Self.number self) }
         ensures bounded { InRange Self.IS_SIGNED Self.BITS (Self.number result) }
         ensures swap { Self.number self +ℤ Self.number rhs ≡ Self.number rhs +ℤ Self.number self }
+        ensures operand { InRange Self.IS_SIGNED Self.BITS (Self.number rhs) }
     {
         Self::from_storage(saturating::add(self.to_storage(), rhs.to_storage(), Self::BITS))
     }
@@ -95,6 +97,8 @@ pub trait FixedWidthCalls: Numbered + LowBits {
         ensures swap { Self.number self +ℤ Self.number rhs ≡ Self.number rhs +ℤ Self.number self }
         ensures zero { let number = Self.number in
             number rhs ≡ pos 0 → option_map number result ≡ Some (number self) }
+        ensures range { InRange Self.IS_SIGNED Self.BITS (Self.number self) }
+        ensures operand { InRange Self.IS_SIGNED Self.BITS (Self.number rhs) }
     {
         match checked::add(self.to_storage(), rhs.to_storage(), Self::BITS) {
             Some(sum) => Some(Self::from_storage(sum)),
@@ -114,6 +118,8 @@ pub trait FixedWidthCalls: Numbered + LowBits {
         ensures congruent { let sum = Self.number self +ℤ Self.number rhs in
             Congruent Self.BITS (Self.number result.0) sum }
         ensures swap { Self.number self +ℤ Self.number rhs ≡ Self.number rhs +ℤ Self.number self }
+        ensures range { InRange Self.IS_SIGNED Self.BITS (Self.number self) }
+        ensures operand { InRange Self.IS_SIGNED Self.BITS (Self.number rhs) }
     {
         let (sum, overflow) = overflowing::add(self.to_storage(), rhs.to_storage(), Self::BITS);
         (Self::from_storage(sum), overflow)
@@ -152,6 +158,7 @@ pub trait FixedWidthCalls: Numbered + LowBits {
             difference <ℤ lowest → Self.number result ≡ lowest }
         ensures range { InRange Self.IS_SIGNED Self.BITS (Self.number self) }
         ensures bounded { InRange Self.IS_SIGNED Self.BITS (Self.number result) }
+        ensures operand { InRange Self.IS_SIGNED Self.BITS (Self.number rhs) }
     {
         Self::from_storage(saturating::sub(self.to_storage(), rhs.to_storage(), Self::BITS))
     }
@@ -163,6 +170,8 @@ pub trait FixedWidthCalls: Numbered + LowBits {
             SomeIff (option_map Self.number result) fits difference }
         ensures zero { let number = Self.number in
             number rhs ≡ pos 0 → option_map number result ≡ Some (number self) }
+        ensures range { InRange Self.IS_SIGNED Self.BITS (Self.number self) }
+        ensures operand { InRange Self.IS_SIGNED Self.BITS (Self.number rhs) }
     {
         match checked::sub(self.to_storage(), rhs.to_storage(), Self::BITS) {
             Some(difference) => Some(Self::from_storage(difference)),
@@ -181,6 +190,8 @@ pub trait FixedWidthCalls: Numbered + LowBits {
             InRange Self.IS_SIGNED Self.BITS difference → Self.number result.0 ≡ difference }
         ensures congruent { let difference = Self.number self -ℤ Self.number rhs in
             Congruent Self.BITS (Self.number result.0) difference }
+        ensures range { InRange Self.IS_SIGNED Self.BITS (Self.number self) }
+        ensures operand { InRange Self.IS_SIGNED Self.BITS (Self.number rhs) }
     {
         let (difference, overflow) = overflowing::sub(
             self.to_storage(),
@@ -200,6 +211,8 @@ pub trait FixedWidthCalls: Numbered + LowBits {
             InRange Self.IS_SIGNED Self.BITS product → Self.number result ≡ product }
         ensures congruent { let product = Self.number self *ℤ Self.number rhs in
             Congruent Self.BITS (Self.number result) product }
+        ensures range { InRange Self.IS_SIGNED Self.BITS (Self.number self) }
+        ensures operand { InRange Self.IS_SIGNED Self.BITS (Self.number rhs) }
     {
         Self::from_u128_bits(self.low_bits().wrapping_mul(rhs.low_bits()))
     }
@@ -220,6 +233,7 @@ pub trait FixedWidthCalls: Numbered + LowBits {
         ensures range { InRange Self.IS_SIGNED Self.BITS (Self.number self) }
         ensures bounded { InRange Self.IS_SIGNED Self.BITS (Self.number result) }
         ensures swap { Self.number self *ℤ Self.number rhs ≡ Self.number rhs *ℤ Self.number self }
+        ensures operand { InRange Self.IS_SIGNED Self.BITS (Self.number rhs) }
     {
         Self::from_storage(saturating::mul(self.to_storage(), rhs.to_storage(), Self::BITS))
     }
@@ -230,6 +244,8 @@ pub trait FixedWidthCalls: Numbered + LowBits {
             let fits = InRange Self.IS_SIGNED Self.BITS product in
             SomeIff (option_map Self.number result) fits product }
         ensures swap { Self.number self *ℤ Self.number rhs ≡ Self.number rhs *ℤ Self.number self }
+        ensures range { InRange Self.IS_SIGNED Self.BITS (Self.number self) }
+        ensures operand { InRange Self.IS_SIGNED Self.BITS (Self.number rhs) }
     {
         match checked::mul(self.to_storage(), rhs.to_storage(), Self::BITS) {
             Some(product) => Some(Self::from_storage(product)),
@@ -249,6 +265,8 @@ pub trait FixedWidthCalls: Numbered + LowBits {
         ensures congruent { let product = Self.number self *ℤ Self.number rhs in
             Congruent Self.BITS (Self.number result.0) product }
         ensures swap { Self.number self *ℤ Self.number rhs ≡ Self.number rhs *ℤ Self.number self }
+        ensures range { InRange Self.IS_SIGNED Self.BITS (Self.number self) }
+        ensures operand { InRange Self.IS_SIGNED Self.BITS (Self.number rhs) }
     {
         let (product, overflow) = overflowing::mul(self.to_storage(), rhs.to_storage(), Self::BITS);
         (Self::from_storage(product), overflow)
@@ -268,6 +286,8 @@ pub trait FixedWidthCalls: Numbered + LowBits {
         ensures itself { let number = Self.number in
             InRange Self.IS_SIGNED Self.BITS (pos 1) → number self ≡ number rhs
             → number result ≡ pos 1 }
+        ensures range { InRange Self.IS_SIGNED Self.BITS (Self.number self) }
+        ensures operand { InRange Self.IS_SIGNED Self.BITS (Self.number rhs) }
     {
         Self::from_storage(wrapping::div(self.to_storage(), rhs.to_storage(), Self::BITS))
     }
@@ -291,6 +311,7 @@ pub trait FixedWidthCalls: Numbered + LowBits {
         ensures itself { let number = Self.number in
             InRange Self.IS_SIGNED Self.BITS (pos 1) → number self ≡ number rhs
             → number result ≡ pos 1 }
+        ensures operand { InRange Self.IS_SIGNED Self.BITS (Self.number rhs) }
     {
         Self::from_storage(saturating::div(self.to_storage(), rhs.to_storage(), Self::BITS))
     }
@@ -302,6 +323,8 @@ pub trait FixedWidthCalls: Numbered + LowBits {
             SomeIff (option_map Self.number result) ((Self.number rhs ≢ pos 0) × fits) quotient }
         ensures itself { let quotient = int_div (Self.number self) (Self.number rhs) in
             Self.number rhs ≢ pos 0 → Self.number self ≡ Self.number rhs → quotient ≡ pos 1 }
+        ensures range { InRange Self.IS_SIGNED Self.BITS (Self.number self) }
+        ensures operand { InRange Self.IS_SIGNED Self.BITS (Self.number rhs) }
     {
         match checked::div(self.to_storage(), rhs.to_storage(), Self::BITS) {
             Some(quotient) => Some(Self::from_storage(quotient)),
@@ -325,6 +348,8 @@ pub trait FixedWidthCalls: Numbered + LowBits {
         ensures itself { let number = Self.number in
             InRange Self.IS_SIGNED Self.BITS (pos 1) → number self ≡ number rhs
             → number result.0 ≡ pos 1 }
+        ensures range { InRange Self.IS_SIGNED Self.BITS (Self.number self) }
+        ensures operand { InRange Self.IS_SIGNED Self.BITS (Self.number rhs) }
     {
         let (quotient, overflow) = overflowing::div(
             self.to_storage(),
@@ -419,9 +444,11 @@ pub trait FixedWidthCalls: Numbered + LowBits {
         ensures congruent { let product = Self.number self *ℤ pos (2 ^ amount) in
             IfSome result (λ r. Congruent Self.BITS (Self.number r) product) }
         ensures none { amount ≡ 0 → IfSome result (λ r. Self.number r ≡ Self.number self) }
+        ensures operand { InRange Self.IS_SIGNED Self.BITS (Self.number self) }
     {
+        let storage = self.to_storage();
         if (amount as usize) < Self::BITS {
-            Some(Self::from_storage(shifts::shl(self.to_storage(), amount as usize, Self::BITS)))
+            Some(Self::from_storage(shifts::shl(storage, amount as usize, Self::BITS)))
         } else {
             None
         }
@@ -442,6 +469,7 @@ pub trait FixedWidthCalls: Numbered + LowBits {
             let product = Self.number self *ℤ pos (2 ^ places) in
             Congruent Self.BITS (Self.number result.0) product }
         ensures none { amount % Self.BITS ≡ 0 → Self.number result.0 ≡ Self.number self }
+        ensures operand { InRange Self.IS_SIGNED Self.BITS (Self.number self) }
     {
         (self.wrapping_shl(amount), amount as usize >= Self::BITS)
     }
@@ -484,9 +512,11 @@ pub trait FixedWidthCalls: Numbered + LowBits {
         ensures range { let number = Self.number in
             IfSome result (λ r. InRange Self.IS_SIGNED (Self.BITS - amount) (number r)) }
         ensures none { amount ≡ 0 → IfSome result (λ r. Self.number r ≡ Self.number self) }
+        ensures operand { InRange Self.IS_SIGNED Self.BITS (Self.number self) }
     {
+        let storage = self.to_storage();
         if (amount as usize) < Self::BITS {
-            Some(Self::from_storage(shifts::shr(self.to_storage(), amount as usize, Self::BITS)))
+            Some(Self::from_storage(shifts::shr(storage, amount as usize, Self::BITS)))
         } else {
             None
         }
@@ -509,6 +539,7 @@ pub trait FixedWidthCalls: Numbered + LowBits {
         ensures range { let places = amount % Self.BITS in
             InRange Self.IS_SIGNED (Self.BITS - places) (Self.number result.0) }
         ensures none { amount % Self.BITS ≡ 0 → Self.number result.0 ≡ Self.number self }
+        ensures operand { InRange Self.IS_SIGNED Self.BITS (Self.number self) }
     {
         (self.wrapping_shr(amount), amount as usize >= Self::BITS)
     }
@@ -564,6 +595,7 @@ pub trait FixedWidthCalls: Numbered + LowBits {
         ensures plain { let number = Self.number self in
             Self.IS_SIGNED ≡ false → result ≡ count_ones (unsigned_abs number) }
         ensures bound { result ≤ Self.BITS }
+        ensures most { result ≤ 128 }
         ensures none { Self.number self ≡ pos 0 → result ≡ 0 }
         ensures some { Self.number self ≢ pos 0 → 1 ≤ result }
         ensures highest { Self.number self ≡ pos (2 ^ Self.BITS) -ℤ pos 1 → result ≡ Self.BITS }
@@ -581,6 +613,7 @@ pub trait FixedWidthCalls: Numbered + LowBits {
         ensures plain { let number = Self.number self in
             Self.IS_SIGNED ≡ false → result + count_ones (unsigned_abs number) ≡ Self.BITS }
         ensures bound { result ≤ Self.BITS }
+        ensures most { result ≤ 128 }
         ensures none { Self.number self ≡ pos 0 → result ≡ Self.BITS }
         ensures found { Self.number self ≢ pos 0 → result < Self.BITS }
         ensures highest { Self.number self ≡ pos (2 ^ Self.BITS) -ℤ pos 1 → result ≡ 0 }
@@ -597,6 +630,7 @@ pub trait FixedWidthCalls: Numbered + LowBits {
     final fn leading_ones(self) -> u32
         ensures value { result ≡ suffix_len (beq true) (bits Self.BITS (Self.number self)) }
         ensures bound { result ≤ Self.BITS }
+        ensures most { result ≤ 128 }
         ensures highest { Self.number self ≡ pos (2 ^ Self.BITS) -ℤ pos 1 → result ≡ Self.BITS }
         ensures minus_one { Self.number self ≡ neg_ℤ (pos 1) → result ≡ Self.BITS }
         ensures found { let number = Self.number self in
@@ -615,6 +649,7 @@ pub trait FixedWidthCalls: Numbered + LowBits {
     final fn leading_zeros(self) -> u32
         ensures value { result ≡ suffix_len (beq false) (bits Self.BITS (Self.number self)) }
         ensures bound { result ≤ Self.BITS }
+        ensures most { result ≤ 128 }
         ensures none { Self.number self ≡ pos 0 → result ≡ Self.BITS }
         ensures found { Self.number self ≢ pos 0 → result < Self.BITS }
         ensures negative { Self.number self <ℤ pos 0 → result ≡ 0 }
@@ -627,6 +662,10 @@ pub trait FixedWidthCalls: Numbered + LowBits {
             pos 0 ≤ℤ number → number <ℤ pos (2 ^ (Self.BITS - 1)) → 1 ≤ result }
         ensures beside { let list = bits Self.BITS (Self.number self) in
             result + count_by (λ b. b) list ≤ Self.BITS }
+        ensures plain { let of_128 = count_leading_zeros 128 (unsigned_abs (Self.number self)) in
+            Self.IS_SIGNED ≡ false → result + 128 ≡ of_128 + Self.BITS }
+        ensures natural { let of_128 = count_leading_zeros 128 (unsigned_abs (Self.number self)) in
+            Self.IS_SIGNED ≡ true → pos 0 ≤ℤ Self.number self → result + 128 ≡ of_128 + Self.BITS }
     {
         patterns::leading_zeros(masked(self.low_bits(), Self::BITS), Self::BITS)
     }
@@ -636,6 +675,7 @@ pub trait FixedWidthCalls: Numbered + LowBits {
     final fn trailing_ones(self) -> u32
         ensures value { result ≡ prefix_len (beq true) (bits Self.BITS (Self.number self)) }
         ensures bound { result ≤ Self.BITS }
+        ensures most { result ≤ 128 }
         ensures highest { Self.number self ≡ pos (2 ^ Self.BITS) -ℤ pos 1 → result ≡ Self.BITS }
         ensures minus_one { Self.number self ≡ neg_ℤ (pos 1) → result ≡ Self.BITS }
         ensures found { let number = Self.number self in
@@ -649,10 +689,11 @@ pub trait FixedWidthCalls: Numbered + LowBits {
     }
 
     /// How many bits at the low end are zero before the first that is one, or all of them.
-    #[tactic(auto, using(arbitrary_base::proofs::bit_lists::ResultOfPattern::count_laws, arbitrary_base::proofs::operations::ZeroRunBounds::trailing_bounds, arbitrary_base::proofs::operations::OneRunBounds::lowest_bit, arbitrary_base::proofs::operations::RunBesideCount::zeros_beside_ones))]
+    #[tactic(auto, using(arbitrary_base::proofs::bit_lists::ResultOfPattern::count_laws, arbitrary_base::proofs::operations::ZeroRunBounds::trailing_bounds, arbitrary_base::proofs::operations::OneRunBounds::lowest_bit, arbitrary_base::proofs::operations::RunBesideCount::zeros_beside_ones, arbitrary_base::proofs::operations::RunsByDigits::trailing_count))]
     final fn trailing_zeros(self) -> u32
         ensures value { result ≡ prefix_len (beq false) (bits Self.BITS (Self.number self)) }
         ensures bound { result ≤ Self.BITS }
+        ensures most { result ≤ 128 }
         ensures none { Self.number self ≡ pos 0 → result ≡ Self.BITS }
         ensures found { Self.number self ≢ pos 0 → result < Self.BITS }
         ensures low { Congruent result (Self.number self) (pos 0) }
@@ -663,6 +704,7 @@ pub trait FixedWidthCalls: Numbered + LowBits {
         ensures lowest { (result ≡ 0) ↔ (unsigned_abs (Self.number self) % 2 ≡ 1) }
         ensures beside { let list = bits Self.BITS (Self.number self) in
             result + count_by (λ b. b) list ≤ Self.BITS }
+        ensures plain { result ≡ count_trailing_zeros Self.BITS (unsigned_abs (Self.number self)) }
     {
         patterns::trailing_zeros(self.low_bits(), Self::BITS)
     }

@@ -8,7 +8,7 @@ use Rattle.std.proofs.lemmas.Grind.{bit_length}
 use Rattle.std.proofs.lemmas.Int.{ints}
 use Rattle.std.proofs.lemmas.Nat.{pow_pos}
 use Rattle.arbitrary_base.specs.Range.{InRange}
-use Rattle.arbitrary_int.proofs.LeadingZeros.{length-between}
+use Rattle.arbitrary_base.proofs.operations.RunsByDigits.{length-between}
 
 below : (B m : ℕ) → m < 2 ^ 128 → bit_length 128 m ≤ B → m < 2 ^ B
 below B zero g h = pow_pos B

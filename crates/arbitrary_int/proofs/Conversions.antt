@@ -1,11 +1,11 @@
 -- For callers: a conversion before a sum, a difference or a product, of which the low bits are what counts.
 -- You name the set at the end by `#[tactic(auto, using(arbitrary_int::proofs::Conversions::conversions))]`; only a lemma that is in it is found.
 -- Beside it stand the sets of Everyday.antt, on words of clauses, and of BitVector.antt, on bits.
-use Rattle.std.specs.Prelude.{◌≡◌, ℕ, ℤ, Bool, false, pos, ◌+ℤ◌, ◌-ℤ◌, ◌*ℤ◌, ◌+◌, ◌%◌, ◌^◌, ◌≤◌}
-use Rattle.std.proofs.Common.{arith, ap, sym, subst, ◌∙◌}
+use Rattle.std.specs.Prelude.{◌≡◌, ℕ, ℤ, suc, Bool, false, pos, negsuc, unsigned_abs, ◌+ℤ◌, ◌-ℤ◌, ◌*ℤ◌, ◌+◌, ◌*◌, ◌/◌, ◌%◌, ◌^◌, ◌≤◌}
+use Rattle.std.proofs.Common.{arith, refl, ap, sym, subst, ◌∙◌, div-add-mod'}
 use Rattle.std.proofs.lemmas.Int.{ints}
 use Rattle.arbitrary_base.specs.Residue.{Congruent, wrap}
-use Rattle.arbitrary_base.proofs.modular.Congruence.{Congruent-refl, Congruent-add, Congruent-sub, Congruent-mul, Congruent-narrower}
+use Rattle.arbitrary_base.proofs.modular.Congruence.{Congruent-refl, Congruent-sym, Congruent-add, Congruent-sub, Congruent-mul, Congruent-narrower}
 use Rattle.arbitrary_base.proofs.storages.Primitive.{wrap-pos}
 use Rattle.arbitrary_base.proofs.modular.Residue.{wrap-congruent, wrap-same}
 
@@ -40,4 +40,19 @@ word_sum-right B a b m y e h f =
     ∙ sum-right false false B B (pos a) y h (omega arith) in
     subst (λ (z : ℤ). Congruent B z (pos a +ℤ y)) (sym w) (wrap-congruent false B (pos a +ℤ y))
 
-pub ruleset conversions = (wrap-congruent, sum-right, sum-left, difference-right, difference-left, product-right, product-left, word_sum-right)
+-- two numbers whose difference leaves no remainder: what is said of each step is added up
+pub congruent-by_remainder : (B : ℕ) (x y : ℤ) → unsigned_abs (x -ℤ y) % 2 ^ B ≡ 0 → Congruent B x y
+congruent-by_remainder B x y e = by-sign (x -ℤ y) refl e
+  where
+    by-sign : (z : ℤ) → z ≡ x -ℤ y → unsigned_abs z % 2 ^ B ≡ 0 → Congruent B x y
+    by-sign (pos n) d e =
+        let q : n ≡ n / 2 ^ B * 2 ^ B = omega (arith, div-add-mod' n (2 ^ B)) in
+        record { times = pos (n / 2 ^ B); apart = omega (arith, ints) }
+    by-sign (negsuc n) d e =
+        let q : suc n ≡ suc n / 2 ^ B * 2 ^ B = omega (arith, div-add-mod' (suc n) (2 ^ B)) in
+        Congruent-sym B y x (record { times = pos (suc n / 2 ^ B); apart = omega (arith, ints) })
+
+pub ruleset conversions = (wrap-congruent, sum-right, sum-left, difference-right, difference-left, product-right, product-left, word_sum-right, congruent-by_remainder)
+
+-- steps that wrap, one after another, up to a multiple of the numbers of the type
+pub ruleset congruences = (congruent-by_remainder, ints)

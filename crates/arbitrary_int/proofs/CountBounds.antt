@@ -12,6 +12,7 @@ use Rattle.arbitrary_base.proofs.bit_lists.UnsignedNumber.{digit, length-bits, s
 use Rattle.arbitrary_base.proofs.operations.Definition.{bits-and, bits-left, bits-or, bits-right, bits-xor, bits-zero}
 use Rattle.arbitrary_base.proofs.operations.PopulationAndRuns.{front-of_reversed, popcount-of_and, popcount-of_and_or}
 use Rattle.arbitrary_base.proofs.operations.RotateAndReverse.{reversed-shifted_right}
+use Rattle.arbitrary_base.proofs.operations.RunsByDigits.{front-counted}
 use Rattle.arbitrary_base.proofs.operations.RunBesideCount.{append-ones, front-alike_one, front_ones-below_ones, front_zeros-beside_ones, tail-alike_one, tail_ones-below_ones, tail_zeros-beside_ones}
 use Rattle.arbitrary_int.proofs.KnownCount.{popcount-of_numeral}
 
@@ -116,20 +117,7 @@ front-of_one_bit s B k h =
 
 -- ---- the runs of a number that is written out
 
-front-counted : (f B m : ℕ) → B ≤ f → 0 < m → m < 2 ^ B → prefix_len (beq false) (bits B (pos m)) ≡ low_zeros f m
-unfolding bits
-front-counted f B zero h z g = absurd (omega arith)
-front-counted f zero (suc m) h z g = absurd (omega arith)
-front-counted zero (suc B) (suc m) h z g = absurd (omega arith)
-front-counted (suc f) (suc B) (suc m) h z g = by-digit (suc m % 2) refl (λ some. front-counted f B (suc m / 2) (omega arith) some (let p = pow-suc 2 B in omega arith))
-  where
-    by-digit : (d : ℕ) → d ≡ suc m % 2 → (0 < suc m / 2 → prefix_len (beq false) (bits B (pos (suc m / 2))) ≡ low_zeros f (suc m / 2))
-        → prefix_len (beq false) ((suc m % 2 == 1) ∷ bits B (pos (suc m / 2))) ≡ low_zeros (suc f) (suc m)
-    by-digit zero e more = rw (sym e) (let r = more (omega arith) in omega arith)
-    by-digit (suc zero) e more = rw (sym e) refl
-    by-digit (suc (suc d)) e more = absurd (omega arith)
-
 pub front-of_numeral : (B m : ℕ) → B ≤ 128 → suc m < 2 ^ B → prefix_len (beq false) (bits B (pos (suc m))) ≡ low_zeros 128 (suc m)
-front-of_numeral B m h g = front-counted 128 B (suc m) h (omega arith) g
+front-of_numeral B m h g = front-counted 128 B (pos (suc m)) h (omega arith) g
 
 pub ruleset count_bounds = (front-of_numeral, popcount-of_numeral, popcount-of_and, popcount-of_and_or, popcount-of_xor, popcount-of_shifted_left, popcount-of_shifted_right, front-of_shifted_left, tail-of_shifted_right, popcount-of_one_bit, front-of_one_bit, front_zeros-beside_ones, tail_zeros-beside_ones, front_ones-below_ones, tail_ones-below_ones, front-alike_one, tail-alike_one)

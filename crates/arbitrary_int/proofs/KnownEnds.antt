@@ -12,10 +12,10 @@ use Rattle.arbitrary_base.specs.Operation.{bitwise_not}
 use Rattle.arbitrary_base.proofs.modular.Congruence.{pow_half}
 use Rattle.arbitrary_base.proofs.bit_lists.StdBitwise.{not-signed, not-unsigned}
 use Rattle.arbitrary_base.proofs.operations.Definition.{not-is}
+use Rattle.arbitrary_base.proofs.operations.RunsByDigits.{front-counted, tail-counted}
 use Rattle.arbitrary_base.proofs.operations.PopulationAndRuns.{front_ones-of_not, front_zeros-of_not, popcount-of_not, tail-of_zero, tail_ones-of_not, tail_zeros-of_not}
 use Rattle.arbitrary_int.proofs.CountBounds.{front-of_numeral}
 use Rattle.arbitrary_int.proofs.KnownCount.{counted, ones_of}
-use Rattle.arbitrary_int.proofs.LeadingZeros.{tail-of_numeral}
 
 -- the complement of a number from 0 on
 not-negative : (B n : ℕ) → 1 ≤ B → pos n ≤ℤ hi true B → bitwise_not true B (pos n) ≡ negsuc n
@@ -57,9 +57,7 @@ pub front_ones-of_numeral : (B m : ℕ) → B ≤ 128 → suc m < 2 ^ B → pref
 front_ones-of_numeral B m h g = ones-counted 128 B (suc m) h g
 
 pub front-of_negative : (B n : ℕ) → 1 ≤ B → B ≤ 128 → pos n ≤ℤ hi true B → prefix_len (beq false) (bits B (negsuc n)) ≡ low_zeros 128 (suc n)
-front-of_negative B n h g f =
-    ap (λ x. prefix_len (beq false) (bits B x)) (sym (not-negative B n h f)) ∙ front_zeros-of_not true B (pos n)
-    ∙ ones-counted 128 B n g (below B n h f)
+front-of_negative B n h g f = front-counted 128 B (negsuc n) g (omega arith) (let p = pow_half B h in let q = pow_pos (B - 1) in omega (arith, ints))
 
 pub front_ones-of_negative : (B m : ℕ) → 1 ≤ B → B ≤ 128 → pos (suc m) ≤ℤ hi true B → prefix_len (beq true) (bits B (negsuc (suc m))) ≡ low_zeros 128 (suc m)
 front_ones-of_negative B m h g f =
@@ -67,10 +65,6 @@ front_ones-of_negative B m h g f =
     ∙ front-of_numeral B m g (below B (suc m) h f)
 
 -- ---- at the high end
-
-tail-counted : (B n : ℕ) → B ≤ 128 → n < 2 ^ B → suffix_len (beq false) (bits B (pos n)) + bit_length 128 n ≡ B
-tail-counted B zero h g = let e = tail-of_zero B in omega arith
-tail-counted B (suc m) h g = tail-of_numeral B m h g
 
 pub tail_ones-of_negative : (B n : ℕ) → 1 ≤ B → B ≤ 128 → pos n ≤ℤ hi true B → suffix_len (beq true) (bits B (negsuc n)) + bit_length 128 n ≡ B
 tail_ones-of_negative B n h g f =

@@ -27,6 +27,7 @@ pub mod Truncations
 pub mod CountBounds
 pub mod LowestBit
 pub mod LeadingZeros
+pub mod TrailingZeros
 pub mod KnownEnds
 pub mod AnyWidth
 pub mod QuotientOrder

@@ -114,3 +114,9 @@ pub fn zeros_when_widened(x: u12) -> bool
 {
     x.as_::<u24>().count_zeros() == x.count_zeros() + 12
 }
+
+pub fn leading_zeros_when_widened(x: u12) -> bool
+    ensures { IsTrue result }
+{
+    x.as_::<u24>().leading_zeros() == x.leading_zeros() + 12
+}

@@ -68,3 +68,9 @@ pub fn quotient_in_range<V: FixedWidth>(x: V, y: V) -> V
 {
     x.saturating_div(y)
 }
+
+pub fn ones_and_zeros<V: FixedWidth>(x: V) -> u32
+    ensures { result ≡ V.BITS }
+{
+    x.count_ones() + x.count_zeros()
+}

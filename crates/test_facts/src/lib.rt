@@ -26,6 +26,7 @@ pub mod other_bits;
 pub mod packing;
 pub mod quotients;
 pub mod ranges;
+pub mod readers;
 pub mod records;
 pub mod replaced_fields;
 pub mod rotations;

@@ -3,6 +3,7 @@
 #![tactic(auto)]
 
 pub mod any_width;
+pub mod congruences;
 pub mod count_bounds;
 pub mod ends;
 pub mod forms;
@@ -10,4 +11,5 @@ pub mod leading_zeros;
 pub mod lowest_bits;
 pub mod quotient_order;
 pub mod small_numbers;
+pub mod trailing_zeros;
 pub mod truncations;

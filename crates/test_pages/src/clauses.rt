@@ -35,3 +35,11 @@ pub fn low_sum(a: u24, b: u24) -> u12
 {
     a.as_::<u12>().wrapping_add(b.as_::<u12>())
 }
+
+/// How far to turn from one direction to another, of 16,384 to a round, by the shorter way.
+#[tactic(auto, using(arbitrary_int::proofs::Conversions::congruences))]
+pub fn turn(from: u14, to: u14) -> i14
+    ensures { Congruent 14 (from +ℤ result) to }
+{
+    to.wrapping_sub(from).as_::<i14>()
+}

@@ -24,7 +24,7 @@ same_length B x y = length-bits B x ∙ sym (length-bits B y)
 digit-odd : (n : ℕ) → digit (eqb (n % 2) 1) ≡ n % 2
 digit-odd n = grind arith
 
-mod-suc : (k n : ℕ) → n % 2 ^ suc k ≡ n % 2 + 2 * (n / 2 % 2 ^ k)
+pub mod-suc : (k n : ℕ) → n % 2 ^ suc k ≡ n % 2 + 2 * (n / 2 % 2 ^ k)
 mod-suc k n = ap (λ (x : ℕ). n % 2 ^ x) (sym (add-one k)) ∙ mod-pow-add n k 1 ∙ omega arith
 
 div-suc : (k n : ℕ) → n / 2 ^ suc k ≡ n / 2 / 2 ^ k

@@ -32,6 +32,7 @@ where
         ensures congruent { let places = unsigned_abs (S.amount amount) in
             Congruent BITS result (self *ℤ pos (2 ^ places)) }
         ensures none { unsigned_abs (S.amount amount) ≡ 0 → result ≡ self }
+        ensures operand { InRange T.SIGNED BITS self }
     {
         Int::<T, BITS>::from_bits(shifts::shl(self.to_bits(), amount.to_amount(), BITS))
     }
@@ -57,6 +58,7 @@ where
             Congruent BITS self.new (self.old *ℤ pos (2 ^ places)) }
         ensures none { unsigned_abs (S.amount amount) ≡ 0 → self.new ≡ self.old }
         ensures range { InRange T.SIGNED BITS self.new }
+        ensures operand { InRange T.SIGNED BITS self.old }
     {
         *self = *self << amount;
     }
@@ -86,6 +88,7 @@ where
             let power = pos (2 ^ places) in
             self <ℤ (result *ℤ power +ℤ power) }
         ensures range { InRange T.SIGNED (BITS - unsigned_abs (S.amount amount)) result }
+        ensures operand { InRange T.SIGNED BITS self }
     {
         Int::<T, BITS>::new(shifts::shr(self.value(), amount.to_amount(), BITS))
     }
@@ -114,6 +117,7 @@ where
             let power = pos (2 ^ places) in
             self.old <ℤ (self.new *ℤ power +ℤ power) }
         ensures range { InRange T.SIGNED (BITS - unsigned_abs (S.amount amount)) self.new }
+        ensures operand { InRange T.SIGNED BITS self.old }
     {
         *self = *self >> amount;
     }

@@ -1,6 +1,7 @@
 //! `<<` and `>>` of `UInt`, by an amount from 0 to `BITS - 1` of any primitive integer type.
 
 ghost use Rattle.std.specs.Prelude.{◌≡◌, ◌*◌, ◌%◌, ◌^◌, ◌*ℤ◌, int_div, ◌≤ℤ◌, ◌<ℤ◌, pos, unsigned_abs};
+ghost use Rattle.arbitrary_base.specs.Range.{InRange};
 ghost use Rattle.arbitrary_base.specs.Residue.{Congruent};
 ghost use Rattle.arbitrary_base.specs.Operation.{shifted_left, shifted_right};
 ghost use Rattle.arbitrary_base.specs.BitList.{bits, val, fill, shl as moved_left, shr as moved_right};
@@ -29,6 +30,7 @@ impl<T: UnsignedStorage, const BITS: usize, S: ShiftAmount> Shl<S> for UInt<T, B
             result ≡ pos (unsigned_abs self * 2 ^ places % 2 ^ BITS) }
         ensures congruent { let places = unsigned_abs (S.amount amount) in
             Congruent BITS result (self *ℤ pos (2 ^ places)) }
+        ensures operand { InRange T.SIGNED BITS self }
     {
         UInt::new(shifts::shl(self.value(), amount.to_amount(), BITS))
     }
@@ -50,6 +52,7 @@ impl<T: UnsignedStorage, const BITS: usize, S: ShiftAmount> ShlAssign<S> for UIn
             self.new ≡ pos (unsigned_abs self.old * 2 ^ places % 2 ^ BITS) }
         ensures congruent { let places = unsigned_abs (S.amount amount) in
             Congruent BITS self.new (self.old *ℤ pos (2 ^ places)) }
+        ensures operand { InRange T.SIGNED BITS self.old }
     {
         *self = *self << amount;
     }
@@ -72,6 +75,7 @@ impl<T: UnsignedStorage, const BITS: usize, S: ShiftAmount> Shr<S> for UInt<T, B
             let list = bits BITS self in
             result ≡ val T.SIGNED (moved_right list places (fill T.SIGNED list)) }
         ensures quotient { result ≡ int_div self (pos (2 ^ unsigned_abs (S.amount amount))) }
+        ensures operand { InRange T.SIGNED BITS self }
     {
         UInt::new(shifts::shr(self.value(), amount.to_amount(), BITS))
     }
@@ -92,6 +96,7 @@ impl<T: UnsignedStorage, const BITS: usize, S: ShiftAmount> ShrAssign<S> for UIn
             let list = bits BITS self.old in
             self.new ≡ val T.SIGNED (moved_right list places (fill T.SIGNED list)) }
         ensures quotient { self.new ≡ int_div self.old (pos (2 ^ unsigned_abs (S.amount amount))) }
+        ensures operand { InRange T.SIGNED BITS self.old }
     {
         *self = *self >> amount;
     }

@@ -1,7 +1,7 @@
 use Rattle.std.specs.Prelude.{◌≡◌, ◌≤◌, ◌<◌, ◌%◌, ◌^◌, ℕ, pos, true}
 use Rattle.std.specs.Bool.{beq}
 use Rattle.std.specs.List.{count_by, suffix_len}
-use Rattle.std.proofs.Common.{ap, sym, subst, ◌∙◌}
+use Rattle.std.proofs.Common.{arith, ap, sym, subst, ◌∙◌}
 use Rattle.std.proofs.Math.Nat.{mod-eq_of_lt}
 use Rattle.arbitrary_base.specs.BitList.{bits}
 use Rattle.arbitrary_base.proofs.bit_lists.Count.{tail-fits}
@@ -25,6 +25,7 @@ returns g c =
     record {
       value = e;
       bound = subst (λ (m : ℕ). m ≤ B) (sym e) (tail-fits true B x);
+      most = let t = tail-fits true B x in let w = c.low_bits.ensures.high in omega (arith, e);
       highest = λ t. e ∙ tail-of_highest B x t;
       minus_one = λ t. e ∙ leading_ones-minus_one B x t;
       found = λ d t. subst (λ (m : ℕ). m < B) (sym e) (leading_ones-found s B x h f d t);

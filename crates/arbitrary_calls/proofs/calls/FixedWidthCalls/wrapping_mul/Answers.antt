@@ -13,4 +13,6 @@ returns g c =
       value = e;
       exact = λ f. wrapped-exact _ _ _ _ o f e;
       congruent = wrapped-congruent _ _ _ _ e;
+      range = c.low_bits.ensures.range;
+      operand = c.low_bits-2.ensures.range;
     }

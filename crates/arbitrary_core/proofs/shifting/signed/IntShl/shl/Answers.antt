@@ -28,4 +28,5 @@ returns g c =
       bits = e;
       congruent = shl-congruent _ _ _ _ _ w l e;
       none = λ z. e ∙ sym (left-is _ _ _ _) ∙ ap (shifted_left g.T.Storage.SIGNED g.row.BITS _) z ∙ shifted_left-none _ _ _ w c.to_bits.ensures.self_range;
+      operand = c.to_bits.ensures.self_range;
     }

@@ -22,4 +22,5 @@ returns g c =
       low = shr-low _ _ _ _ _ w l x e;
       high = shr-high _ _ _ _ _ w l x e;
       range = shr-range _ _ _ _ _ w l x e;
+      operand = x;
     }

@@ -19,4 +19,5 @@ returns g c =
       bits = e;
       plain = shl-plain _ _ _ _ _ g.met.T.UnsignedStorage.unsigned_law w l x e;
       congruent = shl-congruent _ _ _ _ _ w l e;
+      operand = x;
     }

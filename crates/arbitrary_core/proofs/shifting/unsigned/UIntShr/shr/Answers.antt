@@ -18,4 +18,5 @@ returns g c =
       operation = e ∙ sym (right-is _ _ _ _);
       bits = e;
       quotient = shr-quotient _ _ _ _ _ g.met.T.UnsignedStorage.unsigned_law w l x e;
+      operand = x;
     }

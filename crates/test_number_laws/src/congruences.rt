@@ -1,0 +1,67 @@
+//! Steps that wrap, one after another, and conversions between them: what comes out up to a multiple of the numbers of the type.
+#![tactic(auto, using(arbitrary_int::proofs::Conversions::congruences))]
+
+ghost use Rattle.std.specs.Prelude.{◌+ℤ◌, ◌-ℤ◌, ◌*ℤ◌, pos};
+ghost use Rattle.arbitrary_int.specs.Residue.{Congruent};
+
+use arbitrary_int::prelude::*;
+
+pub fn hash_step(hash: u12) -> u12
+    ensures { Congruent 12 result (pos 5 *ℤ hash +ℤ pos 3) }
+{
+    hash.wrapping_mul(u12::new(5)).wrapping_add(u12::new(3))
+}
+
+pub fn sum_of_three(a: u13, b: u13, c: u13) -> u13
+    ensures { Congruent 13 result (a +ℤ b +ℤ c) }
+{
+    a.wrapping_add(b).wrapping_add(c)
+}
+
+pub fn moved(position: u14, step: i14) -> u14
+    ensures { Congruent 14 result (position +ℤ step) }
+{
+    position.wrapping_add(step.to_unsigned())
+}
+
+pub fn turn(from: u14, to: u14) -> i14
+    ensures { Congruent 14 (from +ℤ result) to }
+{
+    to.wrapping_sub(from).as_::<i14>()
+}
+
+pub fn oldest(head: u4, count: u5) -> u4
+    ensures { Congruent 4 result (head -ℤ count) }
+{
+    head.wrapping_sub(count.as_::<u4>())
+}
+
+pub fn low_byte_of_sum(a: u24, b: u24) -> u8
+    ensures { Congruent 8 (pos result) (a +ℤ b) }
+{
+    a.wrapping_add(b).as_u8()
+}
+
+pub fn halves(x: i12) -> (u7, u5)
+    ensures { Congruent 12 x (pos 32 *ℤ result.0 +ℤ result.1) }
+{
+    let bits = x.to_unsigned();
+    ((bits >> 5).as_::<u7>(), bits.as_::<u5>())
+}
+
+pub fn even_offset(x: u4) -> i13
+    ensures { Congruent 1 result (pos 0) }
+{
+    i13::from_bits(x.as_u16() << 1)
+}
+
+pub fn counted_in_two_words(low: &mut u16, high: &mut u13)
+    ensures { Congruent 29 (pos 65536 *ℤ high.new +ℤ pos low.new) (pos 65536 *ℤ high.old +ℤ pos low.old +ℤ pos 1) }
+{
+    if *low == u16::MAX {
+        *low = 0;
+        *high = high.wrapping_add(u13::new(1));
+    } else {
+        *low += 1;
+    }
+}
