@@ -25,7 +25,11 @@ pub mod QuotientAndCube
 pub mod KnownCount
 pub mod Truncations
 pub mod CountBounds
+pub mod Population
+pub mod ConvertedCounts
 pub mod LowestBit
+pub mod LowestBitCounts
+pub mod NormalShifts
 pub mod LeadingZeros
 pub mod TrailingZeros
 pub mod KnownEnds

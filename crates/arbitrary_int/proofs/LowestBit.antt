@@ -24,7 +24,7 @@ use Rattle.arbitrary_base.proofs.operations.KnownMask.{and-below}
 use Rattle.arbitrary_base.proofs.operations.PopulationAndRuns.{no_ones-of_zero, zero-of_no_ones}
 
 -- the list of the number before
-abbrev before : List Bool → List Bool
+abbrev pub before : List Bool → List Bool
 before [] = []
 before (true ∷ l) = false ∷ l
 before (false ∷ l) = true ∷ before l
@@ -40,7 +40,7 @@ num-before (true ∷ l) h = omega arith
 num-before (false ∷ l) h = let e = popcount-cons false l in let i = num-before l (omega arith) in omega arith
 
 module _ (s : Bool) (B : ℕ) (x : ℤ) (some : 1 ≤ count_by (λ b. b) (bits B x)) where
-  bits-before : bits B (wrapped_difference s B x (pos 1)) ≡ before (bits B x)
+  pub bits-before : bits B (wrapped_difference s B x (pos 1)) ≡ before (bits B x)
   bits-before =
       let n = num-before (bits B x) some in
       let e : pos (num (bits B x)) -ℤ pos 1 ≡ pos (num (before (bits B x))) = omega (arith, ints) in
@@ -60,7 +60,7 @@ popcount-before (false ∷ l) h =
     let e = popcount-cons false l in
     omega (arith, popcount-cons false (bits_and l (before l)), popcount-before l (omega arith))
 
-none-or-some : (s : Bool) (B : ℕ) (x : ℤ) → 1 ≤ B → InRange s B x → x ≢ pos 0 → 1 ≤ count_by (λ b. b) (bits B x)
+pub none-or-some : (s : Bool) (B : ℕ) (x : ℤ) → 1 ≤ B → InRange s B x → x ≢ pos 0 → 1 ≤ count_by (λ b. b) (bits B x)
 none-or-some s B x h f d = by-count (count_by (λ b. b) (bits B x)) refl
   where
     by-count : (n : ℕ) → n ≡ count_by (λ b. b) (bits B x) → 1 ≤ count_by (λ b. b) (bits B x)
@@ -121,7 +121,7 @@ kept (false ∷ l) h =
     ∙ ap (λ (n : ℕ). replicate (suc k) false ++ (true ∷ replicate n false)) rest
     ∙ ap (λ (n : ℕ). replicate n false ++ (true ∷ replicate (length (false ∷ l) - prefix_len (beq false) (false ∷ l) - 1) false)) more
 
-front-below : (l : List Bool) → 1 ≤ count_by (λ b. b) l → prefix_len (beq false) l < length l
+pub front-below : (l : List Bool) → 1 ≤ count_by (λ b. b) l → prefix_len (beq false) l < length l
 front-below [] h = absurd (omega arith)
 front-below (true ∷ l) h = omega arith
 front-below (false ∷ l) h = let e = popcount-cons false l in omega (arith, front-below l (omega arith))

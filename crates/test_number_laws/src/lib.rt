@@ -4,11 +4,15 @@
 
 pub mod any_width;
 pub mod congruences;
+pub mod converted_counts;
 pub mod count_bounds;
 pub mod ends;
 pub mod forms;
 pub mod leading_zeros;
+pub mod lowest_bit_counts;
 pub mod lowest_bits;
+pub mod normal_shifts;
+pub mod population;
 pub mod quotient_order;
 pub mod small_numbers;
 pub mod trailing_zeros;
