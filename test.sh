@@ -39,7 +39,8 @@ python3 tools/wrong_bodies.py --some 4 \
     arbitrary_core/greatest_number_by_the_trait_is_one_too_small_at_full_widths \
     arbitrary_int/{no_bytes_are_canonical,reader_masks_excess_bits,reader_always_passes_a_fault_on,reader_takes_one_byte_too_many} \
     arbitrary_int/{reads_on_after_a_refusal,takes_an_old_fault_for_a_new_one,writer_always_passes_a_fault_on,writes_other_bytes} \
-    arbitrary_int/{last_value_comes_from_both_ends,sum_tests_only_the_total,swap_bytes_answers_its_argument}
+    arbitrary_int/{last_value_comes_from_both_ends,sum_tests_only_the_total,swap_bytes_answers_its_argument} \
+    arbitrary_int/{negation_step_is_the_complement,tells_a_zero_divisor_of_wrapping_division_as_refused,writes_before_it_reads_right}
 # of this shell and of what it waited for, each as 1m2.345s
 times > "$spent"
 awk -F '[ms ]+' -v wall="$SECONDS" '{ sum += 60 * ($1 + $3) + $2 + $4 }
