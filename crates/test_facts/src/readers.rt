@@ -39,8 +39,14 @@ pub fn quarter(x: &u24) -> u22
     (*x >> 2).as_::<u22>()
 }
 
-pub fn product_by_one(x: &u12) -> bool
+pub fn product_by_one(x: &u12) -> u12
+    ensures { result ≡ x.now }
+{
+    x.wrapping_mul(u12::new(1))
+}
+
+pub fn sum_that_clamps(x: &u12, y: &u12) -> bool
     ensures { IsTrue result }
 {
-    x.wrapping_mul(u12::new(1)) <= u12::new(4095)
+    x.saturating_add(*y).value() <= x.value() + y.value()
 }
