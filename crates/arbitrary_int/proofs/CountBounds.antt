@@ -1,9 +1,9 @@
 -- More laws of counts: of `^`, of shifted numbers and of one bit; and the runs of a number that is written out.
 -- For callers: `#![tactic(auto, using(arbitrary_int::proofs::CountBounds::count_bounds))]`.
-use Rattle.std.specs.Prelude.{◌≡◌, ℕ, ℤ, zero, suc, Bool, true, false, not, ◌&&◌, ◌||◌, List, [], ◌∷◌, ◌++◌, drop, length, replicate, take, pos, ◌≤◌, ◌<◌, ◌+◌, ◌-◌, ◌^◌, ◌/◌, ◌%◌, ◌==◌}
+use Rattle.std.specs.Prelude.{◌≡◌, ℕ, ℤ, zero, suc, Bool, true, false, not, ◌&&◌, ◌||◌, List, [], ◌∷◌, ◌++◌, drop, length, replicate, take, pos, ◌≤◌, ◌<◌, ◌+◌, ◌-◌, ◌^◌}
 use Rattle.std.specs.Bool.{beq}
 use Rattle.std.specs.List.{count_by, prefix_len, suffix_len}
-use Rattle.std.proofs.Common.{refl, sym, ap, ◌∙◌, arith, pow-suc, take-append-drop}
+use Rattle.std.proofs.Common.{refl, ap, ◌∙◌, arith, take-append-drop}
 use Rattle.std.proofs.lemmas.Grind.{low_zeros}
 use Rattle.arbitrary_base.specs.BitList.{bits, bits_and, bits_or, bits_xor}
 use Rattle.arbitrary_base.specs.Operation.{bitwise_and, bitwise_xor, reversed, shifted_left, shifted_right}

@@ -13,7 +13,7 @@ use Rattle.arbitrary_base.proofs.modular.Congruence.{pow_half}
 use Rattle.arbitrary_base.proofs.bit_lists.StdBitwise.{not-signed, not-unsigned}
 use Rattle.arbitrary_base.proofs.operations.Definition.{not-is}
 use Rattle.arbitrary_base.proofs.operations.RunsByDigits.{front-counted, tail-counted}
-use Rattle.arbitrary_base.proofs.operations.PopulationAndRuns.{front_ones-of_not, front_zeros-of_not, popcount-of_not, tail-of_zero, tail_ones-of_not, tail_zeros-of_not}
+use Rattle.arbitrary_base.proofs.operations.PopulationAndRuns.{front_ones-of_not, popcount-of_not, tail_ones-of_not, tail_zeros-of_not}
 use Rattle.arbitrary_int.proofs.CountBounds.{front-of_numeral}
 use Rattle.arbitrary_int.proofs.KnownCount.{counted, ones_of}
 
