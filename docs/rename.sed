@@ -63,4 +63,8 @@ s/\bstep_service\b/bitrun_service/g
 # ---- the traits below `Integer` and `FixedWidth`, where a path names them
 s/\bInteger\.(BITS|IS_SIGNED|valid|number|width_law)\b/Numbered.\1/g
 s/\bInteger(>?::)(BITS|IS_SIGNED|to_u128_bits|from_u128_bits|from_|masked_new|as_\w*)\b/Numbered\1\2/g
-s/\bFixedWidth(>?::)([a-z])/FixedWidthCalls\1\2/g
+s/\bFixedWidth(Calls)?(>?::)(Representation|to_storage|from_storage)\b/Stored\2\3/g
+s/\bFixedWidth(Calls)?(>?::)(\w+_(add|sub))\b/SumCalls\2\3/g
+s/\bFixedWidth(Calls)?(>?::)(\w+_(mul|div)|saturating_pow\w*)\b/ProductCalls\2\3/g
+s/\bFixedWidth(Calls)?(>?::)(\w+_sh[lr]|rotate_\w+|reverse_bits)\b/ShiftCalls\2\3/g
+s/\bFixedWidth(Calls)?(>?::)(\w+_(ones|zeros))\b/CountCalls\2\3/g

@@ -5,11 +5,11 @@ ghost use Rattle.arbitrary_base.specs.Residue.{Congruent, wrap};
 ghost use Rattle.arbitrary_base.specs.Field.{field, IsField};
 ghost use Rattle.arbitrary_base.specs.BitList.{bits, val};
 
-use crate::calls::FixedWidthCalls;
+use crate::stored::Stored;
 use arbitrary_base::extraction;
 
 /// Every integer of fixed width is read out of the words of the ten primitives.
-pub trait Extraction: FixedWidthCalls {
+pub trait Extraction: Stored {
     /// The value of the `BITS` bits of `value` from place `start_bit` on, all among its 8. The width is valid.
     #[tactic(auto, using(arbitrary_base::proofs::bit_lists::ExtractedField::fields))]
     final fn extract_u8(value: u8, start_bit: usize) -> Self
@@ -151,4 +151,4 @@ pub trait Extraction: FixedWidthCalls {
     }
 }
 
-impl<N: FixedWidthCalls> Extraction for N {}
+impl<N: Stored> Extraction for N {}

@@ -5,4 +5,4 @@ pub mod calls;
 pub mod extraction;
 pub mod fixed_width;
 mod low_bits;
-mod representation;
+pub mod stored;

@@ -1,6 +1,5 @@
-//! The bits of the values of `UInt` and `Int`, with none above them. `FixedWidthCalls` takes these for the calls on bits and
-//! for sums and products that wrap, and else the number in its storage (`representation`). A further representation needs
-//! an impl in both.
+//! The bits of the values of `UInt` and `Int`, with none above them. The calls on bits take these, and sums and products that
+//! wrap; the others take the number in its storage (`stored`). A further representation needs an impl in both.
 
 ghost use Rattle.std.specs.Prelude.{◌≡◌, ◌≤◌, ◌<◌, ◌^◌};
 ghost use Rattle.arbitrary_base.specs.Range.{InRange};

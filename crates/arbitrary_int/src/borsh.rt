@@ -12,7 +12,7 @@ use arbitrary_base::byte_lists::{all_bytes, pattern_of};
 use arbitrary_base::streams::{read_full, write_full};
 use arbitrary_base::truncation::{low_bits, masked};
 use arbitrary_base::watched::Watched;
-use arbitrary_calls::calls::FixedWidthCalls;
+use arbitrary_calls::stored::Stored;
 use std::io;
 use std::io::{ErrorKind, Read, Write};
 
@@ -77,7 +77,7 @@ pub trait BorshDeserialize: Sized {
 }
 
 /// The bytes of the value, at the front of as many as any value has, and how many they are.
-fn written<V: FixedWidthCalls>(value: V) -> ([u8; 16], usize)
+fn written<V: Stored>(value: V) -> ([u8; 16], usize)
     ensures count { result.1 ≡ length (BorshBytes V.BITS (V.number value)) }
     ensures bound { result.1 ≤ 16 }
     ensures bytes { take result.1 result.0 ≡ BorshBytes V.BITS (V.number value) }
@@ -86,7 +86,7 @@ fn written<V: FixedWidthCalls>(value: V) -> ([u8; 16], usize)
     (all, V::BITS.div_ceil(8))
 }
 
-impl<V: FixedWidthCalls> BorshSerialize for V {
+impl<V: Stored> BorshSerialize for V {
     ghost bytes_of = { λ x. BorshBytes V.BITS (V.number x) };
 
     fn serialize<W: Write>(&self, writer: &mut Watched<W>) -> io::Result<()> {
@@ -102,7 +102,7 @@ impl<V: FixedWidthCalls> BorshSerialize for V {
     }
 }
 
-impl<V: FixedWidthCalls> BorshDeserialize for V {
+impl<V: Stored> BorshDeserialize for V {
     ghost readable = { V.valid };
 
     ghost count = { div_ceil V.BITS 8 };

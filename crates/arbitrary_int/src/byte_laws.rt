@@ -9,7 +9,7 @@ ghost use Rattle.std.specs.Prelude.{◌≡◌, ◌↔◌, IsTrue, MatchOption};
 
 use crate::borsh::{BorshDeserialize, BorshSerialize};
 use crate::byte_orders::ByteOrders;
-use arbitrary_calls::calls::FixedWidthCalls;
+use arbitrary_calls::stored::Stored;
 
 /// Bytes that are reversed twice are those of the value again.
 pub fn swapped_twice<V: ByteOrders<N>, const N: usize>(value: V) -> V
@@ -38,7 +38,7 @@ pub fn through_be_bytes<V: ByteOrders<N>, const N: usize>(value: V) -> V
 }
 
 /// The bytes that a value has in a stream are canonical, and the value is read back from them.
-pub fn through_borsh_bytes<V: FixedWidthCalls>(value: V) -> Option<V>
+pub fn through_borsh_bytes<V: Stored>(value: V) -> Option<V>
     ensures { MatchOption result ⊥ (λ x. V.number x ≡ V.number value) }
 {
     let _known = value.to_u128_bits();
@@ -50,7 +50,7 @@ pub fn through_borsh_bytes<V: FixedWidthCalls>(value: V) -> Option<V>
 }
 
 /// No two numbers share the bytes that they have in a stream.
-pub fn share_borsh_bytes<V: FixedWidthCalls>(x: V, y: V) -> bool
+pub fn share_borsh_bytes<V: Stored>(x: V, y: V) -> bool
     ensures { IsTrue result ↔ (V.number x ≡ V.number y) }
 {
     let _x = x.to_u128_bits();

@@ -5,12 +5,12 @@ ghost use Rattle.arbitrary_base.specs.Range.{InRange};
 ghost use Rattle.arbitrary_int.specs.Row.{StepsBetween};
 
 use arbitrary_base::storage::Storage;
-use arbitrary_calls::calls::FixedWidthCalls;
+use arbitrary_calls::calls::sums::SumCalls;
 use arbitrary_calls::fixed_width::FixedWidth;
 
 /// The next value. The limit shows that there is one.
 #[tactic(auto, using(crate::proofs::Rows::in_up))]
-pub(crate) fn after<V: FixedWidthCalls>(x: V, limit: V) -> V
+pub(crate) fn after<V: SumCalls>(x: V, limit: V) -> V
     requires { V.number x <ℤ V.number limit }
     ensures { V.number result ≡ V.number x +ℤ pos 1 }
 {
@@ -21,7 +21,7 @@ pub(crate) fn after<V: FixedWidthCalls>(x: V, limit: V) -> V
 
 /// The value before. The limit shows that there is one.
 #[tactic(auto, using(crate::proofs::Rows::in_down))]
-pub(crate) fn before<V: FixedWidthCalls>(x: V, limit: V) -> V
+pub(crate) fn before<V: SumCalls>(x: V, limit: V) -> V
     requires { V.number limit <ℤ V.number x }
     ensures { V.number result ≡ V.number x -ℤ pos 1 }
 {
@@ -32,7 +32,7 @@ pub(crate) fn before<V: FixedWidthCalls>(x: V, limit: V) -> V
 
 /// The value `by` above, which the type has.
 #[tactic(auto, using(crate::proofs::Rows::moves))]
-fn forward<V: FixedWidthCalls>(x: V, by: u128) -> V
+fn forward<V: SumCalls>(x: V, by: u128) -> V
     requires { InRange V.IS_SIGNED V.BITS (V.number x +ℤ pos by) }
     ensures { V.number result ≡ V.number x +ℤ pos by }
 {
@@ -42,7 +42,7 @@ fn forward<V: FixedWidthCalls>(x: V, by: u128) -> V
 
 /// The value `by` below, which the type has.
 #[tactic(auto, using(crate::proofs::Rows::moves))]
-fn backward<V: FixedWidthCalls>(x: V, by: u128) -> V
+fn backward<V: SumCalls>(x: V, by: u128) -> V
     requires { InRange V.IS_SIGNED V.BITS (V.number x -ℤ pos by) }
     ensures { V.number result ≡ V.number x -ℤ pos by }
 {
@@ -52,7 +52,7 @@ fn backward<V: FixedWidthCalls>(x: V, by: u128) -> V
 
 /// How far it is from `start` up to `end`, which is not less.
 #[tactic(auto, using(crate::proofs::Rows::distances))]
-fn distance<V: FixedWidthCalls>(start: V, end: V) -> u128
+fn distance<V: SumCalls>(start: V, end: V) -> u128
     requires { V.number start ≤ℤ V.number end }
     ensures { pos result ≡ V.number end -ℤ V.number start }
 {

@@ -4,8 +4,13 @@ pub use arbitrary_base::storage::{
     BuiltinInteger, SignedOf, SignedStorage, Storage, UnsignedOf, UnsignedStorage,
 };
 pub use arbitrary_calls::calls::FixedWidthCalls;
+pub use arbitrary_calls::calls::counts::CountCalls;
+pub use arbitrary_calls::calls::products::ProductCalls;
+pub use arbitrary_calls::calls::shifts::ShiftCalls;
+pub use arbitrary_calls::calls::sums::SumCalls;
 pub use arbitrary_calls::extraction::Extraction;
 pub use arbitrary_calls::fixed_width::FixedWidth;
+pub use arbitrary_calls::stored::Stored;
 pub use arbitrary_core::widths::HasWidth;
 pub use arbitrary_core::widths::valid::ValidWidth;
 pub use arbitrary_traits::counterparts::{SignedCounterpart, UnsignedCounterpart};

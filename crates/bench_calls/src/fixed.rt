@@ -2,6 +2,10 @@
 
 use crate::rounds::{Call, Nothing, Operands, repeat};
 use arbitrary_calls::calls::FixedWidthCalls;
+use arbitrary_calls::calls::counts::CountCalls;
+use arbitrary_calls::calls::products::ProductCalls;
+use arbitrary_calls::calls::shifts::ShiftCalls;
+use arbitrary_calls::calls::sums::SumCalls;
 use arbitrary_calls::extraction::Extraction;
 use arbitrary_core::aliases::signed::{i7, i14};
 use arbitrary_core::aliases::unsigned::{u7, u14};

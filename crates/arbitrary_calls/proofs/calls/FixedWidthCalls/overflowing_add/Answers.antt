@@ -1,5 +1,0 @@
-use Rattle.arbitrary_base.proofs.modular.ExactOrCongruent.{wrapped-exact}
-use Rattle.arbitrary_calls.proofs.calls.FixedWidthCalls.overflowing_add.Goals as goal
-
-pub returns-clause-exact : goal.returns-clause-exact
-returns-clause-exact g c f = let t = g.met.Self.FixedWidthCalls.sign_law in wrapped-exact _ _ _ _ c.to_storage.ensures.some f (cc)

@@ -1,0 +1,18 @@
+use Rattle.std.proofs.Common.{refl, sym, ◌∙◌}
+use Rattle.arbitrary_base.proofs.modular.LowBitSums.{product-of_patterns}
+use Rattle.arbitrary_base.proofs.modular.ExactOrCongruent.{wrapped-congruent, wrapped-exact}
+use Rattle.arbitrary_base.proofs.operations.Definition.{product-is}
+use Rattle.arbitrary_calls.proofs.calls.products.ProductCalls.wrapping_mul.Goals as goal
+
+pub returns : goal.returns
+returns g c =
+    let o = c.low_bits.ensures.some in
+    let e = product-of_patterns g.Self.Numbered.IS_SIGNED g.Self.Numbered.BITS _ _ _ _ _ _ o c.low_bits.ensures.high c.low_bits.ensures.value c.low_bits-2.ensures.value refl c.from_u128_bits.ensures.value in
+    record {
+      operation = e ∙ sym (product-is _ _ _ _);
+      value = e;
+      exact = λ f. wrapped-exact _ _ _ _ o f e;
+      congruent = wrapped-congruent _ _ _ _ e;
+      range = c.low_bits.ensures.range;
+      operand = c.low_bits-2.ensures.range;
+    }

@@ -1,0 +1,171 @@
+//! Sums and differences of integers of fixed width.
+
+ghost use Rattle.std.specs.Prelude.{not, ◌≡◌, ◌↔◌, ◌<ℤ◌, ◌+ℤ◌, ◌-ℤ◌, ℤ, pos, IsTrue, Some, SomeIff, option_map};
+ghost use Rattle.arbitrary_base.specs.Range.{InRange, lo, hi};
+ghost use Rattle.arbitrary_base.specs.Residue.{Congruent, wrap};
+ghost use Rattle.arbitrary_base.specs.Saturation.{clamp};
+ghost use Rattle.arbitrary_base.specs.Operation.{wrapped_difference, wrapped_sum};
+
+use crate::low_bits::LowBits;
+use crate::stored::Stored;
+use arbitrary_base::{checked, overflowing, saturating};
+
+/// Sums and differences, which out of range wrap, saturate, are refused or are told.
+///
+/// In the contracts `number` is the number of a value, and the exact result is that of whole numbers
+/// without bounds. `wrap` of it is the type's number that is congruent to it modulo `2 ^ BITS`, and
+/// `clamp` of it the type's number that is nearest.
+pub trait SumCalls: Stored + LowBits {
+    /// The sum, wrapped.
+    final fn wrapping_add(self, rhs: Self) -> Self
+        ensures operation { let number = Self.number in
+            number result ≡ wrapped_sum Self.IS_SIGNED Self.BITS (number self) (number rhs) }
+        ensures value { let sum = Self.number self +ℤ Self.number rhs in
+            Self.number result ≡ wrap Self.IS_SIGNED Self.BITS sum }
+        ensures exact { let sum = Self.number self +ℤ Self.number rhs in
+            InRange Self.IS_SIGNED Self.BITS sum → Self.number result ≡ sum }
+        ensures congruent { let sum = Self.number self +ℤ Self.number rhs in
+            Congruent Self.BITS (Self.number result) sum }
+        ensures undo { let number = Self.number in
+            wrapped_difference Self.IS_SIGNED Self.BITS (number result) (number rhs) ≡ number self }
+        ensures range { InRange Self.IS_SIGNED Self.BITS (Self.number self) }
+        ensures operand { InRange Self.IS_SIGNED Self.BITS (Self.number rhs) }
+    {
+        Self::from_u128_bits(self.low_bits().wrapping_add(rhs.low_bits()))
+    }
+
+    /// The sum, or the end of the range that is nearest to it.
+    #[tactic(auto, using(arbitrary_base::proofs::storages::Clamp::clamped))]
+    final fn saturating_add(self, rhs: Self) -> Self
+        ensures value { let sum = Self.number self +ℤ Self.number rhs in
+            Self.number result ≡ clamp Self.IS_SIGNED Self.BITS sum }
+        ensures exact { let sum = Self.number self +ℤ Self.number rhs in
+            InRange Self.IS_SIGNED Self.BITS sum → Self.number result ≡ sum }
+        ensures above { let sum = Self.number self +ℤ Self.number rhs in
+            let highest = hi Self.IS_SIGNED Self.BITS in
+            highest <ℤ sum → Self.number result ≡ highest }
+        ensures below { let sum = Self.number self +ℤ Self.number rhs in
+            let lowest = lo Self.IS_SIGNED Self.BITS in
+            sum <ℤ lowest → Self.number result ≡ lowest }
+        ensures range { InRange Self.IS_SIGNED Self.BITS (Self.number self) }
+        ensures bounded { InRange Self.IS_SIGNED Self.BITS (Self.number result) }
+        ensures swap { Self.number self +ℤ Self.number rhs ≡ Self.number rhs +ℤ Self.number self }
+        ensures operand { InRange Self.IS_SIGNED Self.BITS (Self.number rhs) }
+    {
+        Self::from_storage(saturating::add(self.to_storage(), rhs.to_storage(), Self::BITS))
+    }
+
+    /// The sum, and `None` exactly where it is out of range.
+    final fn checked_add(self, rhs: Self) -> Option<Self>
+        ensures exact { let sum = Self.number self +ℤ Self.number rhs in
+            let fits = InRange Self.IS_SIGNED Self.BITS sum in
+            SomeIff (option_map Self.number result) fits sum }
+        ensures swap { Self.number self +ℤ Self.number rhs ≡ Self.number rhs +ℤ Self.number self }
+        ensures zero { let number = Self.number in
+            number rhs ≡ pos 0 → option_map number result ≡ Some (number self) }
+        ensures range { InRange Self.IS_SIGNED Self.BITS (Self.number self) }
+        ensures operand { InRange Self.IS_SIGNED Self.BITS (Self.number rhs) }
+    {
+        match checked::add(self.to_storage(), rhs.to_storage(), Self::BITS) {
+            Some(sum) => Some(Self::from_storage(sum)),
+            None => None,
+        }
+    }
+
+    /// The sum, wrapped, and whether the exact one is out of range.
+    #[tactic(auto, using(arbitrary_base::proofs::modular::ExactOrCongruent::wrapped))]
+    final fn overflowing_add(self, rhs: Self) -> (Self, bool)
+        ensures value { let sum = Self.number self +ℤ Self.number rhs in
+            Self.number result.0 ≡ wrap Self.IS_SIGNED Self.BITS sum }
+        ensures overflow { let sum = Self.number self +ℤ Self.number rhs in
+            IsTrue result.1 ↔ ¬ (InRange Self.IS_SIGNED Self.BITS sum) }
+        ensures exact { let sum = Self.number self +ℤ Self.number rhs in
+            InRange Self.IS_SIGNED Self.BITS sum → Self.number result.0 ≡ sum }
+        ensures congruent { let sum = Self.number self +ℤ Self.number rhs in
+            Congruent Self.BITS (Self.number result.0) sum }
+        ensures swap { Self.number self +ℤ Self.number rhs ≡ Self.number rhs +ℤ Self.number self }
+        ensures range { InRange Self.IS_SIGNED Self.BITS (Self.number self) }
+        ensures operand { InRange Self.IS_SIGNED Self.BITS (Self.number rhs) }
+    {
+        let (sum, overflow) = overflowing::add(self.to_storage(), rhs.to_storage(), Self::BITS);
+        (Self::from_storage(sum), overflow)
+    }
+
+    /// The difference, wrapped.
+    final fn wrapping_sub(self, rhs: Self) -> Self
+        ensures operation { let number = Self.number in
+            number result ≡ wrapped_difference Self.IS_SIGNED Self.BITS (number self) (number rhs) }
+        ensures value { let difference = Self.number self -ℤ Self.number rhs in
+            Self.number result ≡ wrap Self.IS_SIGNED Self.BITS difference }
+        ensures exact { let difference = Self.number self -ℤ Self.number rhs in
+            InRange Self.IS_SIGNED Self.BITS difference → Self.number result ≡ difference }
+        ensures congruent { let difference = Self.number self -ℤ Self.number rhs in
+            Congruent Self.BITS (Self.number result) difference }
+        ensures undo { let number = Self.number in
+            wrapped_sum Self.IS_SIGNED Self.BITS (number result) (number rhs) ≡ number self }
+        ensures range { InRange Self.IS_SIGNED Self.BITS (Self.number self) }
+        ensures operand { InRange Self.IS_SIGNED Self.BITS (Self.number rhs) }
+    {
+        Self::from_u128_bits(self.low_bits().wrapping_sub(rhs.low_bits()))
+    }
+
+    /// The difference, or the end of the range that is nearest to it.
+    #[tactic(auto, using(arbitrary_base::proofs::storages::Clamp::clamped))]
+    final fn saturating_sub(self, rhs: Self) -> Self
+        ensures value { let difference = Self.number self -ℤ Self.number rhs in
+            Self.number result ≡ clamp Self.IS_SIGNED Self.BITS difference }
+        ensures exact { let difference = Self.number self -ℤ Self.number rhs in
+            InRange Self.IS_SIGNED Self.BITS difference → Self.number result ≡ difference }
+        ensures above { let difference = Self.number self -ℤ Self.number rhs in
+            let highest = hi Self.IS_SIGNED Self.BITS in
+            highest <ℤ difference → Self.number result ≡ highest }
+        ensures below { let difference = Self.number self -ℤ Self.number rhs in
+            let lowest = lo Self.IS_SIGNED Self.BITS in
+            difference <ℤ lowest → Self.number result ≡ lowest }
+        ensures range { InRange Self.IS_SIGNED Self.BITS (Self.number self) }
+        ensures bounded { InRange Self.IS_SIGNED Self.BITS (Self.number result) }
+        ensures operand { InRange Self.IS_SIGNED Self.BITS (Self.number rhs) }
+    {
+        Self::from_storage(saturating::sub(self.to_storage(), rhs.to_storage(), Self::BITS))
+    }
+
+    /// The difference, and `None` exactly where it is out of range.
+    final fn checked_sub(self, rhs: Self) -> Option<Self>
+        ensures exact { let difference = Self.number self -ℤ Self.number rhs in
+            let fits = InRange Self.IS_SIGNED Self.BITS difference in
+            SomeIff (option_map Self.number result) fits difference }
+        ensures zero { let number = Self.number in
+            number rhs ≡ pos 0 → option_map number result ≡ Some (number self) }
+        ensures range { InRange Self.IS_SIGNED Self.BITS (Self.number self) }
+        ensures operand { InRange Self.IS_SIGNED Self.BITS (Self.number rhs) }
+    {
+        match checked::sub(self.to_storage(), rhs.to_storage(), Self::BITS) {
+            Some(difference) => Some(Self::from_storage(difference)),
+            None => None,
+        }
+    }
+
+    /// The difference, wrapped, and whether the exact one is out of range.
+    #[tactic(auto, using(arbitrary_base::proofs::modular::ExactOrCongruent::wrapped))]
+    final fn overflowing_sub(self, rhs: Self) -> (Self, bool)
+        ensures value { let difference = Self.number self -ℤ Self.number rhs in
+            Self.number result.0 ≡ wrap Self.IS_SIGNED Self.BITS difference }
+        ensures overflow { let difference = Self.number self -ℤ Self.number rhs in
+            IsTrue result.1 ↔ ¬ (InRange Self.IS_SIGNED Self.BITS difference) }
+        ensures exact { let difference = Self.number self -ℤ Self.number rhs in
+            InRange Self.IS_SIGNED Self.BITS difference → Self.number result.0 ≡ difference }
+        ensures congruent { let difference = Self.number self -ℤ Self.number rhs in
+            Congruent Self.BITS (Self.number result.0) difference }
+        ensures range { InRange Self.IS_SIGNED Self.BITS (Self.number self) }
+        ensures operand { InRange Self.IS_SIGNED Self.BITS (Self.number rhs) }
+    {
+        let (difference, overflow) = overflowing::sub(
+            self.to_storage(),
+            rhs.to_storage(),
+            Self::BITS,
+        );
+        (Self::from_storage(difference), overflow)
+    }
+}
+
+impl<N: Stored + LowBits> SumCalls for N {}
