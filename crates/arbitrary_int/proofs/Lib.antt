@@ -10,6 +10,7 @@ pub mod Everyday
 pub mod SideBySide
 pub mod ReplacedField
 pub mod StreamBytes
+pub mod StepWords
 pub mod TextLength
 pub mod RangeNumbers
 pub mod EmptyWord
@@ -23,6 +24,7 @@ pub mod WrittenMask
 pub mod WrittenParts
 pub mod QuotientAndCube
 pub mod KnownCount
+pub mod KnownNumbers
 pub mod Truncations
 pub mod CountBounds
 pub mod Population

@@ -1,12 +1,12 @@
 -- Why the low bits of a run at a wide type are those of the run at a narrow one.
-use Rattle.std.specs.Prelude.{◌≡◌, ℕ, ℤ, Bool, pos, ◌+◌, ◌%◌, ◌≤◌, ◌<◌, List, [], ◌∷◌, ◌++◌, length, map, take, get_or, set, Result, Ok, Err, ⊤, ◌+ℤ◌, ◌-ℤ◌, ◌*ℤ◌, not, All}
+use Rattle.std.specs.Prelude.{◌≡◌, ℕ, ℤ, Bool, pos, ◌+◌, ◌%◌, ◌≤◌, ◌<◌, List, [], ◌∷◌, ◌++◌, length, map, take, get_or, set, Result, Ok, Err, ⊤, ◌+ℤ◌, ◌-ℤ◌, ◌*ℤ◌, All}
 use Rattle.std.specs.Result.{result_map_both}
 use Rattle.std.proofs.Common.{arith, refl, ap, sym, ◌∙◌, mod-eq_of_lt}
 use Rattle.std.proofs.lemmas.List.{map-set, map-append, map_more, take_more_set, take_all}
 use Rattle.std.proofs.lemmas.List.Elements.{All-head, All-tail}
 use Rattle.std.proofs.Math.ListN.{get_or-map}
 use Rattle.arbitrary_base.specs.Residue.{wrap}
-use Rattle.arbitrary_base.specs.BitList.{bits, val, bits_and, bits_or, bits_xor, shl}
+use Rattle.arbitrary_base.specs.Operation.{bitwise_and, bitwise_not, bitwise_or, bitwise_xor, shifted_left}
 use Rattle.arbitrary_base.proofs.storages.CheckedSum.{wrap-zero}
 use Rattle.arbitrary_base.proofs.modular.LowBitOperation.{low-sum, low-difference, low-product, low-and, low-or, low-xor, low-not, low-shl}
 use Rattle.arbitrary_int.proofs.RunLemmas.{RunOf-ok}
@@ -34,17 +34,19 @@ pub record LowResult (s : Bool) (A : ℕ) (wide narrow : Result ℤ Why) : Type 
 
 low-two_meaning : (s t : Bool) (A B : ℕ) (op : TwoOp) (to left right : ℕ) (x y : ℤ) → 1 ≤ A → A ≤ B → IsLowBit A (Two op to left right)
     → LowResult s A (two_meaning t B op x y) (two_meaning s A op (wrap s A x) (wrap s A y))
+unfolding bitwise_and bitwise_or bitwise_xor
 low-two_meaning s t A B WrappingAdd to left right x y h g l = record { number = wrap t B (x +ℤ y); wide_is = refl; narrow_is = ap Ok (sym (low-sum s t A B x y h g)) }
 low-two_meaning s t A B WrappingSub to left right x y h g l = record { number = wrap t B (x -ℤ y); wide_is = refl; narrow_is = ap Ok (sym (low-difference s t A B x y h g)) }
 low-two_meaning s t A B WrappingMul to left right x y h g l = record { number = wrap t B (x *ℤ y); wide_is = refl; narrow_is = ap Ok (sym (low-product s t A B x y h g)) }
-low-two_meaning s t A B And to left right x y h g l = record { number = val t (bits_and (bits B x) (bits B y)); wide_is = refl; narrow_is = ap Ok (sym (low-and s t A B x y h g)) }
-low-two_meaning s t A B Or to left right x y h g l = record { number = val t (bits_or (bits B x) (bits B y)); wide_is = refl; narrow_is = ap Ok (sym (low-or s t A B x y h g)) }
-low-two_meaning s t A B Xor to left right x y h g l = record { number = val t (bits_xor (bits B x) (bits B y)); wide_is = refl; narrow_is = ap Ok (sym (low-xor s t A B x y h g)) }
+low-two_meaning s t A B And to left right x y h g l = record { number = bitwise_and t B x y; wide_is = refl; narrow_is = ap Ok (sym (low-and s t A B x y h g)) }
+low-two_meaning s t A B Or to left right x y h g l = record { number = bitwise_or t B x y; wide_is = refl; narrow_is = ap Ok (sym (low-or s t A B x y h g)) }
+low-two_meaning s t A B Xor to left right x y h g l = record { number = bitwise_xor t B x y; wide_is = refl; narrow_is = ap Ok (sym (low-xor s t A B x y h g)) }
 low-two_meaning s t A B op to left right x y h g l = absurd l
 
 low-one_meaning : (s t : Bool) (A B : ℕ) (op : OneOp) (to src : ℕ) (x : ℤ) → 1 ≤ A → A ≤ B → IsLowBit A (One op to src)
     → LowResult s A (one_meaning t B op x) (one_meaning s A op (wrap s A x))
-low-one_meaning s t A B Not to src x h g l = record { number = val t (map not (bits B x)); wide_is = refl; narrow_is = ap Ok (sym (low-not s t A B x h g)) }
+unfolding bitwise_not
+low-one_meaning s t A B Not to src x h g l = record { number = bitwise_not t B x; wide_is = refl; narrow_is = ap Ok (sym (low-not s t A B x h g)) }
 low-one_meaning s t A B WrappingNeg to src x h g l = record {
   number = wrap t B (pos 0 -ℤ x);
   wide_is = refl;
@@ -54,8 +56,9 @@ low-one_meaning s t A B op to src x h g l = absurd l
 
 low-by_meaning : (s t : Bool) (A B : ℕ) (op : ByOp) (to src : ℕ) (x : ℤ) (amount : ℕ) → 1 ≤ A → A ≤ B → IsLowBit A (By op to src amount)
     → LowResult s A (by_meaning t B op x amount) (by_meaning s A op (wrap s A x) amount)
+unfolding shifted_left
 low-by_meaning s t A B WrappingShl to src x k h g l = record {
-  number = val t (shl (bits B x) k);
+  number = shifted_left t B x k;
   wide_is = let m : k < B = omega arith in let e : k % B ≡ k = mod-eq_of_lt m in rw e refl;
   narrow_is = let e : k % A ≡ k = mod-eq_of_lt l in rw e (ap Ok (sym (low-shl s t A B k x g l)));
 }

@@ -7,13 +7,15 @@ use Rattle.arbitrary_base.proofs.LawProof.{in_range-tells}
 use Rattle.arbitrary_base.proofs.modular.Residue.{wrap-congruent, wrap-of_in_range}
 use Rattle.arbitrary_base.proofs.operations.KnownMask.{and-by_complement, and-digits}
 use Rattle.arbitrary_base.proofs.operations.RotatedNumber.{rotated_left-number, rotated_right-number}
-use Rattle.arbitrary_base.proofs.storages.Clamp.{clamp-fits}
+use Rattle.arbitrary_base.proofs.storages.Clamp.{clamp-above, clamp-below, clamp-fits}
 use Rattle.arbitrary_int.proofs.EmptyWord.{with_field-of_nothing}
 use Rattle.arbitrary_int.proofs.Everyday.{or_three}
+use Rattle.arbitrary_int.proofs.KnownNumbers.{and-of_negative, and-of_positive, and-with_negative, left-of_negative, left-of_positive, not-of_negative, not-of_positive, or-of_negative, or-of_positive, or-with_negative, reversed-of_negative, reversed-of_positive, right-of_negative, right-of_positive, rotated_left-of_negative, rotated_left-of_positive, rotated_right-of_negative, rotated_right-of_positive, signed_wrap-of_negative, signed_wrap-of_positive, wrap-of_negative, wrap-of_positive, xor-of_negative, xor-of_positive, xor-with_negative}
 use Rattle.arbitrary_int.proofs.OtherBits.{gone-cleared, other_bit-cleared, other_bit-set, other_bit-turned, same_bit-set, same_bit-turned}
 use Rattle.arbitrary_int.proofs.RangeNumbers.{numbers-count, numbers-head}
 use Rattle.arbitrary_int.proofs.ReplacedField.{and_around, or-into_cleared, or_below_mask, or_into_hole}
 use Rattle.arbitrary_int.proofs.SideBySide.{numeral_next, or_five, or_four, or_next, or_six, or_three_up}
+use Rattle.arbitrary_int.proofs.StepWords.{difference-step, product-step, sum-step}
 use Rattle.arbitrary_int.proofs.StreamBytes.{Borsh-told, bytes-compared, first-of_Borsh, first-of_Borsh_signed, number-of_Borsh, number-of_Borsh_signed}
 use Rattle.arbitrary_int.proofs.TextLength.{length-of_text}
 
@@ -47,8 +49,11 @@ pub ruleset texts = (length-of_text)
 -- the first of a range, and how many there are
 pub ruleset ranges = (numbers-head, numbers-count)
 
+-- what the operations give on numbers that are written out
+pub ruleset known_numbers = (wrap-of_positive, wrap-of_negative, signed_wrap-of_positive, signed_wrap-of_negative, and-of_positive, or-of_positive, xor-of_positive, not-of_positive, left-of_positive, right-of_positive, rotated_left-of_positive, rotated_right-of_positive, reversed-of_positive, and-of_negative, or-of_negative, xor-of_negative, not-of_negative, left-of_negative, right-of_negative, rotated_left-of_negative, rotated_right-of_negative, reversed-of_negative, and-with_negative, or-with_negative, xor-with_negative)
+
 -- what a list of steps leaves, where each step is written out
-pub ruleset steps = (map-id, wrap-of_in_range, wrap-congruent, clamp-fits, in_range-tells)
+pub ruleset steps = (map-id, wrap-of_in_range, wrap-congruent, clamp-fits, clamp-below, clamp-above, in_range-tells, sum-step, difference-step, product-step, known_numbers)
 
 -- a field that is put into an empty word
 pub ruleset empty_word = (with_field-of_nothing)

@@ -1,15 +1,13 @@
 -- What one step does, by whole numbers and bit lists. No storage comes into it.
-use Rattle.std.specs.Prelude.{ℕ, ℤ, Bool, pos, ◌+ℤ◌, ◌-ℤ◌, ◌*ℤ◌, ◌%◌, ◌<◌, List, get_or, set, reverse, Result, Ok, Err, ok_or, if◌then◌else◌, int_div, nat_lt, map, not}
+use Rattle.std.specs.Prelude.{ℕ, ℤ, Bool, pos, ◌+ℤ◌, ◌-ℤ◌, ◌*ℤ◌, ◌%◌, ◌<◌, List, get_or, set, Result, Ok, Err, ok_or, if◌then◌else◌, int_div, nat_lt}
 use Rattle.arbitrary_base.specs.Range.{in_range}
 use Rattle.std.specs.Bool.{then_some}
 use Rattle.std.specs.Int.{int_pow}
-use Rattle.std.specs.List.{slice_rotate_right}
 use Rattle.std.specs.Ordering.{int_eq}
 use Rattle.std.specs.Result.{result_map_both}
 use Rattle.arbitrary_base.specs.Residue.{wrap}
 use Rattle.arbitrary_base.specs.Saturation.{clamp}
-use Rattle.arbitrary_base.specs.Operation.{shifted_right}
-use Rattle.arbitrary_base.specs.BitList.{bits, val, bits_and, bits_or, bits_xor, shl, rotr}
+use Rattle.arbitrary_base.specs.Operation.{bitwise_and, bitwise_not, bitwise_or, bitwise_xor, reversed, rotated_left, rotated_right, shifted_left, shifted_right}
 use Rattle.arbitrary_int.specs.declared.steps.TwoOp.{TwoOp}
 use Rattle.arbitrary_int.specs.declared.steps.TwoOp.TheVariants.{WrappingAdd, WrappingSub, WrappingMul, WrappingDiv, SaturatingAdd, SaturatingSub, SaturatingMul, SaturatingDiv, CheckedAdd, CheckedSub, CheckedMul, CheckedDiv, And, Or, Xor}
 use Rattle.arbitrary_int.specs.declared.steps.OneOp.{OneOp}
@@ -35,24 +33,24 @@ two_meaning s B CheckedAdd x y = ok_or (then_some (in_range s B (x +ℤ y)) (x +
 two_meaning s B CheckedSub x y = ok_or (then_some (in_range s B (x -ℤ y)) (x -ℤ y)) Refused
 two_meaning s B CheckedMul x y = ok_or (then_some (in_range s B (x *ℤ y)) (x *ℤ y)) Refused
 two_meaning s B CheckedDiv x y = if int_eq y (pos 0) then Err Refused else ok_or (then_some (in_range s B (int_div x y)) (int_div x y)) Refused
-two_meaning s B And x y = Ok (val s (bits_and (bits B x) (bits B y)))
-two_meaning s B Or x y = Ok (val s (bits_or (bits B x) (bits B y)))
-two_meaning s B Xor x y = Ok (val s (bits_xor (bits B x) (bits B y)))
+two_meaning s B And x y = Ok (bitwise_and s B x y)
+two_meaning s B Or x y = Ok (bitwise_or s B x y)
+two_meaning s B Xor x y = Ok (bitwise_xor s B x y)
 
 -- what an operation makes of the number x
 abbrev pub one_meaning : Bool → ℕ → OneOp → ℤ → Result ℤ Why
-one_meaning s B Not x = Ok (val s (map not (bits B x)))
-one_meaning s B ReverseBits x = Ok (val s (reverse (bits B x)))
+one_meaning s B Not x = Ok (bitwise_not s B x)
+one_meaning s B ReverseBits x = Ok (reversed s B x)
 one_meaning s B WrappingNeg x = Ok (wrap s B (pos 0 -ℤ x))
 
 -- what an operation makes of the number x by an amount
 abbrev pub by_meaning : Bool → ℕ → ByOp → ℤ → ℕ → Result ℤ Why
-by_meaning s B WrappingShl x amount = Ok (val s (shl (bits B x) (amount % B)))
+by_meaning s B WrappingShl x amount = Ok (shifted_left s B x (amount % B))
 by_meaning s B WrappingShr x amount = Ok (shifted_right s B x (amount % B))
-by_meaning s B CheckedShl x amount = ok_or (then_some (nat_lt amount B) (val s (shl (bits B x) amount))) Refused
+by_meaning s B CheckedShl x amount = ok_or (then_some (nat_lt amount B) (shifted_left s B x amount)) Refused
 by_meaning s B CheckedShr x amount = ok_or (then_some (nat_lt amount B) (shifted_right s B x amount)) Refused
-by_meaning s B RotateLeft x amount = Ok (val s (slice_rotate_right (bits B x) (amount % B)))
-by_meaning s B RotateRight x amount = Ok (val s (rotr (bits B x) (amount % B)))
+by_meaning s B RotateLeft x amount = Ok (rotated_left s B x (amount % B))
+by_meaning s B RotateRight x amount = Ok (rotated_right s B x (amount % B))
 by_meaning s B SaturatingPow x amount = Ok (clamp s B (int_pow x amount))
 
 -- what the step makes of its sources

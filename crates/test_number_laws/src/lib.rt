@@ -8,6 +8,7 @@ pub mod converted_counts;
 pub mod count_bounds;
 pub mod ends;
 pub mod forms;
+pub mod known_numbers;
 pub mod leading_zeros;
 pub mod lowest_bit_counts;
 pub mod lowest_bits;

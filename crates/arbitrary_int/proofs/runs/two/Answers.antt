@@ -1,6 +1,3 @@
-use Rattle.std.specs.Prelude.{Ok}
-use Rattle.std.proofs.Common.{ap, sym, ◌∙◌}
-use Rattle.arbitrary_base.proofs.operations.Definition.{and-is, or-is, xor-is}
 use Rattle.arbitrary_int.proofs.StepLemmas.{exact-checks, quotient-checks}
 use Rattle.arbitrary_int.proofs.runs.two.Goals as goal
 
@@ -19,15 +16,3 @@ returns-in-CheckedMul g c =
 pub returns-in-CheckedDiv : goal.returns-in-CheckedDiv
 returns-in-CheckedDiv g c =
     rw c.in-CheckedDiv.is (quotient-checks g.R.Numbered.number g.R.Numbered.IS_SIGNED g.R.Numbered.BITS _ _ c.checked_div.result c.ok_or-in-CheckedDiv.result c.checked_div.ensures.exact c.ok_or-in-CheckedDiv.ensures.value)
-
-pub returns-in-And : goal.returns-in-And
-returns-in-And g c =
-    rw c.in-And.is (ap Ok (sym (g.met.R.FixedWidth.and_law _ _ _ c.bitand.ensures ∙ and-is _ _ _ _)))
-
-pub returns-in-Or : goal.returns-in-Or
-returns-in-Or g c =
-    rw c.in-Or.is (ap Ok (sym (g.met.R.FixedWidth.or_law _ _ _ c.bitor.ensures ∙ or-is _ _ _ _)))
-
-pub returns-in-Xor : goal.returns-in-Xor
-returns-in-Xor g c =
-    rw c.in-Xor.is (ap Ok (sym (g.met.R.FixedWidth.xor_law _ _ _ c.bitxor.ensures ∙ xor-is _ _ _ _)))
