@@ -21,6 +21,7 @@ use Rattle.arbitrary_base.proofs.integers.Powers.{power-one, power-zero}
 use Rattle.arbitrary_base.proofs.operations.PowerAndQuotient.{to_u128_bits-back, power-twice, quotient-self, power-of_one, power-of_zero}
 use Rattle.arbitrary_base.proofs.modular.Residue.{wrap-of_in_range}
 use Rattle.arbitrary_int.proofs.BitByBit.{and-compared, bit-and, bit-highest, bit-minus_one, bit-not, bit-or, bit-xor, bit-zero, compared-and, compared-not, compared-or, compared-xor, not-compared, or-compared, xor-compared}
+use Rattle.arbitrary_int.proofs.BitPlaces.{low-of_turned}
 use Rattle.arbitrary_int.proofs.BitTests.{low-of_right_cleared, low-of_right_other_cleared, low-of_right_other_set, masked-of_other_cleared, masked-of_other_set}
 use Rattle.arbitrary_base.proofs.operations.Multiple.{multiple-before, multiple-next, multiples-added, multiples-apart, sum-doubles, wrapped_product-highest}
 use Rattle.arbitrary_int.proofs.KnownCount.{popcount-of_numeral}
@@ -101,8 +102,8 @@ pub ruleset cancellations = (Decides-int_eq, sums-equal, differences-equal, diff
 -- one bit by its place: `1 << k`, set, cleared, and tested by `x & (1 << k)` or by `(x >> k) & 1`
 pub ruleset single_bits = (Decides-int_eq, left-of_one, and-one_bit, low-of_right, or-by_and, and-by_complement, and-of_cleared, and-of_set)
 
--- one bit that is set or cleared, and then this one or another tested by `(x >> k) & 1`, another also by `x & (1 << k)`
-pub ruleset bit_tests = (Decides-int_eq, low-of_right_set, low-of_right_cleared, low-of_right_other_set, low-of_right_other_cleared, masked-of_other_set, masked-of_other_cleared, low-of_right_not)
+-- one bit that is set, cleared or turned over, and then this one or another tested by `(x >> k) & 1`, another also by `x & (1 << k)`
+pub ruleset bit_tests = (Decides-int_eq, low-of_right_set, low-of_right_cleared, low-of_right_other_set, low-of_right_other_cleared, masked-of_other_set, masked-of_other_cleared, low-of_right_not, low-of_turned)
 
 -- flags that are set and cleared by a mask that is written out, exactly
 pub ruleset flags = (Decides-int_eq, and-digits, and-run, and-within, and-none, and-by_complement, and-by_negative, or-by_mask, xor-by_mask, and-of_cleared, and-of_cleared_by_negative, and-of_set)

@@ -85,7 +85,7 @@ tail-of_shifted_right B k x h =
 
 -- ---- one bit
 
-bits-one : (B : ℕ) → bits (suc B) (pos 1) ≡ true ∷ replicate B false
+pub bits-one : (B : ℕ) → bits (suc B) (pos 1) ≡ true ∷ replicate B false
 unfolding bits
 bits-one B = ap (λ (l : List Bool). true ∷ l) (bits-zero B)
 

@@ -37,6 +37,11 @@ pub mod TrailingZeros
 pub mod KnownEnds
 pub mod AnyWidth
 pub mod QuotientOrder
+pub mod RunsOfTwo
+pub mod BitPlaces
+pub mod OneBits
+pub mod FlagTests
+pub mod SignWord
 pub mod Sets
 pub mod BitVector
 pub mod Conversions

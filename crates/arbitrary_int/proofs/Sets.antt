@@ -12,11 +12,11 @@ use Rattle.arbitrary_int.proofs.EmptyWord.{with_field-of_nothing}
 use Rattle.arbitrary_int.proofs.Everyday.{or_three}
 use Rattle.arbitrary_int.proofs.KnownNumbers.{and-of_negative, and-of_positive, and-with_negative, left-of_negative, left-of_positive, not-of_negative, not-of_positive, or-of_negative, or-of_positive, or-with_negative, reversed-of_negative, reversed-of_positive, right-of_negative, right-of_positive, rotated_left-of_negative, rotated_left-of_positive, rotated_right-of_negative, rotated_right-of_positive, signed_wrap-of_negative, signed_wrap-of_positive, wrap-of_negative, wrap-of_positive, xor-of_negative, xor-of_positive, xor-with_negative}
 use Rattle.arbitrary_int.proofs.OtherBits.{gone-cleared, other_bit-cleared, other_bit-set, other_bit-turned, same_bit-set, same_bit-turned}
-use Rattle.arbitrary_int.proofs.RangeNumbers.{numbers-count, numbers-head}
+use Rattle.arbitrary_int.proofs.RangeNumbers.{last_of-joined, numbers-count, numbers-end, numbers-head}
 use Rattle.arbitrary_int.proofs.ReplacedField.{and_around, or-into_cleared, or_below_mask, or_into_hole}
 use Rattle.arbitrary_int.proofs.SideBySide.{numeral_next, or_five, or_four, or_next, or_six, or_three_up}
 use Rattle.arbitrary_int.proofs.StepWords.{difference-step, product-step, sum-step}
-use Rattle.arbitrary_int.proofs.StreamBytes.{Borsh-told, bytes-compared, first-of_Borsh, first-of_Borsh_signed, number-of_Borsh, number-of_Borsh_signed}
+use Rattle.arbitrary_int.proofs.StreamBytes.{Borsh-told, bytes-compared, bytes-converted, first-of_Borsh, first-of_Borsh_signed, number-of_Borsh, number-of_Borsh_signed}
 use Rattle.arbitrary_int.proofs.TextLength.{length-of_text}
 
 -- three to six fields put together by `|`
@@ -37,17 +37,17 @@ pub ruleset other_bits = (Decides-int_eq, same_bit-set, other_bit-set, gone-clea
 -- the bytes of a value in a stream: how many they are, and what is read back
 pub ruleset streams = (Borsh-told, number-of_Borsh, number-of_Borsh_signed, first-of_Borsh, first-of_Borsh_signed, reverse-reverse)
 
--- bytes in the other order, and a test of two arrays of bytes
-pub ruleset byte_orders = (bytes-compared, reverse-reverse)
+-- bytes in the other order and of the other sign, and a test of two arrays of bytes
+pub ruleset byte_orders = (bytes-compared, bytes-converted, reverse-reverse)
 
--- what a rotation makes of a number from 0 up, by quotient and remainder
-pub ruleset rotated_numbers = (rotated_left-number, rotated_right-number)
+-- what a rotation makes of a number from 0 up, by quotient and remainder, also under a written mask
+pub ruleset rotated_numbers = (rotated_left-number, rotated_right-number, and-digits)
 
 -- how long the text of a number is
 pub ruleset texts = (length-of_text)
 
--- the first of a range, and how many there are
-pub ruleset ranges = (numbers-head, numbers-count)
+-- the first of a range and the last, and how many there are
+pub ruleset ranges = (Decides-int_eq, numbers-head, last_of-joined, numbers-end, numbers-count)
 
 -- what the operations give on numbers that are written out
 pub ruleset known_numbers = (wrap-of_positive, wrap-of_negative, signed_wrap-of_positive, signed_wrap-of_negative, and-of_positive, or-of_positive, xor-of_positive, not-of_positive, left-of_positive, right-of_positive, rotated_left-of_positive, rotated_right-of_positive, reversed-of_positive, and-of_negative, or-of_negative, xor-of_negative, not-of_negative, left-of_negative, right-of_negative, rotated_left-of_negative, rotated_right-of_negative, reversed-of_negative, and-with_negative, or-with_negative, xor-with_negative)

@@ -1,5 +1,5 @@
 -- The bytes of a number in a stream: how many they are, and that they tell the number, also where more bytes follow.
-use Rattle.std.specs.Prelude.{◌≡◌, ℕ, ℤ, Bool, true, false, pos, List, ◌++◌, length, take, ◌≤◌, ◌<◌, ◌^◌}
+use Rattle.std.specs.Prelude.{◌≡◌, ℕ, ℤ, Bool, true, false, pos, List, ◌++◌, length, take, ◌≤◌, ◌<◌, ◌*◌, ◌^◌}
 use lib.Dec.{eqb}
 use lib.Pointwise.{bytes_decides, pointwise}
 use Rattle.std.proofs.Common.{refl, sym, ap, ◌∙◌, arith}
@@ -8,8 +8,8 @@ use Rattle.std.proofs.lemmas.List.{take_all}
 use Rattle.std.specs.Int.{div_ceil}
 use Rattle.arbitrary_base.specs.Range.{InRange}
 use Rattle.arbitrary_base.specs.Residue.{wrap}
-use Rattle.arbitrary_base.specs.Bytes.{BorshBytes, bytes_number}
-use Rattle.arbitrary_base.proofs.bytes.NumberOfBytes.{Borsh-canonical, length-Borsh, wrap-Borsh}
+use Rattle.arbitrary_base.specs.Bytes.{BorshBytes, bytes, bytes_number}
+use Rattle.arbitrary_base.proofs.bytes.NumberOfBytes.{Borsh-canonical, bytes-wrap, length-Borsh, wrap-Borsh}
 
 pub Borsh-told : (B : ℕ) (x : ℤ) → (BorshBytes B x ≡ BorshBytes B x) × (length (BorshBytes B x) ≡ div_ceil B 8) × (bytes_number (BorshBytes B x) < 2 ^ B)
 Borsh-told B x = (refl, length-Borsh B x, (Borsh-canonical B x).below)
@@ -42,3 +42,7 @@ first-of_Borsh_signed B x more h f = (refl, told-first true B x h f more)
 -- a test of two arrays of bytes
 pub bytes-compared : (l m : List ℕ) → (pointwise eqb l m ≡ pointwise eqb l m) × (l ≡ m → pointwise eqb l m ≡ true) × (pointwise eqb l m ≡ true → l ≡ m)
 bytes-compared l m = let d = bytes_decides l m in (refl, d.1, d.0)
+
+-- the bytes of a number that is converted to the other sign
+pub bytes-converted : (s : Bool) (B n : ℕ) (x : ℤ) → B ≡ 8 * n → bytes n (wrap s B x) ≡ bytes n x
+bytes-converted s B n x e = bytes-wrap s B n x (wrap s B x) e refl

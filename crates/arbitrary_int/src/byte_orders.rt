@@ -138,7 +138,11 @@ pub trait ByteOrders<const N: usize>: Numbered {
 
     /// `swap_bytes`, as the machine is little-endian.
     final fn to_be(self) -> Self
-        ensures { bytes N (Self.number result) ≡ reverse (bytes N (Self.number self)) }
+        ensures bytes { bytes N (Self.number result) ≡ reverse (bytes N (Self.number self)) }
+        ensures undo { (y : ℤ) → let turned = reverse (bytes N y) in
+            InRange Self.IS_SIGNED Self.BITS y → bytes N (Self.number self) ≡ turned
+            → Self.number result ≡ y }
+        ensures range { InRange Self.IS_SIGNED Self.BITS (Self.number self) }
     {
         self.swap_bytes()
     }
@@ -152,7 +156,11 @@ pub trait ByteOrders<const N: usize>: Numbered {
 
     /// `swap_bytes`, as the machine is little-endian.
     final fn from_be(value: Self) -> Self
-        ensures { bytes N (Self.number result) ≡ reverse (bytes N (Self.number value)) }
+        ensures bytes { bytes N (Self.number result) ≡ reverse (bytes N (Self.number value)) }
+        ensures undo { (y : ℤ) → let turned = reverse (bytes N y) in
+            InRange Self.IS_SIGNED Self.BITS y → bytes N (Self.number value) ≡ turned
+            → Self.number result ≡ y }
+        ensures range { InRange Self.IS_SIGNED Self.BITS (Self.number value) }
     {
         value.swap_bytes()
     }

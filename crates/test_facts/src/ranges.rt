@@ -14,6 +14,13 @@ pub fn first_of_range(low: u7, high: u7) -> Option<u7>
     range_inclusive(low, high).next()
 }
 
+pub fn last_of_range(low: u7, high: u7) -> Option<u7>
+    requires { low ≤ℤ high }
+    ensures { result ≡ Some high }
+{
+    range_inclusive(low, high).next_back()
+}
+
 pub fn no_values(low: u7, high: u7) -> usize
     requires { high <ℤ low }
     ensures { result ≡ 0 }

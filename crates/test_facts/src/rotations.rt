@@ -74,3 +74,17 @@ pub fn highest_bit_comes_in_below(x: u12) -> u1
 {
     u1::extract_u16(x.rotate_left(1).value(), 0)
 }
+
+#[tactic(auto, using(arbitrary_int::proofs::Sets::rotated_numbers))]
+pub fn highest_bit_is_the_lowest_then(x: u12) -> bool
+    ensures { IsTrue result }
+{
+    x.rotate_left(1) & u12::new(1) == x >> 11
+}
+
+#[tactic(auto, using(arbitrary_int::proofs::Sets::rotated_numbers))]
+pub fn highest_byte_is_the_lowest_then(x: u24) -> bool
+    ensures { IsTrue result }
+{
+    x.rotate_left(8) & u24::new(0xFF) == x >> 16
+}

@@ -3,6 +3,7 @@
 #![tactic(auto)]
 
 pub mod bit_by_bit;
+pub mod bit_places;
 pub mod bits;
 pub mod cancellations;
 pub mod carries;
@@ -21,6 +22,7 @@ pub mod masks;
 pub mod mixed;
 pub mod multiples;
 pub mod offsets;
+pub mod one_bits;
 pub mod order;
 pub mod products;
 pub mod reversals;
@@ -29,4 +31,5 @@ pub mod rotations;
 pub mod shifts;
 pub mod signed;
 pub mod signed_order;
+pub mod signs;
 pub mod written_masks;

@@ -15,6 +15,7 @@ pub mod lowest_bits;
 pub mod normal_shifts;
 pub mod population;
 pub mod quotient_order;
+pub mod runs_of_two;
 pub mod small_numbers;
 pub mod trailing_zeros;
 pub mod truncations;

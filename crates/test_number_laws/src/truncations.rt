@@ -64,3 +64,15 @@ pub fn through_the_other_sign(x: i48) -> bool
 {
     x.to_unsigned().as_::<u12>() == x.as_::<u12>()
 }
+
+pub fn rotation_of_the_other_sign(x: i12) -> bool
+    ensures { IsTrue result }
+{
+    x.rotate_left(3).to_unsigned() == x.to_unsigned().rotate_left(3)
+}
+
+pub fn reversal_of_the_other_sign(x: u24) -> bool
+    ensures { IsTrue result }
+{
+    x.reverse_bits().as_::<i24>() == x.as_::<i24>().reverse_bits()
+}

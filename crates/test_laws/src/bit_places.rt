@@ -1,0 +1,55 @@
+//! Laws of bits by their places, at types with and without a sign: one bit that is set, cleared or turned over, and then tested; and flags
+//! that are tested at once, beside the tests of each.
+#![tactic(auto, using(arbitrary_int::proofs::BitPlaces::bit_places))]
+
+ghost use Rattle.std.specs.Prelude.{◌<◌, IsTrue};
+
+use arbitrary_int::prelude::*;
+
+pub fn turned_then_tested(x: u12, place: u32) -> bool
+    requires { place < 12 }
+    ensures { IsTrue result }
+{
+    let one = u12::new(1) << place;
+    ((x ^ one) & one == u12::new(0)) == (x & one != u12::new(0))
+}
+
+pub fn set_then_tested_with_a_sign(x: i12, place: u32) -> bool
+    requires { place < 12 }
+    ensures { IsTrue result }
+{
+    ((x | (i12::new(1) << place)) >> place) & i12::new(1) == i12::new(1)
+}
+
+#[tactic(auto, using(arbitrary_int::proofs::BitVector::bit_tests))]
+pub fn turned_then_read(x: u12, place: u32) -> bool
+    requires { place < 12 }
+    ensures { IsTrue result }
+{
+    ((x ^ (u12::new(1) << place)) >> place) & u12::new(1)
+        == u12::new(1) - ((x >> place) & u12::new(1))
+}
+
+#[tactic(auto, using(arbitrary_int::proofs::FlagTests::flag_tests))]
+pub fn both_flags(x: u12) -> bool
+    ensures { IsTrue result }
+{
+    (x & u12::new(0x12) == u12::new(0x12))
+        == (x & u12::new(2) != u12::new(0) && x & u12::new(0x10) != u12::new(0))
+}
+
+#[tactic(auto, using(arbitrary_int::proofs::FlagTests::flag_tests))]
+pub fn one_flag_of_two(x: u24) -> bool
+    ensures { IsTrue result }
+{
+    (x & u24::new(0x12) == u24::new(0x10))
+        == (x & u24::new(2) == u24::new(0) && x & u24::new(0x10) != u24::new(0))
+}
+
+#[tactic(auto, using(arbitrary_int::proofs::FlagTests::flag_tests))]
+pub fn any_flag_with_a_sign(x: i12) -> bool
+    ensures { IsTrue result }
+{
+    (x & i12::new(0x12) != i12::new(0))
+        == (x & i12::new(2) != i12::new(0) || x & i12::new(0x10) != i12::new(0))
+}
