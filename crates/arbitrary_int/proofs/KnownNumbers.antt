@@ -9,7 +9,7 @@ use Rattle.std.proofs.Math.Nat.{div-add-mod'}
 use Rattle.std.proofs.lemmas.Int.{ints}
 use Rattle.std.proofs.lemmas.List.{length-reverse}
 use Rattle.std.proofs.lemmas.Nat.{pow_pos}
-use Rattle.arbitrary_base.specs.Range.{InRange, lo, hi}
+use Rattle.arbitrary_base.specs.Range.{lo, hi}
 use Rattle.arbitrary_base.specs.Residue.{Congruent, wrap}
 use Rattle.arbitrary_base.specs.BitList.{bits, num, val, bits_and, bits_or, bits_xor, rotr, shl}
 use Rattle.arbitrary_base.specs.Operation.{bitwise_and, bitwise_not, bitwise_or, bitwise_xor, reversed, rotated_left, rotated_right, shifted_left, shifted_right}

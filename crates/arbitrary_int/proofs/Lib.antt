@@ -8,6 +8,7 @@ pub mod RangeSteps
 pub mod ByteLaws
 pub mod Everyday
 pub mod SideBySide
+pub mod MovedIn
 pub mod ReplacedField
 pub mod StreamBytes
 pub mod StepWords
@@ -16,6 +17,7 @@ pub mod RangeNumbers
 pub mod EmptyWord
 pub mod SingleBit
 pub mod OtherBits
+pub mod PrimitiveBit
 pub mod BitTests
 pub mod BitByBit
 pub mod MaskTests

@@ -1,9 +1,10 @@
 -- For callers: sets on fields side by side, bytes, texts, ranges and lists of steps, each by its theme. A file or a function names one:
 -- `#![tactic(auto, using(arbitrary_int::proofs::Sets::streams))]`. Those of the bit operations stand in BitVector.antt.
 use Rattle.std.proofs.lemmas.Bool.Decides.{Decides-int_eq}
-use Rattle.std.proofs.lemmas.Grind.{and_high_numeral, and_numeral, numeral_or, or_after_shift, or_before_shift}
+use Rattle.std.proofs.lemmas.Grind.{and_high_numeral, and_numeral, numeral_or, one_shifted, or_after_shift, or_before_shift}
 use Rattle.std.proofs.lemmas.List.{map-id, reverse-reverse}
 use Rattle.arbitrary_base.proofs.LawProof.{in_range-tells}
+use Rattle.arbitrary_base.proofs.integers.Ring.{pos-unsigned_abs}
 use Rattle.arbitrary_base.proofs.modular.Residue.{wrap-congruent, wrap-of_in_range}
 use Rattle.arbitrary_base.proofs.operations.KnownMask.{and-by_complement, and-digits}
 use Rattle.arbitrary_base.proofs.operations.RotatedNumber.{rotated_left-number, rotated_right-number}
@@ -11,7 +12,9 @@ use Rattle.arbitrary_base.proofs.storages.Clamp.{clamp-above, clamp-below, clamp
 use Rattle.arbitrary_int.proofs.EmptyWord.{with_field-of_nothing}
 use Rattle.arbitrary_int.proofs.Everyday.{or_three}
 use Rattle.arbitrary_int.proofs.KnownNumbers.{and-of_negative, and-of_positive, and-with_negative, left-of_negative, left-of_positive, not-of_negative, not-of_positive, or-of_negative, or-of_positive, or-with_negative, reversed-of_negative, reversed-of_positive, right-of_negative, right-of_positive, rotated_left-of_negative, rotated_left-of_positive, rotated_right-of_negative, rotated_right-of_positive, signed_wrap-of_negative, signed_wrap-of_positive, wrap-of_negative, wrap-of_positive, xor-of_negative, xor-of_positive, xor-with_negative}
+use Rattle.arbitrary_int.proofs.MovedIn.{numeral_three, numeral_two, or_moved_in, or_two_moved_in}
 use Rattle.arbitrary_int.proofs.OtherBits.{gone-cleared, other_bit-cleared, other_bit-set, other_bit-turned, same_bit-set, same_bit-turned}
+use Rattle.arbitrary_int.proofs.PrimitiveBit.{bit_cleared, bit_cleared-other, bit_set, bit_set-other, bit_tested, bit_turned, bit_turned-other, set_then_cleared}
 use Rattle.arbitrary_int.proofs.RangeNumbers.{last_of-joined, numbers-count, numbers-end, numbers-head}
 use Rattle.arbitrary_int.proofs.ReplacedField.{and_around, or-into_cleared, or_below_mask, or_into_hole}
 use Rattle.arbitrary_int.proofs.SideBySide.{numeral_next, or_five, or_four, or_next, or_six, or_three_up}
@@ -19,11 +22,19 @@ use Rattle.arbitrary_int.proofs.StepWords.{difference-step, product-step, sum-st
 use Rattle.arbitrary_int.proofs.StreamBytes.{Borsh-told, bytes-compared, bytes-converted, first-of_Borsh, first-of_Borsh_signed, number-of_Borsh, number-of_Borsh_signed}
 use Rattle.arbitrary_int.proofs.TextLength.{length-of_text}
 
--- three to six fields put together by `|`
-pub ruleset fields = (or_three, or_four, or_five, or_six, or_three_up)
+-- three to six fields put together by `|`, and one read back under a mask
+pub ruleset fields = (or_three, or_four, or_five, or_six, or_three_up, and_numeral)
 
 -- numbers of a primitive put together by `|`, as many as there are, also masked ones and one that is written out
 pub ruleset joined_numbers = (or_next, numeral_next, or_after_shift, or_before_shift, numeral_or, and_numeral)
+
+-- two fields below the lowest one of a number that is written out, and three: both laws at once are too much for the search
+pub ruleset two_marked = (numeral_two, and_numeral)
+
+pub ruleset three_marked = (numeral_three)
+
+-- a number that is moved up, also past the end of its type, and one or two fields that come in below it
+pub ruleset moved_in = (or_moved_in, or_two_moved_in, and_numeral)
 
 -- a field of a primitive that is written where a mask has cleared one
 pub ruleset replaced_fields = (or_into_hole, or_below_mask, and_around, and_high_numeral, and_numeral, or_before_shift, or_next)
@@ -33,6 +44,9 @@ pub ruleset cleared_fields = (Decides-int_eq, or-into_cleared, and-by_complement
 
 -- a bit by its place that is set, cleared or turned over, and the others, which stay
 pub ruleset other_bits = (Decides-int_eq, same_bit-set, other_bit-set, gone-cleared, other_bit-cleared, same_bit-turned, other_bit-turned)
+
+-- one bit of a primitive by its place, as `1 << place` makes it: set, cleared, turned over and tested, and the others, which stay
+pub ruleset primitive_bits = (one_shifted, and_numeral, pos-unsigned_abs, bit_tested, bit_set, bit_set-other, bit_turned, bit_turned-other, bit_cleared, bit_cleared-other, set_then_cleared)
 
 -- the bytes of a value in a stream: how many they are, and what is read back
 pub ruleset streams = (Borsh-told, number-of_Borsh, number-of_Borsh_signed, first-of_Borsh, first-of_Borsh_signed, reverse-reverse)

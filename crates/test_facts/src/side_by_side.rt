@@ -133,3 +133,24 @@ pub fn four_in_their_own_type(a: u3, b: u6, c: u6, d: u6) -> u21
 {
     (u21::from_(a) << 18) | (u21::from_(b) << 12) | (u21::from_(c) << 6) | u21::from_(d)
 }
+
+pub fn read_back_under_a_mask(response: bool, operation: u4, code: u4) -> u4
+    ensures { result ≡ operation }
+{
+    let flags = u16::from(response) << 15 | u16::from_(operation) << 11 | u16::from_(code);
+    u4::new((flags >> 11 & 0xF) as u8)
+}
+
+#[tactic(auto, using(arbitrary_int::proofs::Sets::two_marked))]
+pub fn two_under_a_mark(x: u4, y: u4) -> u16
+    ensures { pos result ≡ pos 53248 +ℤ pos 256 *ℤ x +ℤ pos 16 *ℤ y }
+{
+    0xD000 | (x.as_u16() << 8) | (y.as_u16() << 4)
+}
+
+#[tactic(auto, using(arbitrary_int::proofs::Sets::three_marked))]
+pub fn three_under_a_mark(x: u4, y: u4, n: u4) -> u16
+    ensures { pos result ≡ pos 53248 +ℤ pos 256 *ℤ x +ℤ pos 16 *ℤ y +ℤ n }
+{
+    0xD000 | (x.as_u16() << 8) | (y.as_u16() << 4) | n.as_u16()
+}
