@@ -1,3 +1,4 @@
+-- What the text of a program of `bitrun` means, a file for each part of it, and what the readers of lines in the fast form take.
 pub mod Fault
 pub mod Text
 pub mod Numeral

@@ -1,3 +1,4 @@
+-- For `xor` in src/patterns.rt: the lemma on `^` of two patterns that fit. Those of `and` and `or` stand beside it in CodeOnPatterns.antt.
 use Rattle.arbitrary_base.proofs.bit_lists.CodeOnPatterns.{xor_pattern}
 use Rattle.arbitrary_base.proofs.patterns.xor.Goals as goal
 
