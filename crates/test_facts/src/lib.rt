@@ -26,6 +26,7 @@ pub mod numbers;
 pub mod other_bits;
 pub mod packing;
 pub mod primitive_bits;
+pub mod products;
 pub mod quotients;
 pub mod ranges;
 pub mod readers;

@@ -117,9 +117,9 @@ where
 
     ghost sub_law = { λ a b r h f. h };
 
-    ghost can_mul_law = { λ a b h _ _. h };
+    ghost can_mul_law = { λ a b h _ _ _. h };
 
-    ghost mul_law = { λ a b r h f. h };
+    ghost mul_law = { λ a b r h f. h.0 };
 
     ghost can_div_law = { λ a b f n g. (n, g) };
 

@@ -1,7 +1,8 @@
 //! `+ - * /` and unary minus of `Int`, exact: the precondition is that the result is in range, and that a
-//! divisor is not zero. That the operands are in range is given.
+//! divisor is not zero. That the operands are in range is given, and of a product its bound: no greater in magnitude
+//! than the magnitudes' product, which always holds, and beside which a check finds that the product fits.
 
-ghost use Rattle.std.specs.Prelude.{◌≡◌, ◌≢◌, ◌+ℤ◌, ◌-ℤ◌, ◌*ℤ◌, neg_ℤ, pos, int_div};
+ghost use Rattle.std.specs.Prelude.{◌≡◌, ◌≢◌, ◌+ℤ◌, ◌-ℤ◌, ◌*ℤ◌, ◌*◌, ◌≤◌, neg_ℤ, pos, int_div, unsigned_abs};
 ghost use Rattle.arbitrary_base.specs.Range.{InRange};
 
 use crate::signed::Int;
@@ -78,11 +79,14 @@ where
     type Output = Int<T, BITS>;
 
     ghost can_mul = { λ a b. let product = a *ℤ b in
-        InRange T.SIGNED BITS a → InRange T.SIGNED BITS b → InRange T.SIGNED BITS product };
+        let bound = unsigned_abs a * unsigned_abs b in
+        InRange T.SIGNED BITS a → InRange T.SIGNED BITS b → unsigned_abs product ≤ bound
+        → InRange T.SIGNED BITS product };
 
-    ghost mul_gives = { λ a b r. r ≡ a *ℤ b };
+    ghost mul_gives = { λ a b r. let bound = unsigned_abs a * unsigned_abs b in
+        (r ≡ a *ℤ b) × (unsigned_abs r ≤ bound) };
 
-    #[tactic(auto, using(arbitrary_base::proofs::storages::CheckedSum::fitting))]
+    #[tactic(auto, using(crate::proofs::Magnitude::fitting_product))]
     fn mul(self, rhs: Int<T, BITS>) -> Int<T, BITS> {
         Int::<T, BITS>::new(wrapping::mul(self.value(), rhs.value(), BITS))
     }
@@ -93,9 +97,12 @@ where
     T::Unsigned: UnsignedOf<T>,
 {
     ghost can_mul_assign = { λ a b. let product = a *ℤ b in
-        InRange T.SIGNED BITS a → InRange T.SIGNED BITS b → InRange T.SIGNED BITS product };
+        let bound = unsigned_abs a * unsigned_abs b in
+        InRange T.SIGNED BITS a → InRange T.SIGNED BITS b → unsigned_abs product ≤ bound
+        → InRange T.SIGNED BITS product };
 
-    ghost mul_assign_gives = { λ a b r. r ≡ a *ℤ b };
+    ghost mul_assign_gives = { λ a b r. let bound = unsigned_abs a * unsigned_abs b in
+        (r ≡ a *ℤ b) × (unsigned_abs r ≤ bound) };
 
     fn mul_assign(&mut self, rhs: Int<T, BITS>) {
         *self = *self * rhs;
