@@ -105,7 +105,7 @@ def checked(crate, room, bodies, uses):
     for start, end, new, file in sorted(((*change, it.file) for it in taken for change in it.changes), reverse=True):
         text = (folder / file).read_text()
         (folder / file).write_text(text[:start] + new + text[end:])
-    words = command(crate, room, taken, uses)
+    words = command(crate, room, [it.function for it in taken], uses)
     said = subprocess.run(words, cwd=folder, stdout=subprocess.PIPE, stderr=subprocess.STDOUT, text=True).stdout
     if UNREAD.search(said) or not re.search(r'^only=', said, re.M):
         sys.exit(f'{crate}: the check came to no end with {[it.path.stem for it in taken]}:\n{said}')
@@ -120,8 +120,8 @@ def checked(crate, room, bodies, uses):
     return {it: found.get(it.function, ('unknown', [])) for it in taken}
 
 
-def command(crate, room, bodies, uses):
-    """A check of the functions of these wrong bodies, in a copy of the crate."""
+def command(crate, room, functions, uses, jobs=1):
+    """A check of these functions, in a copy of the crate."""
     built = {it: ROOT / 'crates' / it / 'out/rlib' for it in below(crate, uses)}
     externs = [(it, built.get(it, KIT / 'rlibs')) for it in ['std', *uses[crate]]]
     return [
@@ -129,8 +129,8 @@ def command(crate, room, bodies, uses):
         *(word for name, folder in externs for word in ('--extern', f'{name}={folder / name}.rlib')),
         *(word for folder in [KIT / 'rlibs', *built.values()] for word in ('-L', f'dependency={folder}')),
         '--antt-project', KIT / 'rattle/logic/antt-project.json', '--logic-built', KIT / 'logic_built',
-        '--links', f'{crate}=', '--incremental', room / 'kept', '--jobs', '1',
-        *(word for it in bodies for word in ('--only', it.function)),
+        '--links', f'{crate}=', '--incremental', room / 'kept', '--jobs', str(jobs),
+        *(word for it in functions for word in ('--only', it)),
     ]
 
 

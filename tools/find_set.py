@@ -1,0 +1,100 @@
+#!/usr/bin/env python3
+"""find_set.py CRATE FUNCTION ..
+
+Tries each set of laws of docs/PROVING.md on these functions of a crate, and prints the line to put on each: the sets with which the check
+proves it. A function is named as the check names it, without the crate: `module::function`, or `Type::call`. The crate stays as it is: the
+check takes a copy, in which the function stands once for each set. What is below the crate has to be proved (`rt check` in the crate).
+"""
+import os
+import re
+import shutil
+import subprocess
+import sys
+import tempfile
+from pathlib import Path
+
+from program import ROOT
+from wrong_bodies import PARTS, command, libraries
+
+PAGE = ROOT / 'docs/PROVING.md'
+# Where a row of a table has two sets, `;` is between them. The head of a table says which module its sets are of.
+HEAD = re.compile(r'\| .* \| The set(?: of `(\w+)`)? \|')
+NAME = re.compile(r'`((?:\w+::)?\w+)`')
+NAMED = re.compile(r'using\(arbitrary_int::proofs::(\w+::\w+)\)')
+# A function with its comment and attributes: the lines before it that have its margin, and those to the brace that closes it.
+FUNCTION = r'(?:^{margin}(?:///|#\[).*\n)*^{margin}(?:pub(?:\(crate\))? )?(?:final )?fn {name}\b(?:.*\n)*?^{margin}\}}\n'
+
+
+def sets():
+    """The sets that the page names."""
+    found, module = [], None
+    for line in PAGE.read_text().splitlines():
+        if head := HEAD.fullmatch(line):
+            module = f'{head[1]}::' if head[1] else ''
+        elif not line.startswith('|'):
+            module = None
+        elif module is not None:
+            found += [module + it for it in NAME.findall(line.split('|')[-2])]
+        found += NAMED.findall(line)
+    return list(dict.fromkeys(found))
+
+
+def text_of(folder, function):
+    """The file of the copy that has this function, and where its text begins and ends there."""
+    name = function.split('::')[-1]
+    places = []
+    for file in sorted((folder / 'src').rglob('*.rt')):
+        text = file.read_text()
+        for margin in set(re.findall(rf'^( *).*\bfn {name}\b', text, re.M)):
+            places += [(file, it) for it in re.finditer(FUNCTION.format(margin=margin, name=name), text, re.M)]
+    modules = [it for it in places if it[0].stem in function.split('::')]
+    if len(modules or places) != 1:
+        sys.exit(f'{function}: {len(modules or places)} functions have this name; give one another name for the trial')
+    return (modules or places)[0]
+
+
+def tried(folder, function, names):
+    """Puts the function into the copy once for each set. Returns the set by the name that its function has there."""
+    file, found = text_of(folder, function)
+    path, _, name = function.rpartition('::')
+    bare = re.sub(r'^ *#\[tactic\(.*\)\]\n', '', found[0], flags=re.M)
+    copies, by_name = [], {}
+    for it in names:
+        copy = f'{name}_by_{it.replace("::", "_")}'
+        margin = re.match(r' *', bare)[0]
+        line = f'{margin}#[tactic(auto, using(arbitrary_int::proofs::{it}))]\n'
+        # behind the comment, before what follows it
+        cut = re.match(r'(?: *///.*\n)*', bare).end()
+        copies.append(bare[:cut] + line + re.sub(rf'\bfn {name}\b', f'fn {copy}', bare[cut:], count=1))
+        by_name[f'{path}::{copy}' if path else copy] = it
+    text = file.read_text()
+    file.write_text(text[:found.end()] + ''.join(f'\n{it}' for it in copies) + text[found.end():])
+    return by_name
+
+
+def main():
+    if len(sys.argv) < 3:
+        sys.exit(__doc__)
+    crate, functions = sys.argv[1], sys.argv[2:]
+    names = sets()
+    with tempfile.TemporaryDirectory(prefix='find-set-') as room:
+        folder = Path(room) / 'crate'
+        for part in PARTS:
+            if (ROOT / 'crates' / crate / part).is_dir():
+                shutil.copytree(ROOT / 'crates' / crate / part, folder / part)
+        sought = {function: tried(folder, function, names) for function in functions}
+        words = command(crate, Path(room), [copy for copies in sought.values() for copy in copies], libraries(), os.cpu_count())
+        said = subprocess.run(words, cwd=folder, stdout=subprocess.PIPE, stderr=subprocess.STDOUT, text=True).stdout
+    proved = set(re.findall(rf'^fn {crate}::(\S+): proved', said, re.M))
+    if not re.search(r'^only=', said, re.M):
+        sys.exit(f'the check came to no end:\n{said}')
+    for function, copies in sought.items():
+        found = [it for copy, it in copies.items() if copy in proved]
+        print(f'{function}: ' + (f'{len(found)} of {len(names)} sets' if found else f'none of {len(names)} sets'))
+        for it in found:
+            print(f'    #[tactic(auto, using(arbitrary_int::proofs::{it}))]')
+    return 0
+
+
+if __name__ == '__main__':
+    sys.exit(main())
