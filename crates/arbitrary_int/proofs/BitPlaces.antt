@@ -19,24 +19,17 @@ use Rattle.arbitrary_base.proofs.bit_lists.UnsignedNumber.{digit, length-bits, s
 use Rattle.arbitrary_base.proofs.operations.Definition.{and-is, bits-and, bits-left, bits-not, bits-or, bits-right, bits-xor, bits-zero, by-bits, left-is, zero-is}
 use Rattle.arbitrary_base.proofs.operations.KnownMask.{and-by_one}
 use Rattle.arbitrary_int.proofs.CountBounds.{bits-one_bit}
+use Rattle.arbitrary_int.proofs.KnownCount.{digit-of}
 
 -- ---- the bit at a place
 
 pub bit : ℕ → ℤ → ℕ → Bool
 bit B x k = get_or (bits B x) k false
 
-lowest-digit : (n : ℕ) → digit (n % 2 == 1) ≡ n % 2
-lowest-digit n = by-rest (n % 2) (let e : n % 2 < 2 = omega arith in e)
-  where
-    by-rest : (r : ℕ) → r < 2 → digit (r == 1) ≡ r
-    by-rest zero h = refl
-    by-rest (suc zero) h = refl
-    by-rest (suc (suc r)) h = absurd (omega arith)
-
 lowest : (B : ℕ) (y : ℤ) → 1 ≤ B → unsigned_abs y % 2 ≡ digit (bit B y 0)
 unfolding bits bit
 lowest zero y h = absurd (omega arith)
-lowest (suc B) y h = sym (lowest-digit (unsigned_abs y))
+lowest (suc B) y h = sym (digit-of (unsigned_abs y % 2) (omega arith))
 
 low-is_bit : (s : Bool) (B k : ℕ) (x : ℤ) → k < B → unsigned_abs (shifted_right s B x k) % 2 ≡ digit (bit B x k)
 unfolding bit

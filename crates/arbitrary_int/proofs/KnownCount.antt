@@ -17,7 +17,8 @@ none : (f : ℕ) → 0 ≡ ones_of f 0
 none zero = refl
 none (suc f) = refl
 
-digit-of : (r : ℕ) → r < 2 → digit (r == 1) ≡ r
+-- the digit that a test for 1 gives back
+pub digit-of : (r : ℕ) → r < 2 → digit (r == 1) ≡ r
 digit-of zero h = refl
 digit-of (suc zero) h = refl
 digit-of (suc (suc r)) h = absurd (omega arith)

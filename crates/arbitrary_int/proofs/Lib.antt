@@ -47,6 +47,13 @@ pub mod SignWord
 pub mod Sets
 pub mod BitVector
 pub mod Conversions
+pub mod BitSums
+pub mod LowestPlace
+pub mod Extensions
+pub mod Saturations
+pub mod ComplementParts
+pub mod LowestMasks
+pub mod OverflowBits
 pub use Rattle.arbitrary_base.proofs.integers.Ring
 pub use Rattle.arbitrary_base.proofs.modular.Truncation
 pub use Rattle.arbitrary_base.proofs.modular.Residue

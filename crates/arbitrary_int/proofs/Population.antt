@@ -13,7 +13,7 @@ use Rattle.arbitrary_base.proofs.operations.BitsAndSums.{sum-of_disjoint, xor-in
 use Rattle.arbitrary_base.proofs.operations.Bitwise.{bitwise_xor-equal, bitwise_xor-same}
 use Rattle.arbitrary_base.proofs.operations.Definition.{bits-and, bits-not}
 use Rattle.arbitrary_base.proofs.operations.PopulationAndRuns.{no_ones-of_zero, popcount-of_and, popcount-of_and_or, zero-of_no_ones}
-use Rattle.arbitrary_int.proofs.CountBounds.{popcount-of_xor}
+use Rattle.arbitrary_int.proofs.CountBounds.{popcount-of_one_bit, popcount-of_xor}
 
 -- ---- `|`
 
@@ -53,3 +53,6 @@ popcount-of_xor_none s B x y h f g = (
 )
 
 pub ruleset population = (Decides-int_eq, popcount-of_and, popcount-within_or, popcount-of_xor, popcount-of_and_not, popcount-of_xor_none, no_ones-of_zero, sum-of_disjoint)
+
+-- whether the number of ones is odd, of `^` and where one bit is turned over
+pub ruleset parities = (popcount-of_xor, popcount-of_one_bit)

@@ -4,21 +4,22 @@ use Rattle.std.specs.Prelude.{◌≡◌, ◌⊎◌, ℕ, ℤ, zero, suc, Bool, t
 use Rattle.std.specs.Bool.{beq}
 use Rattle.std.specs.Int.{int_shr}
 use Rattle.std.specs.List.{count_by, prefix_len, suffix_len}
-use Rattle.std.proofs.Common.{min, refl, sym, ap, subst, ◌∙◌, arith, inl, inr, pow-suc}
+use Rattle.std.proofs.Common.{min, refl, sym, ap, ap₂, subst, ◌∙◌, arith, inl, inr, pow-suc}
 use Rattle.std.proofs.Math.Nat.{div-eq_of_lt-le, mul-le-mul_left, mul-le-mul_right}
 use Rattle.std.proofs.lemmas.Int.{ints}
 use Rattle.std.proofs.lemmas.List.{length-reverse}
 use Rattle.std.proofs.lemmas.Nat.{pow_pos}
 use Rattle.arbitrary_base.specs.Range.{InRange}
 use Rattle.arbitrary_base.specs.BitList.{bits, bits_and, bits_or, bits_xor, fill, num, shl, val}
-use Rattle.arbitrary_base.specs.Operation.{bitwise_and, bitwise_or, bitwise_xor, reversed, shifted_left, shifted_right}
+use Rattle.arbitrary_base.specs.Operation.{bitwise_and, bitwise_not, bitwise_or, bitwise_xor, reversed, shifted_left, shifted_right}
 use Rattle.arbitrary_base.proofs.bit_lists.Count.{popcount-cons}
 use Rattle.arbitrary_base.proofs.bit_lists.Movement.{reverse-cons}
 use Rattle.arbitrary_base.proofs.bit_lists.Pointwise.{reverse-pointwise}
 use Rattle.arbitrary_base.proofs.bit_lists.UnsignedNumber.{bits-num_of, digit, length-bits, same_length}
 use Rattle.arbitrary_base.proofs.modular.Congruence.{pow_split}
+use Rattle.arbitrary_base.proofs.operations.Bitwise.{not-and_parts, not-or_parts}
 use Rattle.arbitrary_base.proofs.operations.Definition.{bits-and, bits-left, bits-or, bits-reversed, bits-right, bits-xor, left-is}
-use Rattle.arbitrary_base.proofs.operations.PopulationAndRuns.{front-of_reversed, popcount-of_reversed}
+use Rattle.arbitrary_base.proofs.operations.PopulationAndRuns.{front-of_reversed, front_zeros-of_not, popcount-of_reversed, tail_zeros-of_not}
 use Rattle.arbitrary_base.proofs.operations.RotateAndReverse.{reversed-shifted_left, reversed-shifted_right}
 use Rattle.arbitrary_base.proofs.operations.RunBesideCount.{front_zeros-beside_ones}
 use Rattle.arbitrary_base.proofs.operations.Shift.{shifted_right-is_shr}
@@ -35,14 +36,6 @@ front-or (true ∷ l) (b ∷ m) e = omega arith
 front-or (false ∷ l) (true ∷ m) e = omega arith
 front-or (false ∷ l) (false ∷ m) e = omega (arith, front-or l m (omega arith))
 
-front-and : (l m : List Bool) → length l ≡ length m → prefix_len (beq true) (bits_and l m) ≡ min (prefix_len (beq true) l) (prefix_len (beq true) m)
-front-and [] [] e = refl
-front-and [] (b ∷ m) e = absurd (omega arith)
-front-and (a ∷ l) [] e = absurd (omega arith)
-front-and (false ∷ l) (b ∷ m) e = omega arith
-front-and (true ∷ l) (false ∷ m) e = omega arith
-front-and (true ∷ l) (true ∷ m) e = omega (arith, front-and l m (omega arith))
-
 front-and_zeros : (l m : List Bool) → length l ≡ length m
     → (prefix_len (beq false) l ≤ prefix_len (beq false) (bits_and l m)) × (prefix_len (beq false) m ≤ prefix_len (beq false) (bits_and l m))
 front-and_zeros [] [] e = (omega arith, omega arith)
@@ -52,16 +45,6 @@ front-and_zeros (true ∷ l) (true ∷ m) e = (omega arith, omega arith)
 front-and_zeros (true ∷ l) (false ∷ m) e = let i = front-and_zeros l m (omega arith) in let r = i.1 in (omega arith, omega arith)
 front-and_zeros (false ∷ l) (true ∷ m) e = let i = front-and_zeros l m (omega arith) in let r = i.0 in (omega arith, omega arith)
 front-and_zeros (false ∷ l) (false ∷ m) e = let i = front-and_zeros l m (omega arith) in let p = i.0 in let q = i.1 in (omega arith, omega arith)
-
-front-or_ones : (l m : List Bool) → length l ≡ length m
-    → (prefix_len (beq true) l ≤ prefix_len (beq true) (bits_or l m)) × (prefix_len (beq true) m ≤ prefix_len (beq true) (bits_or l m))
-front-or_ones [] [] e = (omega arith, omega arith)
-front-or_ones [] (b ∷ m) e = absurd (omega arith)
-front-or_ones (a ∷ l) [] e = absurd (omega arith)
-front-or_ones (false ∷ l) (false ∷ m) e = (omega arith, omega arith)
-front-or_ones (false ∷ l) (true ∷ m) e = let i = front-or_ones l m (omega arith) in let r = i.1 in (omega arith, omega arith)
-front-or_ones (true ∷ l) (false ∷ m) e = let i = front-or_ones l m (omega arith) in let r = i.0 in (omega arith, omega arith)
-front-or_ones (true ∷ l) (true ∷ m) e = let i = front-or_ones l m (omega arith) in let p = i.0 in let q = i.1 in (omega arith, omega arith)
 
 front-xor : (l m : List Bool) → length l ≡ length m → min (prefix_len (beq false) l) (prefix_len (beq false) m) ≤ prefix_len (beq false) (bits_xor l m)
 front-xor [] [] e = omega arith
@@ -83,14 +66,6 @@ module _ (s : Bool) (B : ℕ) (x y : ℤ) where
       ap (suffix_len (beq false)) (bits-or s B x y) ∙ ap (prefix_len (beq false)) (reverse-pointwise (λ a b. a || b) (bits B x) (bits B y) (same_length B x y))
       ∙ front-or (reverse (bits B x)) (reverse (bits B y)) turned
 
-  pub front_ones-of_and : prefix_len (beq true) (bits B (bitwise_and s B x y)) ≡ min (prefix_len (beq true) (bits B x)) (prefix_len (beq true) (bits B y))
-  front_ones-of_and = ap (prefix_len (beq true)) (bits-and s B x y) ∙ front-and (bits B x) (bits B y) (same_length B x y)
-
-  pub tail_ones-of_and : suffix_len (beq true) (bits B (bitwise_and s B x y)) ≡ min (suffix_len (beq true) (bits B x)) (suffix_len (beq true) (bits B y))
-  tail_ones-of_and =
-      ap (suffix_len (beq true)) (bits-and s B x y) ∙ ap (prefix_len (beq true)) (reverse-pointwise (λ a b. a && b) (bits B x) (bits B y) (same_length B x y))
-      ∙ front-and (reverse (bits B x)) (reverse (bits B y)) turned
-
   pub front-of_and : (prefix_len (beq false) (bits B x) ≤ prefix_len (beq false) (bits B (bitwise_and s B x y)))
       × (prefix_len (beq false) (bits B y) ≤ prefix_len (beq false) (bits B (bitwise_and s B x y)))
   front-of_and =
@@ -110,25 +85,6 @@ module _ (s : Bool) (B : ℕ) (x y : ℤ) where
       let q = i.1 in
       (omega arith, omega arith)
 
-  pub front_ones-of_or : (prefix_len (beq true) (bits B x) ≤ prefix_len (beq true) (bits B (bitwise_or s B x y)))
-      × (prefix_len (beq true) (bits B y) ≤ prefix_len (beq true) (bits B (bitwise_or s B x y)))
-  front_ones-of_or =
-      let e = ap (prefix_len (beq true)) (bits-or s B x y) in
-      let i = front-or_ones (bits B x) (bits B y) (same_length B x y) in
-      let p = i.0 in
-      let q = i.1 in
-      (omega arith, omega arith)
-
-  pub tail_ones-of_or : (suffix_len (beq true) (bits B x) ≤ suffix_len (beq true) (bits B (bitwise_or s B x y)))
-      × (suffix_len (beq true) (bits B y) ≤ suffix_len (beq true) (bits B (bitwise_or s B x y)))
-  tail_ones-of_or =
-      let e : suffix_len (beq true) (bits B (bitwise_or s B x y)) ≡ prefix_len (beq true) (bits_or (reverse (bits B x)) (reverse (bits B y))) =
-      ap (suffix_len (beq true)) (bits-or s B x y) ∙ ap (prefix_len (beq true)) (reverse-pointwise (λ a b. a || b) (bits B x) (bits B y) (same_length B x y)) in
-      let i = front-or_ones (reverse (bits B x)) (reverse (bits B y)) turned in
-      let p = i.0 in
-      let q = i.1 in
-      (omega arith, omega arith)
-
   pub front-of_xor : min (prefix_len (beq false) (bits B x)) (prefix_len (beq false) (bits B y)) ≤ prefix_len (beq false) (bits B (bitwise_xor s B x y))
   front-of_xor =
       let e = ap (prefix_len (beq false)) (bits-xor s B x y) in
@@ -139,6 +95,42 @@ module _ (s : Bool) (B : ℕ) (x y : ℤ) where
       let e : suffix_len (beq false) (bits B (bitwise_xor s B x y)) ≡ prefix_len (beq false) (bits_xor (reverse (bits B x)) (reverse (bits B y))) =
       ap (suffix_len (beq false)) (bits-xor s B x y) ∙ ap (prefix_len (beq false)) (reverse-pointwise (λ a b. not (beq a b)) (bits B x) (bits B y) (same_length B x y)) in
       omega (arith, front-xor (reverse (bits B x)) (reverse (bits B y)) turned)
+
+-- a run of ones is one of zeros of the complement
+module _ (s : Bool) (B : ℕ) (x y : ℤ) where
+  pub front_ones-of_and : prefix_len (beq true) (bits B (bitwise_and s B x y)) ≡ min (prefix_len (beq true) (bits B x)) (prefix_len (beq true) (bits B y))
+  front_ones-of_and =
+      sym (front_zeros-of_not s B (bitwise_and s B x y)) ∙ ap (λ (z : ℤ). prefix_len (beq false) (bits B z)) (not-and_parts s B x y)
+      ∙ front-of_or s B (bitwise_not s B x) (bitwise_not s B y) ∙ ap₂ min (front_zeros-of_not s B x) (front_zeros-of_not s B y)
+
+  pub tail_ones-of_and : suffix_len (beq true) (bits B (bitwise_and s B x y)) ≡ min (suffix_len (beq true) (bits B x)) (suffix_len (beq true) (bits B y))
+  tail_ones-of_and =
+      sym (tail_zeros-of_not s B (bitwise_and s B x y)) ∙ ap (λ (z : ℤ). suffix_len (beq false) (bits B z)) (not-and_parts s B x y)
+      ∙ tail-of_or s B (bitwise_not s B x) (bitwise_not s B y) ∙ ap₂ min (tail_zeros-of_not s B x) (tail_zeros-of_not s B y)
+
+  pub front_ones-of_or : (prefix_len (beq true) (bits B x) ≤ prefix_len (beq true) (bits B (bitwise_or s B x y)))
+      × (prefix_len (beq true) (bits B y) ≤ prefix_len (beq true) (bits B (bitwise_or s B x y)))
+  front_ones-of_or =
+      let e = ap (λ (z : ℤ). prefix_len (beq false) (bits B z)) (not-or_parts s B x y) in
+      let i = front-of_and s B (bitwise_not s B x) (bitwise_not s B y) in
+      let p = i.0 in
+      let q = i.1 in
+      let a = front_zeros-of_not s B x in
+      let b = front_zeros-of_not s B y in
+      let c = front_zeros-of_not s B (bitwise_or s B x y) in
+      (omega arith, omega arith)
+
+  pub tail_ones-of_or : (suffix_len (beq true) (bits B x) ≤ suffix_len (beq true) (bits B (bitwise_or s B x y)))
+      × (suffix_len (beq true) (bits B y) ≤ suffix_len (beq true) (bits B (bitwise_or s B x y)))
+  tail_ones-of_or =
+      let e = ap (λ (z : ℤ). suffix_len (beq false) (bits B z)) (not-or_parts s B x y) in
+      let i = tail-of_and s B (bitwise_not s B x) (bitwise_not s B y) in
+      let p = i.0 in
+      let q = i.1 in
+      let a = tail_zeros-of_not s B x in
+      let b = tail_zeros-of_not s B y in
+      let c = tail_zeros-of_not s B (bitwise_or s B x y) in
+      (omega arith, omega arith)
 
 -- ---- shifts
 

@@ -4,9 +4,11 @@
 
 pub mod bit_by_bit;
 pub mod bit_places;
+pub mod bit_sums;
 pub mod bits;
 pub mod cancellations;
 pub mod carries;
+pub mod complement_parts;
 pub mod complements;
 pub mod counts;
 pub mod distribution;
@@ -17,6 +19,8 @@ pub mod former_names;
 pub mod generic;
 pub mod generic_calls;
 pub mod known_counts;
+pub mod lowest_masks;
+pub mod lowest_place;
 pub mod mask_tests;
 pub mod masks;
 pub mod mixed;
@@ -24,6 +28,7 @@ pub mod multiples;
 pub mod offsets;
 pub mod one_bits;
 pub mod order;
+pub mod overflow_bits;
 pub mod products;
 pub mod reversals;
 pub mod ring;

@@ -1,0 +1,42 @@
+//! Laws of bits beside exact sums and differences, and beside what clamps.
+#![tactic(auto, using(arbitrary_int::proofs::BitSums::bit_sums))]
+
+ghost use Rattle.std.specs.Prelude.{IsTrue};
+
+use arbitrary_int::prelude::*;
+
+pub fn and_not_by_difference(x: u24, y: u24) -> bool
+    ensures { IsTrue result }
+{
+    x - (x & y) == x & !y
+}
+
+pub fn xor_by_difference(x: u12, y: u12) -> bool
+    ensures { IsTrue result }
+{
+    (x | y) - (x & y) == x ^ y
+}
+
+pub fn and_not_by_or(x: u12, y: u12) -> bool
+    ensures { IsTrue result }
+{
+    x & !y == (x | y).wrapping_sub(y)
+}
+
+pub fn xor_by_clamped_difference(x: u48, y: u48) -> bool
+    ensures { IsTrue result }
+{
+    (x | y).saturating_sub(x & y) == x ^ y
+}
+
+pub fn xor_below_clamped_sum(x: u12, y: u12) -> bool
+    ensures { IsTrue result }
+{
+    x ^ y <= x.saturating_add(y)
+}
+
+pub fn lowest_zero_filled(x: u12) -> bool
+    ensures { IsTrue result }
+{
+    x | x.wrapping_add(u12::new(1)) == x.wrapping_add(!x & x.wrapping_add(u12::new(1)))
+}

@@ -1,0 +1,43 @@
+//! Laws of the complement of `^` and of `|` beside sums, and of `^` without carries.
+#![tactic(auto, using(arbitrary_int::proofs::ComplementParts::complement_parts))]
+
+ghost use Rattle.std.specs.Prelude.{IsTrue};
+
+use arbitrary_int::prelude::*;
+
+pub fn not_of_xor_by_parts(x: u12, y: u12) -> bool
+    ensures { IsTrue result }
+{
+    !(x ^ y) == (x & y).wrapping_add(!(x | y))
+}
+
+pub fn not_of_xor_by_difference(x: i12, y: i12) -> bool
+    ensures { IsTrue result }
+{
+    !(x ^ y) == (x & y).wrapping_sub(x | y).wrapping_sub(i12::new(1))
+}
+
+pub fn and_by_complement(x: u24, y: u24) -> bool
+    ensures { IsTrue result }
+{
+    x & y == (!x | y).wrapping_sub(!x)
+}
+
+pub fn and_not_by_or(x: u100, y: u100) -> bool
+    ensures { IsTrue result }
+{
+    x & !y == (x | y).wrapping_sub(y)
+}
+
+pub fn zeros_below_filled(x: i12) -> bool
+    ensures { IsTrue result }
+{
+    x | x.wrapping_sub(i12::new(1)) == x.wrapping_add(!x & x.wrapping_sub(i12::new(1)))
+}
+
+#[tactic(auto, using(arbitrary_int::proofs::ComplementParts::carried))]
+pub fn xor_without_carries(x: u12, y: u12) -> bool
+    ensures { IsTrue result }
+{
+    x ^ y == x.wrapping_add(y).wrapping_sub((x & y) << 1)
+}

@@ -1,0 +1,30 @@
+//! Laws of the lowest bit of a sum, a difference and a product.
+#![tactic(auto, using(arbitrary_int::proofs::LowestPlace::lowest_place))]
+
+ghost use Rattle.std.specs.Prelude.{IsTrue};
+
+use arbitrary_int::prelude::*;
+
+pub fn of_a_sum(x: u12, y: u12) -> bool
+    ensures { IsTrue result }
+{
+    x.wrapping_add(y) & u12::new(1) == (x ^ y) & u12::new(1)
+}
+
+pub fn of_a_difference(x: i24, y: i24) -> bool
+    ensures { IsTrue result }
+{
+    x.wrapping_sub(y) & i24::new(1) == (x ^ y) & i24::new(1)
+}
+
+pub fn of_a_product(x: u12, y: u12) -> bool
+    ensures { IsTrue result }
+{
+    x.wrapping_mul(y) & u12::new(1) == x & y & u12::new(1)
+}
+
+pub fn of_the_negated(x: u100) -> bool
+    ensures { IsTrue result }
+{
+    x.wrapping_neg() & u100::new(1) == x & u100::new(1)
+}
