@@ -52,6 +52,7 @@ pub mod LowestPlace
 pub mod Extensions
 pub mod Saturations
 pub mod ComplementParts
+pub mod NegatedParts
 pub mod LowestMasks
 pub mod OverflowBits
 pub use Rattle.arbitrary_base.proofs.integers.Ring

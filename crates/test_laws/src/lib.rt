@@ -25,6 +25,7 @@ pub mod mask_tests;
 pub mod masks;
 pub mod mixed;
 pub mod multiples;
+pub mod negated_parts;
 pub mod offsets;
 pub mod one_bits;
 pub mod order;

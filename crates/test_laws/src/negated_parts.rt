@@ -1,0 +1,24 @@
+//! Laws of differences of `&`, `|` and `^` that give a negated one.
+#![tactic(auto, using(arbitrary_int::proofs::NegatedParts::negated_parts))]
+
+ghost use Rattle.std.specs.Prelude.{IsTrue};
+
+use arbitrary_int::prelude::*;
+
+pub fn xor_less_or(x: u12, y: u12) -> bool
+    ensures { IsTrue result }
+{
+    (x ^ y).wrapping_sub(x | y) == (x & y).wrapping_neg()
+}
+
+pub fn and_less_or(x: i12, y: i12) -> bool
+    ensures { IsTrue result }
+{
+    (x & y).wrapping_sub(x | y) == (x ^ y).wrapping_neg()
+}
+
+pub fn left_less_or(x: i48, y: i48) -> bool
+    ensures { IsTrue result }
+{
+    x.wrapping_sub(x | y) == (!x & y).wrapping_neg()
+}
