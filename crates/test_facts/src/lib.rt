@@ -16,6 +16,8 @@ pub mod fields;
 pub mod flags;
 pub mod generic;
 pub mod generic_calls;
+pub mod generic_checked;
+pub mod generic_orders;
 pub mod headers;
 pub mod indices;
 pub mod lists;
