@@ -3,7 +3,7 @@
 ghost use Rattle.std.specs.Prelude.{◌≡◌, ◌↔◌, ◌<◌, ◌≤◌, ◌+◌, ◌/◌, ◌%◌, ◌-ℤ◌, ◌^◌, pos, unsigned_abs, IsTrue, MatchResult, ⊤, neg_ℤ, take, drop};
 ghost use Rattle.std.specs.Int.{IsInRange};
 ghost use Rattle.arbitrary_base.specs.Range.{InRange};
-ghost use Rattle.arbitrary_base.specs.Residue.{wrap};
+ghost use Rattle.arbitrary_base.specs.Residue.{wrap, Congruent};
 ghost use Rattle.arbitrary_base.specs.Operation.{wrapped_difference};
 ghost use Rattle.arbitrary_base.specs.BitList.{bits, val};
 
@@ -184,8 +184,11 @@ impl<T: UnsignedStorage, const BITS: usize> UInt<T, BITS> {
     }
 
     /// The negated number, wrapped.
+    #[tactic(auto, using(arbitrary_base::proofs::modular::ExactOrCongruent::wrapped))]
     pub fn wrapping_neg(self) -> Self
         ensures value { result ≡ wrap T.SIGNED BITS (neg_ℤ self) }
+        ensures exact { InRange T.SIGNED BITS (neg_ℤ self) → result ≡ neg_ℤ self }
+        ensures congruent { Congruent BITS result (neg_ℤ self) }
         ensures operation { result ≡ wrapped_difference T.SIGNED BITS (pos 0) self }
         ensures undo { wrapped_difference T.SIGNED BITS (pos 0) result ≡ self }
     {

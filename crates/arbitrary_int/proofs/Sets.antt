@@ -1,6 +1,6 @@
 -- For callers: sets on fields side by side, bytes, texts, ranges and lists of steps, each by its theme. A file or a function names one:
 -- `#![tactic(auto, using(arbitrary_int::proofs::Sets::streams))]`. Those of the bit operations stand in BitVector.antt.
-use Rattle.std.proofs.lemmas.Bool.Decides.{Decides-int_eq}
+use Rattle.std.proofs.lemmas.Bool.Decides.{Decides-eqb, Decides-int_eq}
 use Rattle.std.proofs.lemmas.Grind.{and_high_numeral, and_numeral, numeral_or, one_shifted, or_after_shift, or_before_shift}
 use Rattle.std.proofs.lemmas.List.{map-id, reverse-reverse}
 use Rattle.arbitrary_base.proofs.LawProof.{in_range-tells}
@@ -16,6 +16,7 @@ use Rattle.arbitrary_int.proofs.MovedIn.{numeral_three, numeral_two, or_moved_in
 use Rattle.arbitrary_int.proofs.OtherBits.{gone-cleared, other_bit-cleared, other_bit-set, other_bit-turned, same_bit-set, same_bit-turned}
 use Rattle.arbitrary_int.proofs.PrimitiveBit.{bit_cleared, bit_cleared-other, bit_set, bit_set-other, bit_tested, bit_turned, bit_turned-other, set_then_cleared}
 use Rattle.arbitrary_int.proofs.RangeNumbers.{last_of-joined, numbers-count, numbers-end, numbers-head}
+use Rattle.arbitrary_int.proofs.ReadBack.{low_of_three, middle_of_three}
 use Rattle.arbitrary_int.proofs.ReplacedField.{and_around, or-into_cleared, or_below_mask, or_into_hole}
 use Rattle.arbitrary_int.proofs.SideBySide.{numeral_next, or_five, or_four, or_next, or_six, or_three_up}
 use Rattle.arbitrary_int.proofs.StepWords.{difference-step, product-step, sum-step}
@@ -24,6 +25,9 @@ use Rattle.arbitrary_int.proofs.TextLength.{length-of_text}
 
 -- three to six fields put together by `|`, and one read back under a mask
 pub ruleset fields = (or_three, or_four, or_five, or_six, or_three_up, and_numeral)
+
+-- three fields put together by `|`, and a test that one of them is read back, all in one function
+pub ruleset read_back = (Decides-eqb, Decides-int_eq, middle_of_three, low_of_three, or_three, and_numeral)
 
 -- numbers of a primitive put together by `|`, as many as there are, also masked ones and one that is written out
 pub ruleset joined_numbers = (or_next, numeral_next, or_after_shift, or_before_shift, numeral_or, and_numeral)

@@ -103,6 +103,8 @@ pub trait Integer: Numbered
     fn to_unsigned(self) -> Self::UnsignedInteger
         ensures value { unsigned_number result ≡ wrap false Self.BITS (Self.number self) }
         ensures congruent { Congruent Self.BITS (unsigned_number result) (Self.number self) }
+        ensures congruent_to { (y : ℤ) → Congruent Self.BITS (Self.number self) y
+            → Congruent Self.BITS (unsigned_number result) y }
         ensures range { InRange Self.IS_SIGNED Self.BITS (Self.number self) };
 
     /// The number with the same bits as the unsigned `value`.
