@@ -1,5 +1,5 @@
 -- The laws of the operations, for callers, in sets by theme. Each set closes the goals of its theme, and a file names one:
--- `#![tactic(auto, using(arbitrary_int::proofs::BitVector::bits))]`. All of them at once are too many for the search.
+-- `#![tactic(auto, using(arbitrary_int::proofs::BitVector::bits))]`. AllSets.antt has all of them at once.
 use Rattle.std.proofs.lemmas.Bool.Decides.{Decides-int_eq}
 use Rattle.arbitrary_base.proofs.operations.Bitwise.{and-absorbs, and-distributes_or, and-distributes_xor, bitwise_and-associates, bitwise_and-commutes, bitwise_and-complement, bitwise_and-highest, bitwise_and-minus_one, bitwise_and-not_zero, bitwise_and-same, bitwise_and-zero, bitwise_not-twice, bitwise_not-zero, bitwise_not-zero_signed, bitwise_or-associates, bitwise_or-commutes, bitwise_or-complement, bitwise_or-highest, bitwise_or-minus_one, bitwise_or-not_zero, bitwise_or-same, bitwise_or-zero, bitwise_xor-associates, bitwise_xor-commutes, bitwise_xor-equal, bitwise_xor-highest, bitwise_xor-minus_one, bitwise_xor-not_zero, bitwise_xor-same, bitwise_xor-undoes, bitwise_xor-zero, not-and_parts, not-or_parts, not-xor_left, or-absorbs, or-distributes_and, xor-is_and}
 use Rattle.arbitrary_base.proofs.storages.Clamp.{clamp-fits}

@@ -65,3 +65,4 @@ pub use Rattle.arbitrary_base.proofs.bit_lists.Field
 pub use Rattle.arbitrary_base.proofs.bit_lists.ExtractedField
 pub use Rattle.arbitrary_base.proofs.bytes.NumberOfBytes
 pub use Rattle.arbitrary_base.proofs.bytes.StreamSteps
+pub mod AllSets

@@ -2,6 +2,7 @@
 //! ensures that they are. None has a proof of its own: each file or function names one set of laws.
 #![tactic(auto)]
 
+pub mod all_sets;
 pub mod bit_by_bit;
 pub mod bit_places;
 pub mod bit_sums;
