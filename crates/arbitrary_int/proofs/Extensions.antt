@@ -1,16 +1,18 @@
--- `&`, `|`, `^` and right shifts of numbers that a narrower type has too, with its sign: they give what that type gives.
+-- `&`, `|`, `^` and right shifts of numbers that a narrower type has too, with its sign: they give what that type gives. A signed
+-- primitive's own operators give it too.
 -- For callers: `#![tactic(auto, using(arbitrary_int::proofs::Extensions::extensions))]`.
 use Rattle.std.specs.Prelude.{◌≡◌, ◌⊎◌, ℕ, ℤ, zero, suc, Bool, true, false, pos, negsuc, ◌≤◌, ◌<◌, ◌-◌, ◌/◌, ◌^◌, ◌≤ℤ◌, ◌<ℤ◌, ◌+ℤ◌, ◌*ℤ◌, FitsSigned}
-use Rattle.std.specs.Int.{Width, int_bit_and, int_bit_or, int_bit_xor, int_shr}
+use Rattle.std.specs.Int.{Width, w8, w16, w32, w64, w128, cast_unsigned, int_shr}
+use Rattle.std.specs.Int.Bits.{and_lt, bit_and, bit_or, bit_xor}
 use mir.Val.{bits as width}
 use Rattle.std.proofs.Common.{refl, sym, ap, ap₂, subst, ◌∙◌, arith, inl, inr}
 use Rattle.std.proofs.Math.Nat.{div-eq_of_lt-le}
 use Rattle.std.proofs.lemmas.Bool.Decides.{Decides-int_eq}
-use Rattle.std.proofs.lemmas.Int.{ints}
-use Rattle.std.proofs.lemmas.Nat.{pow_pos}
+use Rattle.std.proofs.lemmas.Int.{ints, of_z-to_z}
+use Rattle.std.proofs.lemmas.Nat.{or_lt, pow_pos, xor_lt}
 use Rattle.arbitrary_base.specs.Range.{InRange}
-use Rattle.arbitrary_base.specs.Operation.{bitwise_and, bitwise_or, bitwise_xor, shifted_right}
-use Rattle.arbitrary_base.proofs.modular.Residue.{wrap-of_in_range}
+use Rattle.arbitrary_base.specs.Operation.{bitwise_and, bitwise_or, bitwise_xor}
+use Rattle.arbitrary_base.proofs.modular.Residue.{residue-lt, wrap-of_in_range}
 use Rattle.arbitrary_base.proofs.modular.Truncation.{InRange-wider}
 use Rattle.arbitrary_base.proofs.bit_lists.StdBitwise.{and-left}
 use Rattle.arbitrary_base.proofs.operations.BitsAndSums.{and-in_range}
@@ -19,7 +21,7 @@ use Rattle.arbitrary_base.proofs.operations.Definition.{and-is, or-is, xor-is}
 use Rattle.arbitrary_base.proofs.operations.KnownMask.{or-by_and, xor-by_and}
 use Rattle.arbitrary_base.proofs.operations.Shift.{shifted_right-and, shifted_right-is_shr}
 use Rattle.arbitrary_base.proofs.operations.ShiftAsProduct.{int_shr-high, int_shr-low}
-use Rattle.arbitrary_base.proofs.storages.Primitive.{signed-in_range}
+use Rattle.arbitrary_base.proofs.storages.Primitive.{bits_some, cast_unsigned-residue, signed-in_range}
 use Rattle.arbitrary_base.proofs.storages.PrimitiveBits.{bitand-signed, bitor-signed, bitxor-signed}
 use Rattle.arbitrary_int.proofs.Truncations.{and-truncated}
 
@@ -86,23 +88,17 @@ module _ (s : Bool) (A B : ℕ) (x y : ℤ) (h : 1 ≤ A) (g : A ≤ B) (p : InR
       sym (sym (wrap-of_in_range s A _ h and-narrow) ∙ and-truncated s s A B x y h g
       ∙ ap₂ (bitwise_and s A) (wrap-of_in_range s A x h p) (wrap-of_in_range s A y h q))
 
+  wide-left : InRange s B x
+  wide-left = InRange-wider s A B x h g p
+
+  wide-right : InRange s B y
+  wide-right = InRange-wider s A B y h g q
+
   or-wider : bitwise_or s A x y ≡ bitwise_or s B x y
-  or-wider =
-      let i = InRange-wider s A B x h g p in
-      let j = InRange-wider s A B y h g q in
-      let a = or-by_and s A x y h p q in
-      let b = or-by_and s B x y (omega arith) i j in
-      let c = and-wider in
-      omega (arith, ints)
+  or-wider = omega (arith, ints, or-by_and s A x y h p q, or-by_and s B x y (omega arith) wide-left wide-right, and-wider)
 
   xor-wider : bitwise_xor s A x y ≡ bitwise_xor s B x y
-  xor-wider =
-      let i = InRange-wider s A B x h g p in
-      let j = InRange-wider s A B y h g q in
-      let a = xor-by_and s A x y h p q in
-      let b = xor-by_and s B x y (omega arith) i j in
-      let c = and-wider in
-      omega (arith, ints)
+  xor-wider = omega (arith, ints, xor-by_and s A x y h p q, xor-by_and s B x y (omega arith) wide-left wide-right, and-wider)
 
 -- ---- at each width what 128 bits give
 
@@ -116,16 +112,41 @@ module _ (s : Bool) (B : ℕ) (x y : ℤ) (h : 1 ≤ B) (g : B ≤ 128) (p : InR
   pub xor-at_128 : bitwise_xor s B x y ≡ bitwise_xor s 128 x y
   xor-at_128 = xor-wider s B 128 x y h g p q
 
--- ---- what std's own operators give of numbers with a sign
+-- ---- what the primitives give, whose own `==` compares their patterns
+
+most : (w : Width) → width w ≤ 128
+most w8 = omega arith
+most w16 = omega arith
+most w32 = omega arith
+most w64 = omega arith
+most w128 = omega arith
 
 module _ (w : Width) (x y : ℤ) (p : FitsSigned w x) (q : FitsSigned w y) where
-  pub primitive_and : int_bit_and w x y ≡ bitwise_and true (width w) x y
-  primitive_and = bitand-signed w x y _ refl (signed-in_range w x p) (signed-in_range w y q) ∙ sym (and-is true (width w) x y)
+  in_left : InRange true (width w) x
+  in_left = signed-in_range w x p
 
-  pub primitive_or : int_bit_or w x y ≡ bitwise_or true (width w) x y
-  primitive_or = bitor-signed w x y _ refl (signed-in_range w x p) (signed-in_range w y q) ∙ sym (or-is true (width w) x y)
+  in_right : InRange true (width w) y
+  in_right = signed-in_range w y q
 
-  pub primitive_xor : int_bit_xor w x y ≡ bitwise_xor true (width w) x y
-  primitive_xor = bitxor-signed w x y _ refl (signed-in_range w x p) (signed-in_range w y q) ∙ sym (xor-is true (width w) x y)
+  pattern-lt : (z : ℤ) → FitsSigned w z → cast_unsigned w z < 2 ^ width w
+  pattern-lt z r = subst (λ (n : ℕ). n < 2 ^ width w) (sym (cast_unsigned-residue w z r)) (residue-lt (width w) z)
+
+  pub primitive_and : bit_and (cast_unsigned w x) (cast_unsigned w y) ≡ cast_unsigned w (bitwise_and true 128 x y)
+  primitive_and =
+      sym (of_z-to_z w _ (and_lt (width w) _ _ (pattern-lt x p) (pattern-lt y q)))
+      ∙ ap (cast_unsigned w) (bitand-signed w x y _ refl in_left in_right ∙ sym (and-is true (width w) x y)
+      ∙ and-at_128 true (width w) x y (bits_some w) (most w) in_left in_right)
+
+  pub primitive_or : bit_or (cast_unsigned w x) (cast_unsigned w y) ≡ cast_unsigned w (bitwise_or true 128 x y)
+  primitive_or =
+      sym (of_z-to_z w _ (or_lt (width w) _ _ (pattern-lt x p) (pattern-lt y q)))
+      ∙ ap (cast_unsigned w) (bitor-signed w x y _ refl in_left in_right ∙ sym (or-is true (width w) x y)
+      ∙ or-at_128 true (width w) x y (bits_some w) (most w) in_left in_right)
+
+  pub primitive_xor : bit_xor (cast_unsigned w x) (cast_unsigned w y) ≡ cast_unsigned w (bitwise_xor true 128 x y)
+  primitive_xor =
+      sym (of_z-to_z w _ (xor_lt (width w) _ _ (pattern-lt x p) (pattern-lt y q)))
+      ∙ ap (cast_unsigned w) (bitxor-signed w x y _ refl in_left in_right ∙ sym (xor-is true (width w) x y)
+      ∙ xor-at_128 true (width w) x y (bits_some w) (most w) in_left in_right)
 
 pub ruleset extensions = (Decides-int_eq, and-at_128, or-at_128, xor-at_128, shifted_right-is_shr, primitive_and, primitive_or, primitive_xor)

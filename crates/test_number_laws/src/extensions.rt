@@ -1,4 +1,4 @@
-//! Laws of bits of numbers that are extended: at the wider type they are the same.
+//! Laws of bits of numbers that are extended: at the wider type, and at the storage and wider primitives, they are the same.
 #![tactic(auto, using(arbitrary_int::proofs::Extensions::extensions))]
 
 ghost use Rattle.std.specs.Prelude.{◌<◌, IsTrue};
@@ -34,4 +34,22 @@ pub fn right_shift_of_the_primitive(x: i12, k: u32) -> bool
     ensures { IsTrue result }
 {
     (x >> k).value() == x.value() >> k
+}
+
+pub fn and_of_the_primitive(x: i12, y: i12) -> bool
+    ensures { IsTrue result }
+{
+    (x & y).value() == x.value() & y.value()
+}
+
+pub fn or_of_the_storage(x: Int<i16, 16>, y: Int<i16, 16>) -> bool
+    ensures { IsTrue result }
+{
+    (x | y).value() == x.value() | y.value()
+}
+
+pub fn xor_of_a_wider_primitive(x: i24, y: i24) -> bool
+    ensures { IsTrue result }
+{
+    (x ^ y).as_i64() == x.as_i64() ^ y.as_i64()
 }
