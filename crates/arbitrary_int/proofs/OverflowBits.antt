@@ -44,10 +44,11 @@ module _ (B : ℕ) (z r : ℤ) (h : 1 ≤ B) (c : Congruent B r z) where
 
 -- ---- signs
 
--- that a number has the sign of neither of two others, and the sign of an `^`
+-- that `z` has the sign of `x ^ y`: it is negative where one of the two is and the other isn't
 abbrev Signs : ℤ → ℤ → ℤ → Type 0
 Signs x y z = (z <ℤ pos 0) ↔ (((x <ℤ pos 0) × (pos 0 ≤ℤ y)) ⊎ ((pos 0 ≤ℤ x) × (y <ℤ pos 0)))
 
+-- that `z` has the sign of `x & y`: it is negative where both are
 abbrev Both : ℤ → ℤ → ℤ → Type 0
 Both x y z = (z <ℤ pos 0) ↔ ((x <ℤ pos 0) × (y <ℤ pos 0))
 
@@ -69,6 +70,19 @@ difference-above x y r p q n f g e a b c = grind (arith, ints)
 difference-below : (x y r p q n : ℤ) → x <ℤ pos 0 → pos 0 ≤ℤ y → pos 0 ≤ℤ r → Signs x y p → Signs x r q → Both p q n → n <ℤ pos 0
 difference-below x y r p q n f g e a b c = grind (arith, ints)
 
+-- what a number `n` tells of an overflow by its sign, where `r` is the result that wraps
+told : (B : ℕ) (z r n : ℤ) → Once B z r → (r ≡ z → n <ℤ pos 0 → ⊥) → (z <ℤ lo true B → r ≡ z +ℤ pos (2 ^ B) → n <ℤ pos 0)
+    → (hi true B <ℤ z → r ≡ z -ℤ pos (2 ^ B) → n <ℤ pos 0) → (n <ℤ pos 0) ↔ ¬ (InRange true B z)
+unfolding Once
+told B z r n o kept below above =
+    elim o [
+      | inl d ↦ ((λ w. absurd (kept d.1 w)), (λ w. absurd (w d.0)))
+      | inr e ↦ elim e [
+        | inl d ↦ ((λ w t. let q = t.low in absurd (omega (arith, ints, d.0, q))), (λ w. below d.0 d.1))
+        | inr d ↦ ((λ w t. let q = t.high in absurd (omega (arith, ints, d.0, q))), (λ w. above d.0 d.1))
+      ]
+    ]
+
 module _ (B : ℕ) (x y : ℤ) (h : 1 ≤ B) (f : InRange true B x) (g : InRange true B y) where
   by-ends : (n z : ℤ) → (n <ℤ pos 0) ↔ ¬ (InRange true B z) → (n <ℤ pos 0) ↔ ((z <ℤ lo true B) ⊎ (hi true B <ℤ z))
   by-ends n z t = (
@@ -78,7 +92,6 @@ module _ (B : ℕ) (x y : ℤ) (h : 1 ≤ B) (f : InRange true B x) (g : InRange
 
   pub sum-overflow_told : (bitwise_and true B (bitwise_xor true B x (wrapped_sum true B x y)) (bitwise_xor true B y (wrapped_sum true B x y)) <ℤ pos 0)
       ↔ ¬ (InRange true B (x +ℤ y))
-  unfolding Once
   sum-overflow_told =
       let r = wrapped_sum true B x y in
       let i = sum-in_range true B x y h in
@@ -93,23 +106,14 @@ module _ (B : ℕ) (x y : ℤ) (h : 1 ≤ B) (f : InRange true B x) (g : InRange
       let n = g.high in
       let u = i.low in
       let v = i.high in
-      elim (once B (x +ℤ y) r h (sum-congruent true B x y x y (Congruent-refl B x) (Congruent-refl B y)) i (omega (arith, ints)) (omega (arith, ints))) [
-        | inl d ↦ ((λ w. absurd (sum-kept x y r _ _ _ d.1 a b c w)), (λ w. absurd (w d.0)))
-        | inr e ↦ elim e [
-          | inl d ↦ (
-            (λ w t. let q = t.low in absurd (omega (arith, ints, d.0, q))),
-            (λ w. sum-below x y r _ _ _ (omega (arith, ints, d.0)) (omega (arith, ints, d.0)) (omega (arith, ints, d.0, d.1)) a b c),
-          )
-          | inr d ↦ (
-            (λ w t. let q = t.high in absurd (omega (arith, ints, d.0, q))),
-            (λ w. sum-above x y r _ _ _ (omega (arith, ints, d.0)) (omega (arith, ints, d.0)) (omega (arith, ints, d.0, d.1)) a b c),
-          )
-        ]
-      ]
+      told B (x +ℤ y) r _
+      (once B (x +ℤ y) r h (sum-congruent true B x y x y (Congruent-refl B x) (Congruent-refl B y)) i (omega (arith, ints)) (omega (arith, ints)))
+      (λ e. sum-kept x y r _ _ _ e a b c)
+      (λ d e. sum-below x y r _ _ _ (omega (arith, ints, d)) (omega (arith, ints, d)) (omega (arith, ints, d, e)) a b c)
+      (λ d e. sum-above x y r _ _ _ (omega (arith, ints, d)) (omega (arith, ints, d)) (omega (arith, ints, d, e)) a b c)
 
   pub difference-overflow_told : (bitwise_and true B (bitwise_xor true B x y) (bitwise_xor true B x (wrapped_difference true B x y)) <ℤ pos 0)
       ↔ ¬ (InRange true B (x -ℤ y))
-  unfolding Once
   difference-overflow_told =
       let r = wrapped_difference true B x y in
       let i = difference-in_range true B x y h in
@@ -124,19 +128,11 @@ module _ (B : ℕ) (x y : ℤ) (h : 1 ≤ B) (f : InRange true B x) (g : InRange
       let n = g.high in
       let u = i.low in
       let v = i.high in
-      elim (once B (x -ℤ y) r h (difference-congruent true B x y x y (Congruent-refl B x) (Congruent-refl B y)) i (omega (arith, ints)) (omega (arith, ints))) [
-        | inl d ↦ ((λ w. absurd (difference-kept x y r _ _ _ d.1 a b c w)), (λ w. absurd (w d.0)))
-        | inr e ↦ elim e [
-          | inl d ↦ (
-            (λ w t. let q = t.low in absurd (omega (arith, ints, d.0, q))),
-            (λ w. difference-below x y r _ _ _ (omega (arith, ints, d.0)) (omega (arith, ints, d.0)) (omega (arith, ints, d.0, d.1)) a b c),
-          )
-          | inr d ↦ (
-            (λ w t. let q = t.high in absurd (omega (arith, ints, d.0, q))),
-            (λ w. difference-above x y r _ _ _ (omega (arith, ints, d.0)) (omega (arith, ints, d.0)) (omega (arith, ints, d.0, d.1)) a b c),
-          )
-        ]
-      ]
+      told B (x -ℤ y) r _
+      (once B (x -ℤ y) r h (difference-congruent true B x y x y (Congruent-refl B x) (Congruent-refl B y)) i (omega (arith, ints)) (omega (arith, ints)))
+      (λ e. difference-kept x y r _ _ _ e a b c)
+      (λ d e. difference-below x y r _ _ _ (omega (arith, ints, d)) (omega (arith, ints, d)) (omega (arith, ints, d, e)) a b c)
+      (λ d e. difference-above x y r _ _ _ (omega (arith, ints, d)) (omega (arith, ints, d)) (omega (arith, ints, d, e)) a b c)
 
   pub sum-overflow_ends : (bitwise_and true B (bitwise_xor true B x (wrapped_sum true B x y)) (bitwise_xor true B y (wrapped_sum true B x y)) <ℤ pos 0)
       ↔ (((x +ℤ y) <ℤ lo true B) ⊎ (hi true B <ℤ (x +ℤ y)))
