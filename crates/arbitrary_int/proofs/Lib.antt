@@ -8,6 +8,7 @@ pub mod RangeSteps
 pub mod ByteLaws
 pub mod Everyday
 pub mod SideBySide
+pub mod JoinedFields
 pub mod ReadBack
 pub mod MovedIn
 pub mod ReplacedField

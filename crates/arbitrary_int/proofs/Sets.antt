@@ -11,6 +11,7 @@ use Rattle.arbitrary_base.proofs.operations.RotatedNumber.{rotated_left-number, 
 use Rattle.arbitrary_base.proofs.storages.Clamp.{clamp-above, clamp-below, clamp-fits}
 use Rattle.arbitrary_int.proofs.EmptyWord.{with_field-of_nothing}
 use Rattle.arbitrary_int.proofs.Everyday.{or_three}
+use Rattle.arbitrary_int.proofs.JoinedFields.{joined-five, joined-four, joined-three}
 use Rattle.arbitrary_int.proofs.KnownNumbers.{and-of_negative, and-of_positive, and-with_negative, left-of_negative, left-of_positive, not-of_negative, not-of_positive, or-of_negative, or-of_positive, or-with_negative, reversed-of_negative, reversed-of_positive, right-of_negative, right-of_positive, rotated_left-of_negative, rotated_left-of_positive, rotated_right-of_negative, rotated_right-of_positive, signed_wrap-of_negative, signed_wrap-of_positive, wrap-of_negative, wrap-of_positive, xor-of_negative, xor-of_positive, xor-with_negative}
 use Rattle.arbitrary_int.proofs.MovedIn.{numeral_three, numeral_two, or_moved_in, or_two_moved_in}
 use Rattle.arbitrary_int.proofs.OtherBits.{gone-cleared, other_bit-cleared, other_bit-set, other_bit-turned, same_bit-set, same_bit-turned}
@@ -24,7 +25,7 @@ use Rattle.arbitrary_int.proofs.StreamBytes.{Borsh-told, bytes-compared, bytes-c
 use Rattle.arbitrary_int.proofs.TextLength.{length-of_text}
 
 -- three to six fields put together by `|`, and one read back under a mask
-pub ruleset fields = (or_three, or_four, or_five, or_six, or_three_up, and_numeral)
+pub ruleset fields = (or_three, or_four, or_five, or_six, or_three_up, joined-three, joined-four, joined-five, and_numeral)
 
 -- three fields put together by `|`, and a test that one of them is read back, all in one function
 pub ruleset read_back = (Decides-eqb, Decides-int_eq, middle_of_three, low_of_three, or_three, and_numeral)

@@ -134,6 +134,16 @@ pub fn four_in_their_own_type(a: u3, b: u6, c: u6, d: u6) -> u21
     (u21::from_(a) << 18) | (u21::from_(b) << 12) | (u21::from_(c) << 6) | u21::from_(d)
 }
 
+pub fn five_in_their_own_type(a: u7, b: u5, c: u5, d: u3, e: u12) -> u48
+    ensures { result ≡ pos 33554432 *ℤ a +ℤ pos 1048576 *ℤ b +ℤ pos 32768 *ℤ c +ℤ pos 4096 *ℤ d +ℤ e }
+{
+    (u48::from_(a) << 25)
+        | (u48::from_(b) << 20)
+        | (u48::from_(c) << 15)
+        | (u48::from_(d) << 12)
+        | u48::from_(e)
+}
+
 pub fn read_back_under_a_mask(response: bool, operation: u4, code: u4) -> u4
     ensures { result ≡ operation }
 {
