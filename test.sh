@@ -7,12 +7,13 @@ set -euo pipefail
 unset CDPATH
 cd -- "$(dirname -- "$0")"
 python3 tools/short_names.py
-# the pages: their links, pictures, index of public items and words
+# the pages: their links, pictures, index of public items, words and sets of laws
 python3 tools/links.py
 python3 tools/charts.py
 python3 tools/api_index.py
 python3 tools/glossary.py
 python3 tools/document_examples.py
+python3 tools/find_set.py --listed
 python3 tools/believed.py
 python3 tools/believed_apart.py
 python3 tools/bitrun_cases.py

@@ -1,9 +1,12 @@
 #!/usr/bin/env python3
 """find_set.py CRATE FUNCTION ..
+find_set.py --listed
 
 Tries each set of laws of docs/PROVING.md on these functions of a crate, and prints the line to put on each: the sets with which the check
 proves it. A function is named as the check names it, without the crate: `module::function`, or `Type::call`. The crate stays as it is: the
 check takes a copy, in which the function stands once for each set. What is below the crate has to be proved (`rt check` in the crate).
+
+`--listed` tells whether the set of all sets, in AllSets.antt, has each that the page names.
 """
 import os
 import re
@@ -17,6 +20,8 @@ from program import ROOT
 from wrong_bodies import PARTS, command, libraries
 
 PAGE = ROOT / 'docs/PROVING.md'
+ALL = 'AllSets::all_sets'
+ALL_FILE = ROOT / 'crates/arbitrary_int/proofs/AllSets.antt'
 # Where a row of a table has two sets, `;` is between them. The head of a table says which module its sets are of.
 HEAD = re.compile(r'\| .* \| The set(?: of `(\w+)`)? \|')
 NAME = re.compile(r'`((?:\w+::)?\w+)`')
@@ -37,6 +42,12 @@ def sets():
             found += [module + it for it in NAME.findall(line.split('|')[-2])]
         found += NAMED.findall(line)
     return list(dict.fromkeys(found))
+
+
+def unlisted():
+    """The sets that the page names and the set of all sets has not."""
+    listed = set(re.search(r'ruleset all_sets = \((.*)\)', ALL_FILE.read_text())[1].split(', '))
+    return [it for it in sets() if it != ALL and it.split('::')[-1] not in listed]
 
 
 def text_of(folder, function):
@@ -73,6 +84,10 @@ def tried(folder, function, names):
 
 
 def main():
+    if sys.argv[1:] == ['--listed']:
+        missing = unlisted()
+        print('\n'.join(f'{it}: not in {ALL_FILE.name}' for it in missing) or f'{ALL_FILE.name}: {len(sets()) - 1} sets')
+        return 1 if missing else 0
     if len(sys.argv) < 3:
         sys.exit(__doc__)
     crate, functions = sys.argv[1], sys.argv[2:]

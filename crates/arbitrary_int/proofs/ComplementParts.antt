@@ -1,6 +1,6 @@
 -- The complement of `^` and of `|` beside sums and differences; `&` and `& !` by a difference from `|`; and `^` by carries.
 -- For callers: `#![tactic(auto, using(arbitrary_int::proofs::ComplementParts::complement_parts))]`.
-use Rattle.std.specs.Prelude.{◌≡◌, ℕ, ℤ, Bool, pos, negsuc, ◌≤◌, ◌+ℤ◌, ◌-ℤ◌}
+use Rattle.std.specs.Prelude.{◌≡◌, ℕ, ℤ, Bool, pos, negsuc, ◌≤◌, ◌-ℤ◌}
 use Rattle.std.proofs.Common.{sym, subst, arith}
 use Rattle.std.proofs.lemmas.Bool.Decides.{Decides-int_eq}
 use Rattle.std.proofs.lemmas.Int.{ints}

@@ -1,6 +1,6 @@
 -- A number shifted by its own count of zeros: an odd number is left, and shifted back it is the number again.
 -- For callers: `#![tactic(auto, using(arbitrary_int::proofs::NormalShifts::normal_shifts))]`.
-use Rattle.std.specs.Prelude.{◌≡◌, ◌≢◌, ℕ, ℤ, zero, suc, Bool, true, false, List, [], ◌∷◌, ◌++◌, drop, length, replicate, take, pos, unsigned_abs, ◌≤◌, ◌+◌, ◌-◌, ◌%◌}
+use Rattle.std.specs.Prelude.{◌≡◌, ◌≢◌, ℕ, ℤ, zero, suc, Bool, true, false, List, [], ◌∷◌, ◌++◌, drop, length, replicate, take, pos, unsigned_abs, ◌≤◌, ◌-◌, ◌%◌}
 use Rattle.std.specs.Bool.{beq}
 use Rattle.std.specs.List.{count_by, prefix_len}
 use Rattle.std.proofs.Common.{refl, sym, ap, ◌∙◌, arith, length-drop}
