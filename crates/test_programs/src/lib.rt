@@ -1,0 +1,25 @@
+//! What programs are made of, each part in one function: words of fields, headers, sensors, lists and machines. None has a proof of its own:
+//! the contracts of the calls carry them, with one set of laws at most.
+#![tactic(auto)]
+
+pub mod bytes;
+pub mod cleared_fields;
+pub mod fields;
+pub mod flags;
+pub mod headers;
+pub mod indices;
+pub mod lists;
+pub mod machine;
+pub mod moved_in;
+pub mod packing;
+pub mod primitive_bits;
+pub mod read_back;
+pub mod readers;
+pub mod records;
+pub mod replaced_fields;
+pub mod sensors;
+pub mod side_by_side;
+pub mod steps;
+pub mod streams;
+pub mod structs;
+pub mod texts;
