@@ -20,7 +20,7 @@ from program import ROOT
 from wrong_bodies import PARTS, command, libraries
 
 PAGE = ROOT / 'docs/PROVING.md'
-ALL = 'AllSets::all_sets'
+ALL = 'AllSets::'
 ALL_FILE = ROOT / 'crates/arbitrary_int/proofs/AllSets.antt'
 # Where a row of a table has two sets, `;` is between them. The head of a table says which module its sets are of.
 HEAD = re.compile(r'\| .* \| The set(?: of `(\w+)`)? \|')
@@ -47,7 +47,7 @@ def sets():
 def unlisted():
     """The sets that the page names and the set of all sets has not."""
     listed = set(re.search(r'ruleset all_sets = \((.*)\)', ALL_FILE.read_text())[1].split(', '))
-    return [it for it in sets() if it != ALL and it.split('::')[-1] not in listed]
+    return [it for it in sets() if not it.startswith(ALL) and it.split('::')[-1] not in listed]
 
 
 def text_of(folder, function):
@@ -86,7 +86,7 @@ def tried(folder, function, names):
 def main():
     if sys.argv[1:] == ['--listed']:
         missing = unlisted()
-        print('\n'.join(f'{it}: not in {ALL_FILE.name}' for it in missing) or f'{ALL_FILE.name}: {len(sets()) - 1} sets')
+        print('\n'.join(f'{it}: not in {ALL_FILE.name}' for it in missing) or f'{ALL_FILE.name}: as it should be')
         return 1 if missing else 0
     if len(sys.argv) < 3:
         sys.exit(__doc__)

@@ -19,7 +19,7 @@ use Rattle.arbitrary_int.proofs.PrimitiveBit.{bit_cleared, bit_cleared-other, bi
 use Rattle.arbitrary_int.proofs.RangeNumbers.{last_of-joined, numbers-count, numbers-end, numbers-head}
 use Rattle.arbitrary_int.proofs.ReadBack.{low_of_three, middle_of_three}
 use Rattle.arbitrary_int.proofs.ReplacedField.{and_around, or-into_cleared, or_below_mask, or_into_hole}
-use Rattle.arbitrary_int.proofs.SideBySide.{numeral_next, or_five, or_four, or_next, or_six, or_three_up}
+use Rattle.arbitrary_int.proofs.SideBySide.{below_numeral, numeral_next, or_five, or_four, or_next, or_six, or_three_up}
 use Rattle.arbitrary_int.proofs.StepWords.{difference-step, product-step, sum-step}
 use Rattle.arbitrary_int.proofs.StreamBytes.{Borsh-told, bytes-compared, bytes-converted, first-of_Borsh, first-of_Borsh_signed, number-of_Borsh, number-of_Borsh_signed}
 use Rattle.arbitrary_int.proofs.TextLength.{length-of_text}
@@ -31,7 +31,7 @@ pub ruleset fields = (or_three, or_four, or_five, or_six, or_three_up, joined-th
 pub ruleset read_back = (Decides-eqb, Decides-int_eq, middle_of_three, low_of_three, or_three, and_numeral)
 
 -- numbers of a primitive put together by `|`, as many as there are, also masked ones and one that is written out
-pub ruleset joined_numbers = (or_next, numeral_next, or_after_shift, or_before_shift, numeral_or, and_numeral)
+pub ruleset joined_numbers = (or_next, numeral_next, below_numeral, or_after_shift, or_before_shift, numeral_or, and_numeral)
 
 -- two fields below the lowest one of a number that is written out, and three: both laws at once are too much for the search
 pub ruleset two_marked = (numeral_two, and_numeral)

@@ -27,6 +27,13 @@ or_next a y d v b p e g h =
 pub numeral_next : (m y d v b : ℕ) → d ≡ 2 ^ low_zeros 128 d → suc m % d ≡ 0 → b < d → y * d < v → bit_or (bit_or (suc m) (y * d % v)) b ≡ bit_or (suc m) (y * d % v) + b
 numeral_next m = or_next (suc m)
 
+-- one more field below a number that is written out and has been joined to what stands above it
+pub below_numeral : (a m b : ℕ) → a % 2 ^ low_zeros 128 (suc m) ≡ 0 → suc m % 2 ^ low_zeros 128 (suc m) ≡ 0 → b < 2 ^ low_zeros 128 (suc m)
+    → bit_or (bit_or a (suc m)) b ≡ bit_or a (suc m) + b
+below_numeral a m b e f g =
+    let k = low_zeros 128 (suc m) in
+    beside (bit_or a (suc m)) k b (or_mod a (suc m) k ∙ rw (e, f) refl) g
+
 regroup : (x m d y : ℕ) → x * (m * d) + y * d ≡ (x * m + y) * d
 regroup x m d y = grind arith
 

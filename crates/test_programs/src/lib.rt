@@ -23,3 +23,4 @@ pub mod steps;
 pub mod streams;
 pub mod structs;
 pub mod texts;
+pub mod words;
