@@ -1,7 +1,8 @@
--- How a quotient stands to its dividend, its divisor and other quotients, and to a product that is divided again. It is rounded toward zero.
+-- How a quotient stands to its dividend, its divisor and other quotients, and to a product that is divided again, as a scaled number is.
+-- It is rounded toward zero.
 -- For callers: `#![tactic(auto, using(arbitrary_int::proofs::QuotientOrder::quotient_order))]`.
-use Rattle.std.specs.Prelude.{◌≡◌, ℕ, ℤ, zero, suc, pos, negsuc, int_div, ◌≤◌, ◌<◌, ◌*◌, ◌/◌, ◌≤ℤ◌, ◌<ℤ◌}
-use Rattle.std.proofs.Common.{refl, arith, div-le_self, le_trans, mul-le-mul}
+use Rattle.std.specs.Prelude.{◌≡◌, ℕ, ℤ, zero, suc, pos, negsuc, int_div, ◌≤◌, ◌<◌, ◌*◌, ◌/◌, ◌≤ℤ◌, ◌<ℤ◌, ◌*ℤ◌}
+use Rattle.std.proofs.Common.{refl, ap, arith, div-le_self, le_trans, mul-le-mul}
 use Rattle.std.proofs.Math.Nat.{div-div-eq-div-mul, div-eq_of_lt, div-mul-le_self, le-div_iff_mul-le, le_refl, mul-div_cancel}
 use Rattle.std.proofs.lemmas.Int.{ints}
 
@@ -24,6 +25,16 @@ quotient-of_product a b h = mul-div_cancel a h
 
 pub quotient-of_quotient : (a b c : ℕ) → a / b / c ≡ a / (b * c)
 quotient-of_quotient a b c = div-div-eq-div-mul a b c
+
+-- a number of which so many parts are taken, out of at least as many
+pub quotient-of_parts : (a b c : ℕ) → 0 < c → (a * b / c ≡ a * b / c) × (a ≤ c → a * b / c ≤ b) × (b ≤ c → a * b / c ≤ a)
+quotient-of_parts a b c g = (refl, parts a b, λ h. let t : a * b ≡ b * a = grind arith in omega (arith, ap (λ (n : ℕ). n / c) t, parts b a h))
+  where
+    parts : (a b : ℕ) → a ≤ c → a * b / c ≤ b
+    parts a b h =
+        let w : a * b ≤ c * b = mul-le-mul h (le_refl b) in
+        let t : c * b ≡ b * c = grind arith in
+        omega (arith, quotient-orders (a * b) (b * c) c (omega arith), mul-div_cancel b g)
 
 -- ---- of numbers with a sign
 
@@ -57,4 +68,16 @@ signed_quotient-by_more (pos a) (negsuc b) z h g l = absurd (omega (arith, ints)
 signed_quotient-by_more (pos a) (pos b) (negsuc c) h g l = absurd (omega (arith, ints))
 signed_quotient-by_more (pos a) (pos b) (pos c) h g l = let d = quotient-by_more a b c (omega (arith, ints)) (omega (arith, ints)) in omega (arith, ints)
 
+pub signed_quotient-of_parts : (x y z : ℤ) → pos 0 ≤ℤ x → pos 0 ≤ℤ y → pos 0 <ℤ z
+    → (int_div (x *ℤ y) z ≡ int_div (x *ℤ y) z) × (x ≤ℤ z → int_div (x *ℤ y) z ≤ℤ y) × (y ≤ℤ z → int_div (x *ℤ y) z ≤ℤ x)
+signed_quotient-of_parts (negsuc a) y z f g h = absurd (omega (arith, ints))
+signed_quotient-of_parts (pos a) (negsuc b) z f g h = absurd (omega (arith, ints))
+signed_quotient-of_parts (pos a) (pos b) (negsuc c) f g h = absurd (omega (arith, ints))
+signed_quotient-of_parts (pos a) (pos b) (pos c) f g h =
+    let s = quotient-of_parts a b c (omega (arith, ints)) in
+    (refl, λ l. let d = s.1 (omega (arith, ints)) in omega (arith, ints), λ l. let d = s.2 (omega (arith, ints)) in omega (arith, ints))
+
 pub ruleset quotient_order = (quotient-beside, quotient-orders, quotient-of_product, quotient-of_quotient, signed_quotient-beside, signed_quotient-below, signed_quotient-orders, signed_quotient-by_more)
+
+-- a number that is multiplied and divided by no less, as in percent
+pub ruleset scaled_numbers = (quotient-of_parts, signed_quotient-of_parts)

@@ -1,15 +1,16 @@
 -- A field that is written where a mask has cleared one, as `(word & !0xF0) | (field << 4)`. The other bits stay.
 use Rattle.std.specs.Prelude.{◌≡◌, ℕ, ℤ, suc, false, pos, unsigned_abs, ◌≤◌, ◌<◌, ◌+◌, ◌-◌, ◌*◌, ◌/◌, ◌%◌, ◌^◌, ◌≤ℤ◌, ◌+ℤ◌}
 use Rattle.std.specs.Int.Bits.{bit_and, bit_or}
-use Rattle.std.proofs.Common.{sym, ap, ◌∙◌, arith, div-add-mod', lt_of_le_of_lt, mod-eq_of_lt, pow-add}
+use Rattle.std.proofs.Common.{sym, ap, ap₂, ◌∙◌, arith, div-add-mod', lt_of_le_of_lt, mod-eq_of_lt, pow-add}
 use Rattle.std.proofs.lemmas.Int.{ints}
 use Rattle.std.proofs.lemmas.Grind.{bit_length, low_zeros}
 use Rattle.std.proofs.lemmas.Nat.{and_assoc, and_block, and_comm, and_le_r, and_mod, and-not, or_disjoint, pow_pos}
 use Rattle.std.proofs.lemmas.Nat.Bits.{and_high}
 use Rattle.arbitrary_base.specs.Range.{InRange, hi}
 use Rattle.arbitrary_base.specs.Operation.{bitwise_and, bitwise_not, bitwise_or}
-use Rattle.arbitrary_base.proofs.operations.Bitwise.{bitwise_and-associates, bitwise_and-commutes, bitwise_and-zero}
+use Rattle.arbitrary_base.proofs.operations.Bitwise.{and-distributes_or, bitwise_and-associates, bitwise_and-commutes, bitwise_and-complement, bitwise_and-same, bitwise_and-zero, bitwise_or-commutes, bitwise_or-zero}
 use Rattle.arbitrary_base.proofs.operations.BitsAndSums.{and-in_range}
+use Rattle.arbitrary_base.proofs.operations.Definition.{not-in_range}
 use Rattle.arbitrary_base.proofs.operations.KnownMask.{and-digits, and-of_cleared, or-by_and}
 use Rattle.arbitrary_int.proofs.SideBySide.{beside}
 
@@ -81,19 +82,49 @@ run N k t l e g =
     below : (a b c : ℕ) → a * c < b * c → a < b
     below a b c h = grind arith
 
+-- a number whose ones all stand under the mask n, which has its ones side by side
+module _ (B n : ℕ) (z : ℤ) (h : 1 ≤ B) (g : InRange false B z) (m : pos n ≤ℤ hi false B) (l : low_zeros 128 n ≤ bit_length 128 n)
+    (e : n + 2 ^ low_zeros 128 n ≡ 2 ^ bit_length 128 n) (i : unsigned_abs z % 2 ^ low_zeros 128 n ≡ 0) (j : unsigned_abs z < 2 ^ bit_length 128 n) where
+  inside : bitwise_and false B z (pos n) ≡ z
+  inside = and-digits B n z h g m l e ∙ ap pos (run (unsigned_abs z) (low_zeros 128 n) (bit_length 128 n) l i j) ∙ natural z g.low
+    where
+      natural : (y : ℤ) → pos 0 ≤ℤ y → pos (unsigned_abs y) ≡ y
+      natural y q = omega (arith, ints)
+
+  -- such a number is written where the mask has cleared x
+  module _ (x : ℤ) where
+    abbrev cleared : ℤ
+    cleared = bitwise_and false B x (bitwise_not false B (pos n))
+
+    under : bitwise_and false B (pos n) cleared ≡ pos 0
+    under = bitwise_and-commutes false B (pos n) cleared ∙ and-of_cleared false B x (pos n) h
+
+    -- what stands under the mask then, and outside it
+    pub written-inside : bitwise_and false B (bitwise_or false B cleared z) (pos n) ≡ z
+    written-inside =
+        bitwise_and-commutes false B _ (pos n) ∙ and-distributes_or false B (pos n) cleared z
+        ∙ ap₂ (bitwise_or false B) under (bitwise_and-commutes false B (pos n) z ∙ inside) ∙ bitwise_or-commutes false B (pos 0) z ∙ bitwise_or-zero false B z h g
+
+    pub written-outside : bitwise_and false B (bitwise_or false B cleared z) (bitwise_not false B (pos n)) ≡ cleared
+    written-outside =
+        let mask = bitwise_not false B (pos n) in
+        let none : bitwise_and false B mask z ≡ pos 0 =
+        bitwise_and-commutes false B mask z ∙ ap (λ (y : ℤ). bitwise_and false B y mask) (sym inside) ∙ bitwise_and-associates false B z (pos n) mask
+        ∙ ap (bitwise_and false B z) (bitwise_and-complement false B (pos n) h) ∙ bitwise_and-zero false B z h in
+        let same : bitwise_and false B mask cleared ≡ cleared =
+        bitwise_and-commutes false B mask cleared ∙ bitwise_and-associates false B x mask mask
+        ∙ ap (bitwise_and false B x) (bitwise_and-same false B mask h (not-in_range false B (pos n) h)) in
+        bitwise_and-commutes false B _ mask ∙ and-distributes_or false B mask cleared z ∙ ap₂ (bitwise_or false B) same none
+        ∙ bitwise_or-zero false B cleared h (and-in_range false B x mask h)
+
 pub or-into_cleared : (B n : ℕ) (x z : ℤ) → 1 ≤ B → InRange false B x → InRange false B z → pos n ≤ℤ hi false B
     → low_zeros 128 n ≤ bit_length 128 n → n + 2 ^ low_zeros 128 n ≡ 2 ^ bit_length 128 n → unsigned_abs z % 2 ^ low_zeros 128 n ≡ 0 → unsigned_abs z < 2 ^ bit_length 128 n
     → bitwise_or false B (bitwise_and false B x (bitwise_not false B (pos n))) z ≡ bitwise_and false B x (bitwise_not false B (pos n)) +ℤ z
 or-into_cleared B n x z h f g m l e i j =
     let c = bitwise_and false B x (bitwise_not false B (pos n)) in
-    let p = g.low in
-    let inside : bitwise_and false B (pos n) z ≡ z =
-    bitwise_and-commutes false B (pos n) z ∙ and-digits B n z h g m l e ∙ ap pos (run (unsigned_abs z) (low_zeros 128 n) (bit_length 128 n) l i j) ∙ natural z p in
     let none : bitwise_and false B c z ≡ pos 0 =
-    ap (bitwise_and false B c) (sym inside) ∙ sym (bitwise_and-associates false B c (pos n) z) ∙ ap (λ (y : ℤ). bitwise_and false B y z) (and-of_cleared false B x (pos n) h)
+    ap (bitwise_and false B c) (sym (inside B n z h g m l e i j) ∙ bitwise_and-commutes false B z (pos n)) ∙ sym (bitwise_and-associates false B c (pos n) z)
+    ∙ ap (λ (y : ℤ). bitwise_and false B y z) (and-of_cleared false B x (pos n) h)
     ∙ bitwise_and-commutes false B (pos 0) z ∙ bitwise_and-zero false B z h in
     let s = or-by_and false B c z h (and-in_range false B x (bitwise_not false B (pos n)) h) g in
     omega (arith, ints)
-  where
-    natural : (y : ℤ) → pos 0 ≤ℤ y → pos (unsigned_abs y) ≡ y
-    natural y q = omega (arith, ints)

@@ -18,7 +18,7 @@ use Rattle.arbitrary_int.proofs.OtherBits.{gone-cleared, other_bit-cleared, othe
 use Rattle.arbitrary_int.proofs.PrimitiveBit.{bit_cleared, bit_cleared-other, bit_set, bit_set-other, bit_tested, bit_turned, bit_turned-other, set_then_cleared}
 use Rattle.arbitrary_int.proofs.RangeNumbers.{last_of-joined, numbers-count, numbers-end, numbers-head}
 use Rattle.arbitrary_int.proofs.ReadBack.{low_of_three, middle_of_three}
-use Rattle.arbitrary_int.proofs.ReplacedField.{and_around, or-into_cleared, or_below_mask, or_into_hole}
+use Rattle.arbitrary_int.proofs.ReplacedField.{and_around, or-into_cleared, or_below_mask, or_into_hole, written-inside, written-outside}
 use Rattle.arbitrary_int.proofs.SideBySide.{below_numeral, numeral_next, or_five, or_four, or_next, or_six, or_three_up}
 use Rattle.arbitrary_int.proofs.StepWords.{difference-step, product-step, sum-step}
 use Rattle.arbitrary_int.proofs.StreamBytes.{Borsh-told, bytes-compared, bytes-converted, first-of_Borsh, first-of_Borsh_signed, number-of_Borsh, number-of_Borsh_signed}
@@ -46,6 +46,9 @@ pub ruleset replaced_fields = (or_into_hole, or_below_mask, and_around, and_high
 
 -- the same in a number of these types, under the complement of a mask
 pub ruleset cleared_fields = (Decides-int_eq, or-into_cleared, and-by_complement, and-digits)
+
+-- what stands there under the mask afterwards, and outside it
+pub ruleset written_fields = (Decides-int_eq, written-inside, written-outside)
 
 -- a bit by its place that is set, cleared or turned over, and the others, which stay
 pub ruleset other_bits = (Decides-int_eq, same_bit-set, other_bit-set, gone-cleared, other_bit-cleared, same_bit-turned, other_bit-turned)

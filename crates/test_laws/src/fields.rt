@@ -26,6 +26,30 @@ pub fn written_below(register: u12, field: u4) -> u12
     (register & !u12::new(15)) | u12::from_(field)
 }
 
+#[tactic(auto, using(arbitrary_int::proofs::Sets::written_fields))]
+pub fn written_is_under_the_mask(register: u24, mode: u2) -> bool
+    ensures { IsTrue result }
+{
+    let written = (register & !u24::new(0x30)) | (u24::from_(mode) << 4);
+    written & u24::new(0x30) == u24::from_(mode) << 4
+}
+
+#[tactic(auto, using(arbitrary_int::proofs::Sets::written_fields))]
+pub fn others_are_outside_the_mask(register: u24, mode: u2) -> bool
+    ensures { IsTrue result }
+{
+    let written = (register & !u24::new(0x30)) | (u24::from_(mode) << 4);
+    written & !u24::new(0x30) == register & !u24::new(0x30)
+}
+
+#[tactic(auto, using(arbitrary_int::proofs::Sets::written_fields))]
+pub fn lowest_is_under_the_mask(register: u48, level: u7) -> bool
+    ensures { IsTrue result }
+{
+    let written = (register & !u48::new(127)) | u48::from_(level);
+    written & u48::new(127) == u48::from_(level)
+}
+
 #[tactic(auto, using(arbitrary_int::proofs::Sets::other_bits))]
 pub fn other_bits_stay(map: u24, place: u5) -> u24
     requires { place <ℤ pos 24 }

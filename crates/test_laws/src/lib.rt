@@ -3,6 +3,7 @@
 #![tactic(auto)]
 
 pub mod all_sets;
+pub mod at_most_sums;
 pub mod bit_by_bit;
 pub mod bit_places;
 pub mod bit_sums;

@@ -1,0 +1,24 @@
+//! Laws of `|` and `^` beside the sum, which is no less.
+#![tactic(auto, using(arbitrary_int::proofs::BitSums::at_most_sums))]
+
+ghost use Rattle.std.specs.Prelude.{◌+ℤ◌, ◌≤ℤ◌, pos};
+
+use arbitrary_int::prelude::*;
+
+pub fn or_is_at_most_the_sum(x: u24, y: u24) -> u24
+    ensures { result ≤ℤ (x +ℤ y) }
+{
+    x | y
+}
+
+pub fn xor_is_at_most_the_sum(x: u48, y: u48) -> u48
+    ensures { result ≤ℤ (x +ℤ y) }
+{
+    x ^ y
+}
+
+pub fn flag_adds_at_most_itself(control: u24) -> u24
+    ensures { result ≤ℤ (control +ℤ pos 8) }
+{
+    control | (u24::new(1) << 3)
+}
