@@ -1,6 +1,6 @@
--- For callers: every set of laws that docs/PROVING.md names, as one. A file of several kinds of laws names it once:
--- `#![tactic(auto, using(arbitrary_int::proofs::AllSets::all_sets))]`. The search takes more time by it, and some laws prove by their own set
--- alone, which a function may name beside a file that names this.
+-- For callers: every set of laws that docs/PROVING.md names, as one, but for `moved_bits`, whose cases would fill the search. A file of
+-- several kinds of laws names it once: `#![tactic(auto, using(arbitrary_int::proofs::AllSets::all_sets))]`. The search takes more time by
+-- it, and some laws prove by their own set alone, which a function may name beside a file that names this.
 use Rattle.arbitrary_int.proofs.Sets.{byte_orders, cleared_fields, empty_word, fields, joined_numbers, known_numbers, moved_in, other_bits, primitive_bits, ranges, read_back, replaced_fields, rotated_numbers, steps, streams, texts, three_marked, two_marked, written_fields}
 use Rattle.arbitrary_int.proofs.BitVector.{bit_by_bit, bit_tests, bits, cancellations, carries, complements, counts, distribution, exact, flags, folds, known_counts, known_masks, mask_tests, masks, mixed, multiples, negations, offsets, order, products, quotients, reversals, ring, rotations, shifted_xors, shifts, signed_order, single_bits, written_masks}
 use Rattle.arbitrary_int.proofs.BitPlaces.{bit_places}

@@ -1,11 +1,13 @@
 -- Numbers of one type compared at one place: two numbers are equal where they have the same bit at the place at which they differ first, and a
 -- bit of a result of `&`, `|`, `^` or `!` is the same of the operands' bits. So each law of these operations closes by cases of single bits.
-use Rattle.std.specs.Prelude.{◌≡◌, ◌≤◌, ◌<◌, ◌⊎◌, ◌%◌, ◌-ℤ◌, ◌^◌, ℕ, ℤ, Bool, zero, suc, true, false, not, ◌&&◌, ◌||◌, pos, negsuc, List, [], ◌∷◌, get_or, length, replicate}
+-- MovedBits.antt has the bits of what shifts, rotations and conversions give.
+use Rattle.std.specs.Prelude.{◌≡◌, ◌≤◌, ◌<◌, ◌⊎◌, ◌+◌, ◌-◌, ◌%◌, ◌^◌, ◌-ℤ◌, ℕ, ℤ, Bool, zero, suc, true, false, not, ◌&&◌, ◌||◌, pos, negsuc, List, [], ◌∷◌, get_or, length}
 use Rattle.std.specs.Bool.{beq}
+use Rattle.std.specs.Int.{int_div_euclid}
 use Rattle.std.specs.Ordering.{int_eq}
 use Rattle.std.proofs.Common.{refl, sym, ap, ◌∙◌, arith, inl, inr, true≢false, mod-eq_of_lt, mod-lt}
-use Rattle.std.proofs.lemmas.List.{get_or-map, get_or-replicate}
 use Rattle.std.proofs.lemmas.Bool.Decides.{Decides-int_eq, same_from_decides}
+use Rattle.std.proofs.lemmas.List.{get_or-map, get_or-replicate}
 use Rattle.arbitrary_base.specs.Range.{InRange}
 use Rattle.arbitrary_base.specs.BitList.{bits, val}
 use Rattle.arbitrary_base.specs.Operation.{bitwise_and, bitwise_not, bitwise_or, bitwise_xor}
@@ -14,7 +16,18 @@ use Rattle.arbitrary_base.proofs.bit_lists.Pointwise.{pointwise}
 use Rattle.arbitrary_base.proofs.operations.BitsAndSums.{and-in_range, or-in_range, xor-in_range}
 use Rattle.arbitrary_base.proofs.operations.Definition.{bits-and, bits-highest, bits-minus_one, bits-not, bits-or, bits-xor, bits-zero, not-in_range, of-bits}
 
--- ---- the place at which two numbers differ first, or the lowest. Its type is shut, so that the search leaves a place whole
+-- ---- the bit of a number at a place, of however many bits
+
+abbrev pub at : ℤ → ℕ → Bool
+at x i = get_or (bits (suc i) x) i false
+
+pub width-free : (B i : ℕ) (x : ℤ) → i < B → get_or (bits B x) i false ≡ get_or (bits (suc i) x) i false
+unfolding bits
+width-free zero i x h = absurd (omega arith)
+width-free (suc B) zero x h = refl
+width-free (suc B) (suc i) x h = width-free B i (int_div_euclid x (pos 2)) (omega arith)
+
+-- ---- the place at which two numbers differ first. Its type is shut, so that the search leaves a place whole
 
 first : List Bool → List Bool → ℕ
 first [] m = 0
@@ -45,12 +58,31 @@ Spot = ℕ
 
 pub spot : ℕ → ℤ → ℤ → Spot
 unfolding Spot
-spot B x y = first (bits B x) (bits B y)
+spot B x y = first (bits B x) (bits B y) % B
 
--- the bit of x at a place, which is taken round the width
-pub bit : ℕ → ℤ → Spot → Bool
+pub lowest : Spot
 unfolding Spot
-bit B x p = get_or (bits B x) (p % B) false
+lowest = 0
+
+-- the number of a place
+pub index : Spot → ℕ
+unfolding Spot
+index p = p
+
+pub index-lowest : index lowest ≡ 0
+unfolding Spot lowest index
+index-lowest = refl
+
+-- the bit of x that is u places above a place, and then v below
+pub bit : ℤ → Spot → ℕ → ℕ → Bool
+bit x p u v = at x (index p + u - v)
+
+pub bit-is : (x : ℤ) (p : Spot) (u v : ℕ) → bit x p u v ≡ at x (index p + u - v)
+unfolding bit
+bit-is x p u v = refl
+
+pub bit-listed : (B : ℕ) (x : ℤ) (p : Spot) (u v i : ℕ) → index p + u - v ≡ i → i < B → bit x p u v ≡ get_or (bits B x) i false
+bit-listed B x p u v i e h = bit-is x p u v ∙ ap (at x) e ∙ sym (width-free B i x h)
 
 beq-same : (b : Bool) → beq b b ≡ true
 beq-same true = refl
@@ -60,51 +92,59 @@ beq-other : (a b : Bool) → a ≡ not b → beq a b ≡ false
 beq-other a true e = ap (λ (c : Bool). beq c true) e
 beq-other a false e = ap (λ (c : Bool). beq c false) e
 
-beq-tells : (a b : Bool) → beq a b ≡ true → a ≡ b
-beq-tells true true e = refl
-beq-tells true false e = absurd (true≢false (sym e))
-beq-tells false true e = absurd (true≢false (sym e))
-beq-tells false false e = refl
+abbrev pub Compared : ℕ → ℤ → ℤ → Type 0
+Compared B x y = (int_eq x y ≡ beq (bit x (spot B x y) 0 0) (bit y (spot B x y) 0 0)) × (index (spot B x y) < B)
 
 module _ (s : Bool) (B : ℕ) (x y : ℤ) (some : 1 ≤ B) (f : InRange s B x) (g : InRange s B y) where
-  apart : beq (bit B x (spot B x y)) (bit B y (spot B x y)) ≡ true → x ≡ y
-  unfolding Spot spot bit
+  at-spot : (z : ℤ) → bit z (spot B x y) 0 0 ≡ get_or (bits B z) (first (bits B x) (bits B y) % B) false
+  unfolding Spot spot index
+  at-spot z =
+      let m = mod-lt (first (bits B x) (bits B y)) some in
+      bit-listed B z (spot B x y) 0 0 (first (bits B x) (bits B y) % B) (omega arith) m
+
+  apart : beq (bit x (spot B x y) 0 0) (bit y (spot B x y) 0 0) ≡ true → x ≡ y
   apart t = elim (equal-or_apart (bits B x) (bits B y) (length-bits B x ∙ sym (length-bits B y))) [
     | inl e ↦ of-bits s B x some f ∙ ap (val s) e ∙ sym (of-bits s B y some g)
     | inr w ↦
         let k = first (bits B x) (bits B y) in
         let r : k % B ≡ k = mod-eq_of_lt (omega (arith, w.0, length-bits B x)) in
-        absurd (true≢false (sym t ∙ ap (λ (i : ℕ). beq (get_or (bits B x) i false) (get_or (bits B y) i false)) r ∙ beq-other _ _ w.1))
+        let a : bit x (spot B x y) 0 0 ≡ get_or (bits B x) k false = at-spot x ∙ ap (λ (i : ℕ). get_or (bits B x) i false) r in
+        let b : bit y (spot B x y) 0 0 ≡ get_or (bits B y) k false = at-spot y ∙ ap (λ (i : ℕ). get_or (bits B y) i false) r in
+        absurd (true≢false (sym t ∙ beq-other _ _ (a ∙ w.1 ∙ ap not (sym b))))
   ]
 
-  same : int_eq x y ≡ beq (bit B x (spot B x y)) (bit B y (spot B x y))
-  same = sym (same_from_decides _ _ (apart, λ (e : x ≡ y). ap (λ (z : ℤ). beq (bit B x (spot B x y)) (bit B z (spot B x y))) (sym e) ∙ beq-same _) (Decides-int_eq x y))
+  pub same : Compared B x y
+  unfolding Spot spot index
+  same = (
+    sym (same_from_decides _ _ (apart, λ (e : x ≡ y). ap (λ (z : ℤ). beq (bit x (spot B x y) 0 0) (bit z (spot B x y) 0 0)) (sym e) ∙ beq-same _) (Decides-int_eq x y)),
+    mod-lt (first (bits B x) (bits B y)) some,
+  )
 
 -- a result and any number, on either side of the test
 module _ (s : Bool) (B : ℕ) (x y z : ℤ) (some : 1 ≤ B) (f : InRange s B z) where
-  pub and-compared : int_eq (bitwise_and s B x y) z ≡ beq (bit B (bitwise_and s B x y) (spot B (bitwise_and s B x y) z)) (bit B z (spot B (bitwise_and s B x y) z))
+  pub and-compared : Compared B (bitwise_and s B x y) z
   and-compared = same s B _ z some (and-in_range s B x y some) f
 
-  pub compared-and : int_eq z (bitwise_and s B x y) ≡ beq (bit B z (spot B z (bitwise_and s B x y))) (bit B (bitwise_and s B x y) (spot B z (bitwise_and s B x y)))
+  pub compared-and : Compared B z (bitwise_and s B x y)
   compared-and = same s B z _ some f (and-in_range s B x y some)
 
-  pub or-compared : int_eq (bitwise_or s B x y) z ≡ beq (bit B (bitwise_or s B x y) (spot B (bitwise_or s B x y) z)) (bit B z (spot B (bitwise_or s B x y) z))
+  pub or-compared : Compared B (bitwise_or s B x y) z
   or-compared = same s B _ z some (or-in_range s B x y some) f
 
-  pub compared-or : int_eq z (bitwise_or s B x y) ≡ beq (bit B z (spot B z (bitwise_or s B x y))) (bit B (bitwise_or s B x y) (spot B z (bitwise_or s B x y)))
+  pub compared-or : Compared B z (bitwise_or s B x y)
   compared-or = same s B z _ some f (or-in_range s B x y some)
 
-  pub xor-compared : int_eq (bitwise_xor s B x y) z ≡ beq (bit B (bitwise_xor s B x y) (spot B (bitwise_xor s B x y) z)) (bit B z (spot B (bitwise_xor s B x y) z))
+  pub xor-compared : Compared B (bitwise_xor s B x y) z
   xor-compared = same s B _ z some (xor-in_range s B x y some) f
 
-  pub compared-xor : int_eq z (bitwise_xor s B x y) ≡ beq (bit B z (spot B z (bitwise_xor s B x y))) (bit B (bitwise_xor s B x y) (spot B z (bitwise_xor s B x y)))
+  pub compared-xor : Compared B z (bitwise_xor s B x y)
   compared-xor = same s B z _ some f (xor-in_range s B x y some)
 
 module _ (s : Bool) (B : ℕ) (x z : ℤ) (some : 1 ≤ B) (f : InRange s B z) where
-  pub not-compared : int_eq (bitwise_not s B x) z ≡ beq (bit B (bitwise_not s B x) (spot B (bitwise_not s B x) z)) (bit B z (spot B (bitwise_not s B x) z))
+  pub not-compared : Compared B (bitwise_not s B x) z
   not-compared = same s B _ z some (not-in_range s B x some) f
 
-  pub compared-not : int_eq z (bitwise_not s B x) ≡ beq (bit B z (spot B z (bitwise_not s B x))) (bit B (bitwise_not s B x) (spot B z (bitwise_not s B x)))
+  pub compared-not : Compared B z (bitwise_not s B x)
   compared-not = same s B z _ some f (not-in_range s B x some)
 
 -- ---- the bits of a result
@@ -117,44 +157,54 @@ bit-of_two f (a ∷ l) [] i z e = absurd (omega arith)
 bit-of_two f (a ∷ l) (b ∷ m) zero z e = refl
 bit-of_two f (a ∷ l) (b ∷ m) (suc i) z e = bit-of_two f l m i z (omega arith)
 
-bit-of_operands : (f : Bool → Bool → Bool) (B : ℕ) (x y r : ℤ) (p : Spot) → f false false ≡ false → bits B r ≡ pointwise f (bits B x) (bits B y)
-    → bit B r p ≡ f (bit B x p) (bit B y p)
-unfolding Spot bit
-bit-of_operands f B x y r p z e =
-    ap (λ (l : List Bool). get_or l (p % B) false) e ∙ bit-of_two f (bits B x) (bits B y) (p % B) z (length-bits B x ∙ sym (length-bits B y))
-
 -- each law is a sum, by the first operand's bit: the search splits sums before all else
-by_bit : (f : Bool → Bool → Bool) (a b r : Bool) → r ≡ f a b → ((r ≡ f true b) × (a ≡ true)) ⊎ ((r ≡ f false b) × (a ≡ false))
+pub by_bit : (f : Bool → Bool → Bool) (a b r : Bool) → r ≡ f a b → ((r ≡ f true b) × (a ≡ true)) ⊎ ((r ≡ f false b) × (a ≡ false))
 by_bit f true b r e = inl (e, refl)
 by_bit f false b r e = inr (e, refl)
 
-module _ (s : Bool) (B : ℕ) (x y : ℤ) (p : Spot) where
-  pub bit-and : ((bit B (bitwise_and s B x y) p ≡ bit B y p) × (bit B x p ≡ true)) ⊎ ((bit B (bitwise_and s B x y) p ≡ false) × (bit B x p ≡ false))
-  bit-and = by_bit (λ a b. a && b) _ _ _ (bit-of_operands (λ a b. a && b) B x y _ p refl (bits-and s B x y))
+module _ (B : ℕ) (p : Spot) (u v : ℕ) (l : v ≤ index p + u) (h : index p + u < B + v) where
+  within : index p + u - v < B
+  within = omega arith
 
-  pub bit-or : ((bit B (bitwise_or s B x y) p ≡ true) × (bit B x p ≡ true)) ⊎ ((bit B (bitwise_or s B x y) p ≡ bit B y p) × (bit B x p ≡ false))
-  bit-or = by_bit (λ a b. a || b) _ _ _ (bit-of_operands (λ a b. a || b) B x y _ p refl (bits-or s B x y))
+  listed : (x : ℤ) → bit x p u v ≡ get_or (bits B x) (index p + u - v) false
+  listed x = bit-listed B x p u v _ refl within
 
-  pub bit-xor : ((bit B (bitwise_xor s B x y) p ≡ not (beq true (bit B y p))) × (bit B x p ≡ true))
-      ⊎ ((bit B (bitwise_xor s B x y) p ≡ not (beq false (bit B y p))) × (bit B x p ≡ false))
-  bit-xor = by_bit (λ a b. not (beq a b)) _ _ _ (bit-of_operands (λ a b. not (beq a b)) B x y _ p refl (bits-xor s B x y))
+  module _ (s : Bool) (x y : ℤ) where
+    of-operands : (f : Bool → Bool → Bool) (r : ℤ) → f false false ≡ false → bits B r ≡ pointwise f (bits B x) (bits B y) → bit r p u v ≡ f (bit x p u v) (bit y p u v)
+    of-operands f r z e =
+        listed r ∙ ap (λ (m : List Bool). get_or m (index p + u - v) false) e
+        ∙ bit-of_two f (bits B x) (bits B y) _ z (length-bits B x ∙ sym (length-bits B y))
+        ∙ (λ i. f (sym (listed x) i) (sym (listed y) i))
 
-pub bit-not : (s : Bool) (B : ℕ) (x : ℤ) (p : Spot) → 1 ≤ B
-    → ((bit B (bitwise_not s B x) p ≡ false) × (bit B x p ≡ true)) ⊎ ((bit B (bitwise_not s B x) p ≡ true) × (bit B x p ≡ false))
-unfolding Spot bit
-bit-not s B x p h = by_bit (λ a b. not a) _ true _ (ap (λ (l : List Bool). get_or l (p % B) false) (bits-not s B x)
-    ∙ get_or-map not (bits B x) (p % B) false false (omega (arith, mod-lt p h, length-bits B x)))
+    pub bit-and : ((bit (bitwise_and s B x y) p u v ≡ bit y p u v) × (bit x p u v ≡ true)) ⊎ ((bit (bitwise_and s B x y) p u v ≡ false) × (bit x p u v ≡ false))
+    bit-and = by_bit (λ a b. a && b) _ _ _ (of-operands (λ a b. a && b) _ refl (bits-and s B x y))
 
-pub bit-zero : (B : ℕ) (p : Spot) → 1 ≤ B → bit B (pos 0) p ≡ false
-unfolding Spot bit
-bit-zero B p h = ap (λ (l : List Bool). get_or l (p % B) false) (bits-zero B) ∙ get_or-replicate B (p % B) false false (mod-lt p h)
+    pub bit-or : ((bit (bitwise_or s B x y) p u v ≡ true) × (bit x p u v ≡ true)) ⊎ ((bit (bitwise_or s B x y) p u v ≡ bit y p u v) × (bit x p u v ≡ false))
+    bit-or = by_bit (λ a b. a || b) _ _ _ (of-operands (λ a b. a || b) _ refl (bits-or s B x y))
 
-bit-of_ones : (B : ℕ) (x : ℤ) (p : Spot) → 1 ≤ B → bits B x ≡ replicate B true → bit B x p ≡ true
-unfolding Spot bit
-bit-of_ones B x p h e = ap (λ (l : List Bool). get_or l (p % B) false) e ∙ get_or-replicate B (p % B) true false (mod-lt p h)
+    pub bit-xor : ((bit (bitwise_xor s B x y) p u v ≡ not (beq true (bit y p u v))) × (bit x p u v ≡ true))
+        ⊎ ((bit (bitwise_xor s B x y) p u v ≡ not (beq false (bit y p u v))) × (bit x p u v ≡ false))
+    bit-xor = by_bit (λ a b. not (beq a b)) _ _ _ (of-operands (λ a b. not (beq a b)) _ refl (bits-xor s B x y))
 
-pub bit-highest : (B : ℕ) (x : ℤ) (p : Spot) → 1 ≤ B → x ≡ pos (2 ^ B) -ℤ pos 1 → bit B x p ≡ true
-bit-highest B x p h e = bit-of_ones B x p h (ap (bits B) e ∙ bits-highest B)
+  pub bit-not : (s : Bool) (x : ℤ) → ((bit (bitwise_not s B x) p u v ≡ false) × (bit x p u v ≡ true)) ⊎ ((bit (bitwise_not s B x) p u v ≡ true) × (bit x p u v ≡ false))
+  bit-not s x = by_bit (λ a b. not a) _ true _ (listed _ ∙ ap (λ (m : List Bool). get_or m (index p + u - v) false) (bits-not s B x)
+      ∙ get_or-map not (bits B x) _ false false (let n = length-bits B x in omega (arith, within)) ∙ ap not (sym (listed x)))
 
-pub bit-minus_one : (B : ℕ) (p : Spot) → 1 ≤ B → bit B (negsuc 0) p ≡ true
-bit-minus_one B p h = bit-of_ones B (negsuc 0) p h (bits-minus_one B)
+-- ---- the bits of 0, and of the numbers whose bits are all one
+
+module _ (p : Spot) (u v : ℕ) where
+  pub bit-zero : bit (pos 0) p u v ≡ false
+  bit-zero =
+      let i = index p + u - v in
+      bit-listed (suc i) (pos 0) p u v i refl (omega arith) ∙ ap (λ (l : List Bool). get_or l i false) (bits-zero (suc i)) ∙ get_or-replicate (suc i) i false false (omega arith)
+
+  pub bit-minus_one : bit (negsuc 0) p u v ≡ true
+  bit-minus_one =
+      let i = index p + u - v in
+      bit-listed (suc i) (negsuc 0) p u v i refl (omega arith) ∙ ap (λ (l : List Bool). get_or l i false) (bits-minus_one (suc i)) ∙ get_or-replicate (suc i) i true false (omega arith)
+
+pub bit-highest : (B : ℕ) (x y z : ℤ) (u v : ℕ) → x ≡ pos (2 ^ B) -ℤ pos 1 → index (spot B y z) + u < B + v → v ≤ index (spot B y z) + u → bit x (spot B y z) u v ≡ true
+bit-highest B x y z u v e h l =
+    let i = index (spot B y z) + u - v in
+    bit-listed B x (spot B y z) u v i refl (omega arith) ∙ ap (λ (w : ℤ). get_or (bits B w) i false) e ∙ ap (λ (m : List Bool). get_or m i false) (bits-highest B)
+    ∙ get_or-replicate B i true false (omega arith)

@@ -22,6 +22,7 @@ pub mod OtherBits
 pub mod PrimitiveBit
 pub mod BitTests
 pub mod BitByBit
+pub mod MovedBits
 pub mod MaskTests
 pub mod ShiftPairs
 pub mod WrittenMask

@@ -26,6 +26,7 @@ pub mod lowest_place;
 pub mod mask_tests;
 pub mod masks;
 pub mod mixed;
+pub mod moved_bits;
 pub mod multiples;
 pub mod negated_parts;
 pub mod offsets;
