@@ -22,6 +22,7 @@ pub mod Complement
 pub mod PowerAndQuotient
 pub mod Carry
 pub mod HighestBit
+pub mod OperatorOrder
 pub mod Order
 pub mod Cancellation
 pub mod KnownMask

@@ -1,9 +1,9 @@
 //! What generic code knows of the operators and calls of an integer of fixed width. The calls stand in `calls`.
 
-ghost use Rattle.std.specs.Prelude.{not, Bool, ℕ, ◌&&◌, ◌||◌, ◌⊎◌, ◌≡◌, ◌+◌, ◌-◌, ℤ, pos, false, true};
+ghost use Rattle.std.specs.Prelude.{not, Bool, ℕ, ◌&&◌, ◌||◌, ◌⊎◌, ◌≡◌, ◌+◌, ◌-◌, ◌+ℤ◌, ◌≤ℤ◌, ℤ, pos, false, true};
 ghost use Rattle.std.specs.Bool.{beq};
 ghost use Rattle.std.specs.List.{count_by, suffix_len, prefix_len};
-ghost use Rattle.arbitrary_base.specs.Range.{InRange};
+ghost use Rattle.arbitrary_base.specs.Range.{InRange, hi, lo};
 ghost use Rattle.arbitrary_base.specs.Residue.{wrap};
 ghost use Rattle.arbitrary_base.specs.Operation.{bitwise_and, bitwise_not, bitwise_or, bitwise_xor, reversed, rotated_left, rotated_right, shifted_left, shifted_right, wrapped_difference, wrapped_product, wrapped_sum};
 ghost use Rattle.arbitrary_base.specs.BitList.{bits};
@@ -67,6 +67,13 @@ pub trait FixedWidth: Integer + FixedWidthCalls {
     ghost and_gives: { (a b r : Self) → Self.bitand_gives a b r
         → (r ≡ and_of a b) × (fits a ≡ true) × (fits b ≡ true) };
 
+    // Orders where the type has no sign: what `&` gives is at most each operand, and what `|` gives at least.
+    ghost and_at_most_left: { (a b r : Self) → Self.bitand_gives a b r → Self.valid
+        → Self.IS_SIGNED ≡ false → Self.number r ≤ℤ Self.number a };
+
+    ghost and_at_most_right: { (a b r : Self) → Self.bitand_gives a b r → Self.valid
+        → Self.IS_SIGNED ≡ false → Self.number r ≤ℤ Self.number b };
+
     ghost and_fits: { (a b : Self) → fits (and_of a b) ≡ true };
 
     ghost and_bit: { (a b : Self) (i : Place Self.BITS)
@@ -85,6 +92,12 @@ pub trait FixedWidth: Integer + FixedWidthCalls {
 
     ghost or_gives: { (a b r : Self) → Self.bitor_gives a b r
         → (r ≡ or_of a b) × (fits a ≡ true) × (fits b ≡ true) };
+
+    ghost or_at_least_left: { (a b r : Self) → Self.bitor_gives a b r → Self.valid
+        → Self.IS_SIGNED ≡ false → Self.number a ≤ℤ Self.number r };
+
+    ghost or_at_least_right: { (a b r : Self) → Self.bitor_gives a b r → Self.valid
+        → Self.IS_SIGNED ≡ false → Self.number b ≤ℤ Self.number r };
 
     ghost or_fits: { (a b : Self) → fits (or_of a b) ≡ true };
 
@@ -120,6 +133,21 @@ pub trait FixedWidth: Integer + FixedWidthCalls {
 
     ghost complement_gives: { (a r : Self) → Self.not_gives a r
         → (r ≡ not_of a) × (fits a ≡ true) };
+
+    // A number and its complement have the sum of the two ends, which stays a word: the ends would split each search by the sign.
+    // The number has a name of its own, or each sum in sight of two numbers would fire the law.
+    ghost ends_sum: { ℤ };
+
+    ghost not_mirrors: { (a r : Self) → Self.not_gives a r → Self.valid
+        → (x : ℤ) × (x ≡ Self.number a) × (x +ℤ Self.number r ≡ ends_sum) };
+
+    ghost not_of_greatest: { (a r : Self) → Self.not_gives a r → Self.valid
+        → a ≡ value_of (hi Self.IS_SIGNED Self.BITS)
+        → Self.number r ≡ lo Self.IS_SIGNED Self.BITS };
+
+    ghost not_of_least: { (a r : Self) → Self.not_gives a r → Self.valid
+        → a ≡ value_of (lo Self.IS_SIGNED Self.BITS)
+        → Self.number r ≡ hi Self.IS_SIGNED Self.BITS };
 
     ghost not_fits: { (a : Self) → fits (not_of a) ≡ true };
 

@@ -14,6 +14,7 @@ pub mod ends;
 pub mod generic;
 pub mod generic_calls;
 pub mod generic_checked;
+pub mod generic_operators;
 pub mod generic_orders;
 pub mod masks;
 pub mod numbers;

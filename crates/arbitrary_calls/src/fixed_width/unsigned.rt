@@ -1,8 +1,9 @@
 //! `UInt` as an integer of fixed width: the laws. `signed` beside this file has the same of `Int`.
 
-ghost use Rattle.std.specs.Prelude.{ℤ, not, refl};
+ghost use Rattle.std.specs.Prelude.{ℤ, ◌+ℤ◌, not, refl};
 ghost use Rattle.std.proofs.Common.{◌∙◌, ap, sym};
 ghost use Rattle.std.proofs.lemmas.Bool.Decides.{Decides-int_eq};
+ghost use Rattle.arbitrary_base.specs.Range.{hi, lo};
 ghost use Rattle.arbitrary_base.specs.Operation.{bitwise_and, bitwise_not, bitwise_or, bitwise_xor, reversed, wrapped_difference, wrapped_product, wrapped_sum};
 ghost use Rattle.arbitrary_base.proofs.operations.Amount.{amount-none, count_of_ones, difference-after_sum, difference-again, difference-alike, difference-of_ones, difference-own, difference-with_zero, leading_ones-of_not, leading_run, leading_run-is, leading_run-of_reversed, leading_zeros-of_not, left, left-none, left-of_amount, left-of_and, left-of_or, left-of_right, left-of_sum, left-of_xor, left-of_zero, left-own, left_turn-of_amount, ones-is, ones-of_not, ones-of_reversed, ones-of_turned, ones-of_zero, own-in_range, own_value, own_value-is, product-again, product-own, product-with_sum, reversed-back, reversed-of_ones, reversed-of_turned, reversed-of_zero, reversed-own, right, right-none, right-of_amount, right-of_and, right-of_or, right-of_xor, right-of_zero, right-own, right_turn-of_amount, sum-after_difference, sum-again, sum-own, sum-to_difference_of, sum-where_disjoint, sum-with_negated, sum-with_zero, trailing_ones-of_not, trailing_run, trailing_run-is, trailing_run-of_reversed, trailing_zeros-of_not, turned, turned-none, turned-of_and, turned-of_not, turned-of_ones, turned-of_or, turned-of_xor, turned-of_zero, turned-own};
 ghost use Rattle.arbitrary_base.proofs.operations.Bitwise.{and-distributes_or, bitwise_and-associates, bitwise_and-commutes, bitwise_or-associates, bitwise_or-commutes, bitwise_xor-associates, bitwise_xor-commutes, not-and_parts, not-or_parts, or-distributes_and};
@@ -10,6 +11,7 @@ ghost use Rattle.arbitrary_base.proofs.operations.RotateAndReverse.{reversed-and
 ghost use Rattle.arbitrary_base.proofs.operations.WrappedRing.{wrapped_product-commutes, wrapped_product-zero, wrapped_sum-commutes};
 ghost use Rattle.arbitrary_base.proofs.operations.BitByBit.{and-itself, bit_at, bit_at-and, bit_at-not, bit_at-or, bit_at-xor, bit_at-zero, equal-or_differ, is_own_bits, not-twice, own_bits, own_bits-and, own_bits-not, own_bits-or, own_bits-xor, own_bits-zero, xor-none_equal, xor-twice};
 ghost use Rattle.arbitrary_base.proofs.operations.Definition.{and-is, not-is, or-is, xor-is};
+ghost use Rattle.arbitrary_base.proofs.operations.OperatorOrder.{and-at_most, and-at_most_left, not-mirrors, not-of_greatest, not-of_least, or-at_least, or-at_least_right};
 
 use crate::fixed_width::FixedWidth;
 use arbitrary_base::storage::{BuiltinInteger, SignedOf, UnsignedOf, UnsignedStorage};
@@ -62,6 +64,10 @@ where
       own_bits _ _ _ h.2,
     ) };
 
+    ghost and_at_most_left = { λ a b r h v n. and-at_most_left _ _ _ _ _ n v.0 h.0 h.1 };
+
+    ghost and_at_most_right = { λ a b r h v n. and-at_most _ _ _ _ _ n v.0 h.0 h.2 };
+
     ghost and_fits = { λ a b. own_bits-and _ _ _ _ };
 
     ghost and_bit = { λ a b i. bit_at-and T.SIGNED BITS a b i };
@@ -80,6 +86,10 @@ where
       own_bits _ _ _ h.1,
       own_bits _ _ _ h.2,
     ) };
+
+    ghost or_at_least_left = { λ a b r h v n. or-at_least _ _ _ _ _ n v.0 h.0 h.1 };
+
+    ghost or_at_least_right = { λ a b r h v n. or-at_least_right _ _ _ _ _ n v.0 h.0 h.2 };
 
     ghost or_fits = { λ a b. own_bits-or _ _ _ _ };
 
@@ -114,6 +124,14 @@ where
     ghost not_of = { λ a. bitwise_not T.SIGNED BITS a };
 
     ghost complement_gives = { λ a r h. (h.0 ∙ sym (not-is _ _ _), own_bits _ _ _ h.1) };
+
+    ghost ends_sum = { lo T.SIGNED BITS +ℤ hi T.SIGNED BITS };
+
+    ghost not_mirrors = { λ a r h v. (a, refl, not-mirrors _ _ _ _ v.0 h.0 h.1) };
+
+    ghost not_of_greatest = { λ a r h v e. not-of_greatest _ _ _ _ v.0 h.0 h.1 e };
+
+    ghost not_of_least = { λ a r h v e. not-of_least _ _ _ _ v.0 h.0 h.1 e };
 
     ghost not_fits = { λ a. own_bits-not _ _ _ };
 
