@@ -33,7 +33,7 @@ mirrored true B x h f =
     let high = f.high in
     let r : InRange true B (negsuc 0 -ℤ x) = record { low = omega (arith, ints); high = omega (arith, ints) } in
     let c = subst (λ (z : ℤ). Congruent B z ((pos 0 -ℤ x) -ℤ pos 1)) (sym (not-is_difference true B x h))
-        (difference-congruent true B _ _ _ _ (difference-congruent true B _ _ _ _ (Congruent-refl B (pos 0)) (Congruent-refl B x)) (Congruent-refl B (pos 1))) in
+    (difference-congruent true B _ _ _ _ (difference-congruent true B _ _ _ _ (Congruent-refl B (pos 0)) (Congruent-refl B x)) (Congruent-refl B (pos 1))) in
     let e = by-congruence true B (bitwise_not true B x) (negsuc 0 -ℤ x) _ _ h (not-in_range true B x h) r c (Congruent-refl B _) (omega (arith, ints)) in
     omega (arith, ints)
 
