@@ -31,8 +31,8 @@ python3 tools/fuzz.py "${programs[@]}"
 python3 tools/wrong_bodies.py --some 12 test_bounds_core test_bounds
 # the lines that docs/PROVING.md calls refused
 python3 tools/wrong_bodies.py test_pages
-# wrong laws, twenty that the commit chooses
-python3 tools/wrong_bodies.py --some 20 test_laws test_number_laws
+# wrong laws, twelve that the commit chooses
+python3 tools/wrong_bodies.py --some 12 test_laws test_number_laws
 # what the libraries promise, four that the commit chooses
 python3 tools/wrong_bodies.py --some 4 \
     arbitrary_traits/{conversion_drops_the_bits_from_64_up,masking_clamps_a_negative_source} \
