@@ -38,6 +38,19 @@ fn show<V: Display + Copy + Drop>(rt: &impl Print, results: Option<[V; 16]>) -> 
     Ok(())
 }
 
+/// The call `extract_u32` alone: a proof grows with the square of the calls.
+fn take_fixed(rt: &impl Print, name: &str, limit: u32, rounds: u32) -> anyhow::Result<()>
+    requires { 1 ≤ limit }
+{
+    match name {
+        "u7" => show(rt, Some(fixed::extracts_u7(&Operands::new(limit), rounds))),
+        "i7" => show(rt, Some(fixed::extracts_i7(&Operands::new(limit), rounds))),
+        "u14" => show(rt, Some(fixed::extracts_u14(&Operands::new(limit), rounds))),
+        "i14" => show(rt, Some(fixed::extracts_i14(&Operands::new(limit), rounds))),
+        _ => anyhow::bail!("no such type"),
+    }
+}
+
 fn measure_fixed(
     rt: &impl Print,
     name: &str,
@@ -47,42 +60,35 @@ fn measure_fixed(
 ) -> anyhow::Result<()>
     requires { 1 ≤ limit }
 {
-    match (name, call) {
-        ("u7", "extract_u32") => show(rt, Some(fixed::extracts_u7(&Operands::new(limit), rounds))),
-        ("i7", "extract_u32") => show(rt, Some(fixed::extracts_i7(&Operands::new(limit), rounds))),
-        ("u14", "extract_u32") => show(
-            rt,
-            Some(fixed::extracts_u14(&Operands::new(limit), rounds)),
-        ),
-        ("i14", "extract_u32") => show(
-            rt,
-            Some(fixed::extracts_i14(&Operands::new(limit), rounds)),
-        ),
-        ("u7", _) => show(
+    if call == "extract_u32" {
+        return take_fixed(rt, name, limit, rounds);
+    }
+    match name {
+        "u7" => show(
             rt,
             fixed::results::<u7>(call, &Operands::new(limit), rounds),
         ),
-        ("i7", _) => show(
+        "i7" => show(
             rt,
             fixed::results::<i7>(call, &Operands::new(limit), rounds),
         ),
-        ("u14", _) => show(
+        "u14" => show(
             rt,
             fixed::results::<u14>(call, &Operands::new(limit), rounds),
         ),
-        ("i14", _) => show(
+        "i14" => show(
             rt,
             fixed::results::<i14>(call, &Operands::new(limit), rounds),
         ),
-        ("u120", _) => show(
+        "u120" => show(
             rt,
             fixed::results::<u120>(call, &Operands::new(limit), rounds),
         ),
-        ("i120", _) => show(
+        "i120" => show(
             rt,
             fixed::results::<i120>(call, &Operands::new(limit), rounds),
         ),
-        ("i128", _) => show(
+        "i128" => show(
             rt,
             fixed::results::<Int<i128, 128>>(call, &Operands::new(limit), rounds),
         ),
@@ -103,6 +109,37 @@ fn chosen<V: FixedWidth>(limit: u32, places: Option<u32>) -> Operands<V>
     operands
 }
 
+/// The call `extract_u32` alone: a proof grows with the square of the calls.
+fn take_single(
+    rt: &impl Print,
+    name: &str,
+    limit: u32,
+    rounds: u32,
+    places: Option<u32>,
+) -> anyhow::Result<()>
+    requires { 1 ≤ limit }
+{
+    match name {
+        "u7" => show(
+            rt,
+            Some(single::taken::<u7>(&chosen(limit, places), rounds)),
+        ),
+        "i7" => show(
+            rt,
+            Some(single::taken::<i7>(&chosen(limit, places), rounds)),
+        ),
+        "u14" => show(
+            rt,
+            Some(single::taken::<u14>(&chosen(limit, places), rounds)),
+        ),
+        "i14" => show(
+            rt,
+            Some(single::taken::<i14>(&chosen(limit, places), rounds)),
+        ),
+        _ => anyhow::bail!("no such type"),
+    }
+}
+
 fn measure_single(
     rt: &impl Print,
     name: &str,
@@ -113,46 +150,58 @@ fn measure_single(
 ) -> anyhow::Result<()>
     requires { 1 ≤ limit }
 {
-    match (name, call) {
-        ("u7", "extract_u32") => show(
-            rt,
-            Some(single::taken::<u7>(&chosen(limit, places), rounds)),
-        ),
-        ("i7", "extract_u32") => show(
-            rt,
-            Some(single::taken::<i7>(&chosen(limit, places), rounds)),
-        ),
-        ("u14", "extract_u32") => show(
-            rt,
-            Some(single::taken::<u14>(&chosen(limit, places), rounds)),
-        ),
-        ("i14", "extract_u32") => show(
-            rt,
-            Some(single::taken::<i14>(&chosen(limit, places), rounds)),
-        ),
-        ("u7", _) => show(
+    if call == "extract_u32" {
+        return take_single(rt, name, limit, rounds, places);
+    }
+    match name {
+        "u7" => show(
             rt,
             single::results::<u7>(call, &chosen(limit, places), rounds),
         ),
-        ("i7", _) => show(
+        "i7" => show(
             rt,
             single::results::<i7>(call, &chosen(limit, places), rounds),
         ),
-        ("u14", _) => show(
+        "u14" => show(
             rt,
             single::results::<u14>(call, &chosen(limit, places), rounds),
         ),
-        ("i14", _) => show(
+        "i14" => show(
             rt,
             single::results::<i14>(call, &chosen(limit, places), rounds),
         ),
-        ("u120", _) => show(
+        "u120" => show(
             rt,
             single::results::<u120>(call, &chosen(limit, places), rounds),
         ),
-        ("i120", _) => show(
+        "i120" => show(
             rt,
             single::results::<i120>(call, &chosen(limit, places), rounds),
+        ),
+        _ => anyhow::bail!("no such type"),
+    }
+}
+
+/// The call `extract_u32` alone: a proof grows with the square of the calls.
+fn take_primitive(rt: &impl Print, name: &str, limit: u32, rounds: u32) -> anyhow::Result<()>
+    requires { 1 ≤ limit }
+{
+    match name {
+        "u8" => show(
+            rt,
+            Some(primitive::extracts_u8(&Operands::new(limit), rounds)),
+        ),
+        "i8" => show(
+            rt,
+            Some(primitive::extracts_i8(&Operands::new(limit), rounds)),
+        ),
+        "u16" => show(
+            rt,
+            Some(primitive::extracts_u16(&Operands::new(limit), rounds)),
+        ),
+        "i16" => show(
+            rt,
+            Some(primitive::extracts_i16(&Operands::new(limit), rounds)),
         ),
         _ => anyhow::bail!("no such type"),
     }
@@ -167,44 +216,31 @@ fn measure_primitive(
 ) -> anyhow::Result<()>
     requires { 1 ≤ limit }
 {
-    match (name, call) {
-        ("u8", "extract_u32") => show(
-            rt,
-            Some(primitive::extracts_u8(&Operands::new(limit), rounds)),
-        ),
-        ("i8", "extract_u32") => show(
-            rt,
-            Some(primitive::extracts_i8(&Operands::new(limit), rounds)),
-        ),
-        ("u16", "extract_u32") => show(
-            rt,
-            Some(primitive::extracts_u16(&Operands::new(limit), rounds)),
-        ),
-        ("i16", "extract_u32") => show(
-            rt,
-            Some(primitive::extracts_i16(&Operands::new(limit), rounds)),
-        ),
-        ("u8", _) => show(
+    if call == "extract_u32" {
+        return take_primitive(rt, name, limit, rounds);
+    }
+    match name {
+        "u8" => show(
             rt,
             primitive::results::<u8>(call, &Operands::new(limit), rounds),
         ),
-        ("i8", _) => show(
+        "i8" => show(
             rt,
             primitive::results::<i8>(call, &Operands::new(limit), rounds),
         ),
-        ("u16", _) => show(
+        "u16" => show(
             rt,
             primitive::results::<u16>(call, &Operands::new(limit), rounds),
         ),
-        ("i16", _) => show(
+        "i16" => show(
             rt,
             primitive::results::<i16>(call, &Operands::new(limit), rounds),
         ),
-        ("u128", _) => show(
+        "u128" => show(
             rt,
             primitive::results::<u128>(call, &Operands::new(limit), rounds),
         ),
-        ("i128", _) => show(
+        "i128" => show(
             rt,
             primitive::results::<i128>(call, &Operands::new(limit), rounds),
         ),
