@@ -3,7 +3,7 @@
 
 ghost use Rattle.std.specs.Prelude.{◌≡◌, ◌≤◌, ◌<◌, ◌%◌, ◌^◌, ℕ, ℤ, Bool, true, false, pos, not, unsigned_abs};
 ghost use Rattle.arbitrary_base.specs.Range.{InRange};
-ghost use Rattle.arbitrary_base.specs.Residue.{residue, wrap, Congruent};
+ghost use Rattle.arbitrary_base.specs.Residue.{residue, wrap, Congruent, SignedCongruent};
 
 use arbitrary_base::storage::Sealed;
 
@@ -69,6 +69,8 @@ pub trait Numbered: Copy + Sealed {
         ensures other_sign { let given = T.number value in
             T.IS_SIGNED ≡ not IS_SIGNED → Congruent BITS (number result) given }
         ensures congruent { (y : ℤ) → T.number value ≡ y → Congruent BITS (number result) y }
+        ensures told { let given = T.number value in
+            SignedCongruent T.IS_SIGNED IS_SIGNED BITS (number result) given }
         ensures range { InRange T.IS_SIGNED T.BITS (T.number value) }
         ensures width { T.valid }
     {
@@ -89,6 +91,8 @@ pub trait Numbered: Copy + Sealed {
         ensures other_sign { let given = number self in
             IS_SIGNED ≡ not T.IS_SIGNED → Congruent T.BITS (T.number result) given }
         ensures congruent { (y : ℤ) → number self ≡ y → Congruent T.BITS (T.number result) y }
+        ensures told { let given = number self in
+            SignedCongruent IS_SIGNED T.IS_SIGNED T.BITS (T.number result) given }
         ensures range { InRange IS_SIGNED BITS (number self) }
         ensures width { valid }
     {
