@@ -1,5 +1,5 @@
 -- The laws of specs/Laws: those that no other proof needs are proved here, and `laws` cites all by these names.
-use Rattle.std.specs.Prelude.{◌≡◌, ◌≢◌, ◌↔◌, ℕ, zero, suc, ℤ, Bool, true, false, pos, Option, Some, None, int_div, IsTrue, if◌then◌else◌, ◌||◌, ◌+ℤ◌, ◌-ℤ◌, ◌*ℤ◌, ◌≤◌, List, [], ◌∷◌, SomeIff}
+use Rattle.std.specs.Prelude.{◌≡◌, ◌≢◌, ◌↔◌, ℕ, zero, suc, ℤ, Bool, true, false, not, pos, Option, Some, None, int_div, IsTrue, if◌then◌else◌, ◌||◌, ◌+ℤ◌, ◌-ℤ◌, ◌*ℤ◌, ◌≤◌, List, [], ◌∷◌, SomeIff}
 use Rattle.std.specs.Ordering.{int_eq}
 use Rattle.std.specs.List.{fold, last_or, scan}
 use Rattle.std.proofs.Common.{arith, refl, ap, sym, ◌∙◌}
@@ -104,6 +104,10 @@ pub ruleset checked_rules = (checked-tells, checked-quotient_tells)
 pub in_range-tells : (s : Bool) (B : ℕ) (x : ℤ) → IsTrue (in_range s B x) ↔ InRange s B x
 unfolding in_range
 in_range-tells s B x = ((λ t. record { low = grind (arith, ints); high = grind (arith, ints) }), (λ f. let l = f.low in let h = f.high in grind (arith, ints)))
+
+-- a flag that tells a number out of range is the negated test
+pub out-of_range_tested : (b s : Bool) (B : ℕ) (x : ℤ) → IsTrue b ↔ ¬ (InRange s B x) → b ≡ not (in_range s B x)
+out-of_range_tested b s B x t = let f = in_range-tells s B x in grind (arith, t, f)
 
 pub ruleset range_rules = (in_range-tells, clamp-fits, clamp-above, clamp-below)
 

@@ -1,5 +1,5 @@
--- Fields side by side in a number of these types, put together by `|`, the high one first: three to five of them. SideBySide.antt has
--- those of primitives.
+-- Fields side by side in a `UInt`, put together by `|`, the high one first: three to five of them. SideBySide.antt has those of
+-- primitives.
 use Rattle.std.specs.Prelude.{◌≡◌, ℕ, ℤ, false, pos, negsuc, unsigned_abs, ◌+◌, ◌-◌, ◌*◌, ◌^◌, ◌≤◌, ◌<◌, ◌≤ℤ◌, ◌<ℤ◌, ◌+ℤ◌, ◌-ℤ◌, ◌*ℤ◌}
 use Rattle.std.specs.Int.Bits.{bit_or}
 use Rattle.std.proofs.Common.{refl, sym, ap, ap₂, subst, ◌∙◌, arith, pow-add, mul-le-mul_right}

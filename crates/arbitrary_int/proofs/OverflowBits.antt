@@ -6,9 +6,10 @@ use Rattle.std.specs.Ordering.{int_cmp, is_lt}
 use Rattle.std.proofs.Common.{refl, arith, inl, inr}
 use Rattle.std.proofs.lemmas.Int.{ints}
 use Rattle.std.proofs.lemmas.Nat.{pow_pos}
-use Rattle.arbitrary_base.specs.Range.{InRange, hi, lo}
+use Rattle.arbitrary_base.specs.Range.{InRange, hi, in_range, lo}
 use Rattle.arbitrary_base.specs.Residue.{Congruent}
 use Rattle.arbitrary_base.specs.Operation.{bitwise_and, bitwise_xor, wrapped_difference, wrapped_sum}
+use Rattle.arbitrary_base.proofs.LawProof.{out-of_range_tested}
 use Rattle.arbitrary_base.proofs.modular.Congruence.{Congruent-refl, Congruent-trans, pow_half}
 use Rattle.arbitrary_base.proofs.modular.Residue.{congruent-same}
 use Rattle.arbitrary_base.proofs.operations.BitsAndSums.{xor-in_range}
@@ -142,6 +143,19 @@ module _ (B : ℕ) (x y : ℤ) (h : 1 ≤ B) (f : InRange true B x) (g : InRange
       ↔ (((x -ℤ y) <ℤ lo true B) ⊎ (hi true B <ℤ (x -ℤ y)))
   difference-overflow_ends = by-ends _ (x -ℤ y) difference-overflow_told
 
+  by-flag : (n z : ℤ) → (n <ℤ pos 0) ↔ ¬ (InRange true B z) → is_lt (int_cmp n (pos 0)) ≡ not (in_range true B z)
+  by-flag n z t =
+      let e = lt-tested n (pos 0) in
+      out-of_range_tested (is_lt (int_cmp n (pos 0))) true B z ((λ w. t.0 (e.0 w)), (λ w. e.1 (t.1 w)))
+
+  pub sum-overflow_flag : is_lt (int_cmp (bitwise_and true B (bitwise_xor true B x (wrapped_sum true B x y)) (bitwise_xor true B y (wrapped_sum true B x y))) (pos 0))
+      ≡ not (in_range true B (x +ℤ y))
+  sum-overflow_flag = by-flag _ (x +ℤ y) sum-overflow_told
+
+  pub difference-overflow_flag : is_lt (int_cmp (bitwise_and true B (bitwise_xor true B x y) (bitwise_xor true B x (wrapped_difference true B x y))) (pos 0))
+      ≡ not (in_range true B (x -ℤ y))
+  difference-overflow_flag = by-flag _ (x -ℤ y) difference-overflow_told
+
   pub xor-sign_told : is_lt (int_cmp (bitwise_xor true B x y) (pos 0)) ≡ not (beq (is_lt (int_cmp x (pos 0))) (is_lt (int_cmp y (pos 0))))
   xor-sign_told =
       let e = sign-pointwise (λ a b. not (beq a b)) B x y _ refl h f g (xor-in_range true B x y h) (bits-xor true B x y) in
@@ -151,7 +165,7 @@ module _ (B : ℕ) (x y : ℤ) (h : 1 ≤ B) (f : InRange true B x) (g : InRange
       grind (arith, e, a, b, c)
 
 -- an overflow by the signs of a sum and of a difference
-pub ruleset overflow_bits = (lt-tested, sum-overflow_ends, difference-overflow_ends, bitwise_and-commutes, bitwise_xor-commutes)
+pub ruleset overflow_bits = (lt-tested, sum-overflow_ends, difference-overflow_ends, sum-overflow_flag, difference-overflow_flag, bitwise_and-commutes, bitwise_xor-commutes)
 
 -- whether two signs differ
 pub ruleset sign_of_xor = (xor-sign_told)

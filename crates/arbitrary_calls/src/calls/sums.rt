@@ -1,7 +1,7 @@
 //! Sums and differences of integers of fixed width.
 
 ghost use Rattle.std.specs.Prelude.{not, ◌≡◌, ◌↔◌, ◌<ℤ◌, ◌+ℤ◌, ◌-ℤ◌, ℤ, pos, IsTrue, Some, SomeIff, option_map};
-ghost use Rattle.arbitrary_base.specs.Range.{InRange, lo, hi};
+ghost use Rattle.arbitrary_base.specs.Range.{InRange, in_range, lo, hi};
 ghost use Rattle.arbitrary_base.specs.Residue.{Congruent, wrap};
 ghost use Rattle.arbitrary_base.specs.Saturation.{clamp};
 ghost use Rattle.arbitrary_base.specs.Operation.{wrapped_difference, wrapped_sum};
@@ -75,10 +75,14 @@ pub trait SumCalls: Stored + LowBits {
     /// The sum, wrapped, and whether the exact one is out of range.
     #[tactic(auto, using(arbitrary_base::proofs::modular::ExactOrCongruent::wrapped))]
     final fn overflowing_add(self, rhs: Self) -> (Self, bool)
+        ensures operation { let number = Self.number in
+            number result.0 ≡ wrapped_sum Self.IS_SIGNED Self.BITS (number self) (number rhs) }
         ensures value { let sum = Self.number self +ℤ Self.number rhs in
             Self.number result.0 ≡ wrap Self.IS_SIGNED Self.BITS sum }
         ensures overflow { let sum = Self.number self +ℤ Self.number rhs in
             IsTrue result.1 ↔ ¬ (InRange Self.IS_SIGNED Self.BITS sum) }
+        ensures flag { let sum = Self.number self +ℤ Self.number rhs in
+            result.1 ≡ not (in_range Self.IS_SIGNED Self.BITS sum) }
         ensures exact { let sum = Self.number self +ℤ Self.number rhs in
             InRange Self.IS_SIGNED Self.BITS sum → Self.number result.0 ≡ sum }
         ensures congruent { let sum = Self.number self +ℤ Self.number rhs in
@@ -148,10 +152,14 @@ pub trait SumCalls: Stored + LowBits {
     /// The difference, wrapped, and whether the exact one is out of range.
     #[tactic(auto, using(arbitrary_base::proofs::modular::ExactOrCongruent::wrapped))]
     final fn overflowing_sub(self, rhs: Self) -> (Self, bool)
+        ensures operation { let number = Self.number in
+            number result.0 ≡ wrapped_difference Self.IS_SIGNED Self.BITS (number self) (number rhs) }
         ensures value { let difference = Self.number self -ℤ Self.number rhs in
             Self.number result.0 ≡ wrap Self.IS_SIGNED Self.BITS difference }
         ensures overflow { let difference = Self.number self -ℤ Self.number rhs in
             IsTrue result.1 ↔ ¬ (InRange Self.IS_SIGNED Self.BITS difference) }
+        ensures flag { let difference = Self.number self -ℤ Self.number rhs in
+            result.1 ≡ not (in_range Self.IS_SIGNED Self.BITS difference) }
         ensures exact { let difference = Self.number self -ℤ Self.number rhs in
             InRange Self.IS_SIGNED Self.BITS difference → Self.number result.0 ≡ difference }
         ensures congruent { let difference = Self.number self -ℤ Self.number rhs in
