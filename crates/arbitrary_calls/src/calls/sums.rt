@@ -153,7 +153,8 @@ pub trait SumCalls: Stored + LowBits {
     #[tactic(auto, using(arbitrary_base::proofs::modular::ExactOrCongruent::wrapped))]
     final fn overflowing_sub(self, rhs: Self) -> (Self, bool)
         ensures operation { let number = Self.number in
-            number result.0 ≡ wrapped_difference Self.IS_SIGNED Self.BITS (number self) (number rhs) }
+            let wrapped = wrapped_difference Self.IS_SIGNED Self.BITS in
+            number result.0 ≡ wrapped (number self) (number rhs) }
         ensures value { let difference = Self.number self -ℤ Self.number rhs in
             Self.number result.0 ≡ wrap Self.IS_SIGNED Self.BITS difference }
         ensures overflow { let difference = Self.number self -ℤ Self.number rhs in
