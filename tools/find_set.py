@@ -6,7 +6,7 @@ Tries each set of laws of docs/PROVING.md on these functions of a crate, and pri
 proves it. A function is named as the check names it, without the crate: `module::function`, or `Type::call`. The crate stays as it is: the
 check takes a copy, in which the function stands once for each set. What is below the crate has to be proved (`rt check` in the crate).
 
-`--listed` tells whether the set of all sets, in AllSets.antt, has each that the page names, but for one that stands apart.
+`--listed` tells whether the set of all sets, in AllSets.antt, has the laws of each that the page names, as all_sets.py writes them.
 """
 import os
 import re
@@ -46,12 +46,6 @@ def sets():
     return list(dict.fromkeys(found))
 
 
-def unlisted():
-    """The sets that the page names and the set of all sets has not."""
-    listed = set(re.search(r'ruleset all_sets = \((.*)\)', ALL_FILE.read_text())[1].split(', '))
-    return [it for it in sets() if not it.startswith(ALL) and it != APART and it.split('::')[-1] not in listed]
-
-
 def text_of(folder, function):
     """The file of the copy that has this function, and where its text begins and ends there."""
     name = function.split('::')[-1]
@@ -87,9 +81,11 @@ def tried(folder, function, names):
 
 def main():
     if sys.argv[1:] == ['--listed']:
-        missing = unlisted()
-        print('\n'.join(f'{it}: not in {ALL_FILE.name}' for it in missing) or f'{ALL_FILE.name}: as it should be')
-        return 1 if missing else 0
+        # here, since it takes the page's sets from this script
+        from all_sets import text
+        listed = ALL_FILE.read_text() == text()
+        print(f'{ALL_FILE.name}: ' + ('as it should be' if listed else 'run tools/all_sets.py'))
+        return 0 if listed else 1
     if len(sys.argv) < 3:
         sys.exit(__doc__)
     crate, functions = sys.argv[1], sys.argv[2:]

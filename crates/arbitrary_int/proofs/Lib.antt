@@ -25,6 +25,7 @@ pub mod BitByBit
 pub mod MovedBits
 pub mod MaskTests
 pub mod ShiftPairs
+pub mod LongerSide
 pub mod WrittenMask
 pub mod WrittenParts
 pub mod QuotientAndCube

@@ -60,3 +60,27 @@ pub fn ones_of_complement(x: u24) -> bool
 {
     (!x).count_ones() == x.count_zeros()
 }
+
+pub fn lowest_bit(x: u12) -> bool
+    ensures { IsTrue result }
+{
+    x & x.wrapping_neg() == x & !(x.wrapping_sub(u12::new(1)))
+}
+
+pub fn mask_moved(x: u12) -> bool
+    ensures { IsTrue result }
+{
+    (x & u12::new(0xF)) << 4 == (x << 4) & u12::new(0xF0)
+}
+
+pub fn complement_before(x: i12) -> bool
+    ensures { IsTrue result }
+{
+    !(x.wrapping_sub(i12::new(1))) == x.wrapping_neg()
+}
+
+pub fn without_sign(x: i12, y: i12) -> bool
+    ensures { IsTrue result }
+{
+    (x & y).to_unsigned() == x.to_unsigned() & y.to_unsigned()
+}

@@ -1,0 +1,66 @@
+#!/usr/bin/env python3
+"""Writes AllSets.antt: each law of the sets that docs/PROVING.md names, but for the set that stands apart, once. A law that stood there once
+for each set that has it would be tried as often, and the search would come to its limit. A law that LongerSide.antt turns round is left
+out. `find_set.py --listed` tells whether the file is so.
+"""
+import re
+
+from find_set import ALL, ALL_FILE, APART, sets
+
+PROOFS = ALL_FILE.parent
+HERE = 'Rattle.arbitrary_int.proofs.'
+TURNED = 'LongerSide'
+IMPORT = re.compile(r'^use ([\w.]+)\.\{(.*)\}$', re.M)
+SET = re.compile(r'^pub ruleset (\w+) = \((.*)\)$', re.M)
+LINE = 'pub ruleset all_sets = '
+
+
+def module(name):
+    """What a file imports, each name with its module, and the sets that it has, each with its parts."""
+    text = (PROOFS / f'{name}.antt').read_text()
+    imported = {part: found[1] for found in IMPORT.finditer(text) for part in found[2].split(', ')}
+    return imported, {found[1]: found[2].split(', ') for found in SET.finditer(text)}
+
+
+def laws(name, chosen):
+    """The laws of a set, each with its module."""
+    imported, has = module(name)
+    for part in has[chosen]:
+        origin = imported.get(part, HERE + name)
+        file = origin.removeprefix(HERE)
+        if origin.startswith(HERE) and part in module(file)[1]:
+            yield from laws(file, part)
+        else:
+            yield origin, part
+
+
+def turned():
+    """The laws that LongerSide.antt turns round: those of other files that its lemmas rest on."""
+    imported, _ = module(TURNED)
+    return {(origin, part) for part, origin in imported.items() if '.arbitrary_' in origin and '.proofs.' in origin}
+
+
+def text():
+    """AllSets.antt as it should be: its head and its other set stay."""
+    names = [it.split('::') for it in sets() if not it.startswith(ALL) and it != APART]
+    without = turned()
+    found = [law for it in [*names, [TURNED, 'longer_sides']] for law in laws(*it) if law not in without]
+    alias = {}
+    for origin, part in dict.fromkeys(found):
+        alias[origin, part] = part if part not in alias.values() else f'{part}_of_{origin.split(".")[-1]}'
+    old = ALL_FILE.read_text()
+    head = re.match(r'(?:--.*\n)*', old)[0]
+    rest = old[old.index('\n', old.index(LINE)):]
+    words = SET.search(rest)[2].split(', ')
+    used = {}
+    for (origin, part), name in alias.items():
+        used.setdefault(origin, set()).add(part if part == name else f'{part} as {name}')
+    for file, chosen in names:
+        if chosen in words:
+            used.setdefault(HERE + file, set()).add(chosen)
+    imports = ''.join(f'use {origin}.{{{", ".join(sorted(parts))}}}\n' for origin, parts in sorted(used.items()))
+    return f'{head}{imports}\n{LINE}({", ".join(alias.values())}){rest}'
+
+
+if __name__ == '__main__':
+    ALL_FILE.write_text(text())
