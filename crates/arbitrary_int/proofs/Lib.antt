@@ -53,6 +53,7 @@ pub mod BitVector
 pub mod Conversions
 pub mod BitSums
 pub mod LowestPlace
+pub mod MaskedResults
 pub mod Extensions
 pub mod Saturations
 pub mod ComplementParts

@@ -24,6 +24,7 @@ pub mod known_counts;
 pub mod lowest_masks;
 pub mod lowest_place;
 pub mod mask_tests;
+pub mod masked_results;
 pub mod masks;
 pub mod mixed;
 pub mod moved_bits;
