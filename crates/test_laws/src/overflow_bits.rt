@@ -18,6 +18,27 @@ pub fn difference_overflows(x: i12, y: i12) -> bool
     (x ^ y) & (difference ^ x) < i12::zero()
 }
 
+pub fn sum_overflow_as_told(x: i24, y: i24) -> bool
+    ensures { IsTrue result }
+{
+    let sum = x.wrapping_add(y);
+    ((x ^ sum) & (y ^ sum) < i24::zero()) == x.overflowing_add(y).1
+}
+
+pub fn sum_and_flag(x: i12, y: i12) -> bool
+    ensures { IsTrue result }
+{
+    let (sum, overflow) = x.overflowing_add(y);
+    overflow == ((x ^ sum) & (y ^ sum) < i12::zero())
+}
+
+pub fn difference_and_flag(x: i12, y: i12) -> bool
+    ensures { IsTrue result }
+{
+    let (difference, overflow) = x.overflowing_sub(y);
+    ((x ^ y) & (x ^ difference) < i12::zero()) == overflow
+}
+
 #[tactic(auto, using(arbitrary_int::proofs::OverflowBits::sign_of_xor))]
 pub fn signs_differ(x: i48, y: i48) -> bool
     ensures { IsTrue result }
