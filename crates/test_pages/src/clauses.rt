@@ -1,6 +1,6 @@
 //! What clauses say of such integers: a value is its whole number there.
 
-ghost use Rattle.std.specs.Prelude.{◌≡◌, ◌+ℤ◌, ◌<ℤ◌, ◌%◌, pos};
+ghost use Rattle.std.specs.Prelude.{◌≡◌, ◌+ℤ◌, ◌<ℤ◌, ◌%◌, pos, unsigned_abs, slice_get, slice_set, Some};
 ghost use Rattle.arbitrary_int.specs.Residue.{Congruent};
 
 use arbitrary_int::prelude::*;
@@ -18,6 +18,20 @@ pub fn sum(a: u4, b: u4) -> u8
     ensures { pos result ≡ a +ℤ b }
 {
     a.value() + b.value()
+}
+
+/// The register of that number.
+pub fn register(registers: &[u12; 8], place: u3) -> u12
+    ensures { slice_get registers.now (unsigned_abs place) ≡ Some result }
+{
+    registers[place.as_usize()]
+}
+
+/// Writes one register. The others stay.
+pub fn write(registers: &mut [u12; 8], place: u3, value: u12)
+    ensures { registers.new ≡ slice_set registers.old (unsigned_abs place) value }
+{
+    registers[place.as_usize()] = value;
 }
 
 /// Two steps of a counter that wraps.

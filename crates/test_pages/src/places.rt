@@ -45,6 +45,15 @@ pub fn steps(count: u32) -> u12 {
     total
 }
 
+/// Whether the number of ones is odd.
+pub fn is_odd(number: u12) -> bool {
+    let mut odd = u12::new(0);
+    for place in 0..12u8 {
+        odd ^= (number >> place) & u12::new(1);
+    }
+    odd == u12::new(1)
+}
+
 /// How many numbers there are from `low` to `high`.
 pub fn numbers_between(low: u7, high: u7) -> usize
     requires { low ≤ℤ high }
