@@ -20,6 +20,7 @@ pub mod EmptyWord
 pub mod SingleBit
 pub mod OtherBits
 pub mod PrimitiveBit
+pub mod PrimitiveFlags
 pub mod BitTests
 pub mod BitByBit
 pub mod MovedBits

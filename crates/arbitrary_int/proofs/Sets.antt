@@ -16,6 +16,7 @@ use Rattle.arbitrary_int.proofs.KnownNumbers.{and-of_negative, and-of_positive, 
 use Rattle.arbitrary_int.proofs.MovedIn.{numeral_three, numeral_two, or_moved_in, or_two_moved_in}
 use Rattle.arbitrary_int.proofs.OtherBits.{gone-cleared, other_bit-cleared, other_bit-set, other_bit-turned, same_bit-set, same_bit-turned}
 use Rattle.arbitrary_int.proofs.PrimitiveBit.{bit_cleared, bit_cleared-other, bit_set, bit_set-other, bit_tested, bit_turned, bit_turned-other, set_then_cleared}
+use Rattle.arbitrary_int.proofs.PrimitiveFlags.{and_beside, or_flags, xor_flags}
 use Rattle.arbitrary_int.proofs.RangeNumbers.{last_of-joined, numbers-count, numbers-end, numbers-head}
 use Rattle.arbitrary_int.proofs.ReadBack.{low_of_three, middle_of_three}
 use Rattle.arbitrary_int.proofs.ReplacedField.{and_around, or-into_cleared, or_below_mask, or_into_hole, written-inside, written-outside}
@@ -55,6 +56,9 @@ pub ruleset other_bits = (Decides-int_eq, same_bit-set, other_bit-set, gone-clea
 
 -- one bit of a primitive by its place, as `1 << place` makes it: set, cleared, turned over and tested, and the others, which stay
 pub ruleset primitive_bits = (one_shifted, and_numeral, pos-unsigned_abs, bit_tested, bit_set, bit_set-other, bit_turned, bit_turned-other, bit_cleared, bit_cleared-other, set_then_cleared)
+
+-- flags of a primitive under a written mask: set, cleared, turned over and tested, also beside a field that is written
+pub ruleset primitive_flags = (and_beside, and_around, or_flags, xor_flags, or_into_hole, or_below_mask)
 
 -- the bytes of a value in a stream: how many they are, and what is read back
 pub ruleset streams = (Borsh-told, number-of_Borsh, number-of_Borsh_signed, first-of_Borsh, first-of_Borsh_signed, reverse-reverse)

@@ -13,6 +13,7 @@ pub mod machine;
 pub mod moved_in;
 pub mod packing;
 pub mod primitive_bits;
+pub mod primitive_flags;
 pub mod read_back;
 pub mod readers;
 pub mod records;
