@@ -35,11 +35,19 @@ python3 tools/wrong_bodies.py test_pages
 python3 tools/wrong_bodies.py --some 12 test_laws test_number_laws
 # what the libraries promise, four that the commit chooses
 python3 tools/wrong_bodies.py --some 4 \
+    arbitrary_base/{checked_sum_wraps,clamps_an_odd_power_of_a_negative_base_to_the_greatest_number} \
+    arbitrary_base/{converts_without_extending_the_sign,every_read_raises_the_flag,extracts_from_one_place_below} \
+    arbitrary_base/{leaves_the_last_byte_unwritten,lists_the_highest_byte_first,makes_64_multiplications_for_every_exponent} \
+    arbitrary_base/{overflow_flag_of_a_product_compares_with_the_storage,overflow_flag_of_a_sum_is_never_set} \
+    arbitrary_base/{reversed_pattern_stays_at_the_high_end,rotates_right_by_an_arithmetic_shift,saturated_sum_wraps} \
+    arbitrary_base/xors_where_it_should_or \
     arbitrary_traits/{conversion_drops_the_bits_from_64_up,masking_clamps_a_negative_source} \
     arbitrary_calls/{counts_the_ones_of_the_storage,right_shift_fills_with_zeros} \
     arbitrary_core/{order_is_that_of_the_bits,text_is_that_of_the_bits,valid_width_is_constant} \
     arbitrary_core/{default_of_a_signed_type_is_its_minimum,saturated_sum_by_the_trait_wraps} \
     arbitrary_core/greatest_number_by_the_trait_is_one_too_small_at_full_widths \
+    arbitrary_int/{every_list_is_well_formed,no_list_is_well_formed,negation_step_saturates,tells_the_place_after} \
+    arbitrary_int/undoes_an_earlier_step_at_a_stop \
     arbitrary_int/{no_bytes_are_canonical,reader_masks_excess_bits,reader_always_passes_a_fault_on,reader_takes_one_byte_too_many} \
     arbitrary_int/{reads_on_after_a_refusal,takes_an_old_fault_for_a_new_one,writer_always_passes_a_fault_on,writes_other_bytes} \
     arbitrary_int/{last_value_comes_from_both_ends,sum_tests_only_the_total,swap_bytes_answers_its_argument} \
