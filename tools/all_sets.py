@@ -1,7 +1,7 @@
 #!/usr/bin/env python3
 """Writes AllSets.antt: each law of the sets that docs/PROVING.md names, but for the set that stands apart, once. A law that stood there once
-for each set that has it would be tried as often, and the search would come to its limit. A law that LongerSide.antt turns round is left
-out. `find_set.py --listed` tells whether the file is so.
+for each set that has it would be tried as often, and the search would come to its limit. LongerSide.antt turns laws round, and
+PositiveParts.antt has some for fewer numbers: theirs stand in place of those. `find_set.py --listed` tells whether the file is so.
 """
 import re
 
@@ -9,7 +9,8 @@ from find_set import ALL, ALL_FILE, APART, sets
 
 PROOFS = ALL_FILE.parent
 HERE = 'Rattle.arbitrary_int.proofs.'
-TURNED = 'LongerSide'
+# The sets whose laws stand in place of the laws that they rest on.
+IN_PLACE = [['LongerSide', 'longer_sides'], ['PositiveParts', 'positive_parts']]
 IMPORT = re.compile(r'^use ([\w.]+)\.\{(.*)\}$', re.M)
 SET = re.compile(r'^pub ruleset (\w+) = \((.*)\)$', re.M)
 LINE = 'pub ruleset all_sets = '
@@ -34,17 +35,17 @@ def laws(name, chosen):
             yield origin, part
 
 
-def turned():
-    """The laws that LongerSide.antt turns round: those of other files that its lemmas rest on."""
-    imported, _ = module(TURNED)
-    return {(origin, part) for part, origin in imported.items() if '.arbitrary_' in origin and '.proofs.' in origin}
+def replaced():
+    """The laws in whose place others stand: those of other files that the lemmas of these rest on."""
+    imported = [law for name, _ in IN_PLACE for law in module(name)[0].items()]
+    return {(origin, part) for part, origin in imported if '.arbitrary_' in origin and '.proofs.' in origin}
 
 
 def text():
     """AllSets.antt as it should be: its head and its other set stay."""
     names = [it.split('::') for it in sets() if not it.startswith(ALL) and it != APART]
-    without = turned()
-    found = [law for it in [*names, [TURNED, 'longer_sides']] for law in laws(*it) if law not in without]
+    without = replaced()
+    found = [law for it in [*names, *IN_PLACE] for law in laws(*it) if law not in without]
     alias = {}
     for origin, part in dict.fromkeys(found):
         alias[origin, part] = part if part not in alias.values() else f'{part}_of_{origin.split(".")[-1]}'

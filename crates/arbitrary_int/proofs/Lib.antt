@@ -27,6 +27,7 @@ pub mod MovedBits
 pub mod MaskTests
 pub mod ShiftPairs
 pub mod LongerSide
+pub mod PositiveParts
 pub mod WrittenMask
 pub mod WrittenParts
 pub mod QuotientAndCube

@@ -1,6 +1,6 @@
 -- Written numbers that follow each other under `& | ^` are one: `(x | 0x0F) | 0xF0` is `x | 0xFF`, and so are the parts of a number
 -- under two masks.
-use Rattle.std.specs.Prelude.{◌≡◌, ℕ, ℤ, suc, Bool, pos, ◌≤◌, ◌≤ℤ◌}
+use Rattle.std.specs.Prelude.{◌≡◌, ℕ, ℤ, Bool, pos, ◌≤◌, ◌≤ℤ◌}
 use Rattle.std.specs.Int.Bits.{bit_and, bit_or, bit_xor}
 use Rattle.std.proofs.Common.{sym, ap, ◌∙◌, arith}
 use Rattle.std.proofs.lemmas.Int.{ints}
@@ -21,25 +21,24 @@ module _ (s : Bool) (B m n : ℕ) (h : 1 ≤ B) (f : pos m ≤ℤ hi s B) (g : p
   xor-numbers : bitwise_xor s B (pos m) (pos n) ≡ pos (bit_xor m n)
   xor-numbers = xor-plain s B (pos m) (pos n) _ h (masked s B m f) (masked s B n g) (xor-is s B _ _) (omega (arith, ints)) (omega (arith, ints))
 
--- `suc` leaves out a number that is not written out: of such ones the search would make ever more
-module _ (s : Bool) (B m n : ℕ) (x : ℤ) (h : 1 ≤ B) (f : pos (suc m) ≤ℤ hi s B) (g : pos (suc n) ≤ℤ hi s B) where
-  pub and-written : bitwise_and s B (bitwise_and s B x (pos (suc m))) (pos (suc n)) ≡ bitwise_and s B x (pos (bit_and (suc m) (suc n)))
-  and-written = bitwise_and-associates s B x _ _ ∙ ap (bitwise_and s B x) (and-numbers s B (suc m) (suc n) h f g)
+module _ (s : Bool) (B m n : ℕ) (x : ℤ) (h : 1 ≤ B) (f : pos m ≤ℤ hi s B) (g : pos n ≤ℤ hi s B) where
+  pub and-written : bitwise_and s B (bitwise_and s B x (pos m)) (pos n) ≡ bitwise_and s B x (pos (bit_and m n))
+  and-written = bitwise_and-associates s B x _ _ ∙ ap (bitwise_and s B x) (and-numbers s B m n h f g)
 
-  pub or-written : bitwise_or s B (bitwise_or s B x (pos (suc m))) (pos (suc n)) ≡ bitwise_or s B x (pos (bit_or (suc m) (suc n)))
-  or-written = bitwise_or-associates s B x _ _ ∙ ap (bitwise_or s B x) (or-numbers s B (suc m) (suc n) h f g)
+  pub or-written : bitwise_or s B (bitwise_or s B x (pos m)) (pos n) ≡ bitwise_or s B x (pos (bit_or m n))
+  or-written = bitwise_or-associates s B x _ _ ∙ ap (bitwise_or s B x) (or-numbers s B m n h f g)
 
-  pub xor-written : bitwise_xor s B (bitwise_xor s B x (pos (suc m))) (pos (suc n)) ≡ bitwise_xor s B x (pos (bit_xor (suc m) (suc n)))
-  xor-written = bitwise_xor-associates s B x _ _ ∙ ap (bitwise_xor s B x) (xor-numbers s B (suc m) (suc n) h f g)
+  pub xor-written : bitwise_xor s B (bitwise_xor s B x (pos m)) (pos n) ≡ bitwise_xor s B x (pos (bit_xor m n))
+  xor-written = bitwise_xor-associates s B x _ _ ∙ ap (bitwise_xor s B x) (xor-numbers s B m n h f g)
 
-  pub or-of_written_parts : bitwise_or s B (bitwise_and s B x (pos (suc m))) (bitwise_and s B x (pos (suc n))) ≡ bitwise_and s B x (pos (bit_or (suc m) (suc n)))
-  or-of_written_parts = sym (and-distributes_or s B x _ _) ∙ ap (bitwise_and s B x) (or-numbers s B (suc m) (suc n) h f g)
+  pub or-of_written_parts : bitwise_or s B (bitwise_and s B x (pos m)) (bitwise_and s B x (pos n)) ≡ bitwise_and s B x (pos (bit_or m n))
+  or-of_written_parts = sym (and-distributes_or s B x _ _) ∙ ap (bitwise_and s B x) (or-numbers s B m n h f g)
 
-  pub xor-of_written_parts : bitwise_xor s B (bitwise_and s B x (pos (suc m))) (bitwise_and s B x (pos (suc n))) ≡ bitwise_and s B x (pos (bit_xor (suc m) (suc n)))
-  xor-of_written_parts = sym (and-distributes_xor s B x _ _) ∙ ap (bitwise_and s B x) (xor-numbers s B (suc m) (suc n) h f g)
+  pub xor-of_written_parts : bitwise_xor s B (bitwise_and s B x (pos m)) (bitwise_and s B x (pos n)) ≡ bitwise_and s B x (pos (bit_xor m n))
+  xor-of_written_parts = sym (and-distributes_xor s B x _ _) ∙ ap (bitwise_and s B x) (xor-numbers s B m n h f g)
 
-  pub and-of_written_or : bitwise_and s B (bitwise_or s B x (pos (suc m))) (pos (suc n)) ≡ bitwise_or s B (bitwise_and s B x (pos (suc n))) (pos (bit_and (suc m) (suc n)))
+  pub and-of_written_or : bitwise_and s B (bitwise_or s B x (pos m)) (pos n) ≡ bitwise_or s B (bitwise_and s B x (pos n)) (pos (bit_and m n))
   and-of_written_or =
-      bitwise_and-commutes s B _ _ ∙ and-distributes_or s B (pos (suc n)) x (pos (suc m))
-      ∙ ap (λ (y : ℤ). bitwise_or s B y (bitwise_and s B (pos (suc n)) (pos (suc m)))) (bitwise_and-commutes s B _ _)
-      ∙ ap (bitwise_or s B _) (bitwise_and-commutes s B _ _ ∙ and-numbers s B (suc m) (suc n) h f g)
+      bitwise_and-commutes s B _ _ ∙ and-distributes_or s B (pos n) x (pos m)
+      ∙ ap (λ (y : ℤ). bitwise_or s B y (bitwise_and s B (pos n) (pos m))) (bitwise_and-commutes s B _ _)
+      ∙ ap (bitwise_or s B _) (bitwise_and-commutes s B _ _ ∙ and-numbers s B m n h f g)
