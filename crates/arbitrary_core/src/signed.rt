@@ -1,8 +1,8 @@
 //! Signed integers of any width, in two's complement.
 
-ghost use Rattle.std.specs.Prelude.{◌≡◌, ◌↔◌, ◌<◌, ◌≤◌, ◌-ℤ◌, ◌<ℤ◌, ◌^◌, pos, neg_ℤ, IsTrue, IfOk, MatchResult, ⊤, SomeIff, option_map};
+ghost use Rattle.std.specs.Prelude.{not, ◌≡◌, ◌↔◌, ◌<◌, ◌≤◌, ◌-ℤ◌, ◌<ℤ◌, ◌^◌, pos, neg_ℤ, IsTrue, IfOk, MatchResult, ⊤, SomeIff, option_map};
 ghost use Rattle.std.specs.Int.{IsInRange};
-ghost use Rattle.arbitrary_base.specs.Range.{InRange, hi};
+ghost use Rattle.arbitrary_base.specs.Range.{InRange, hi, in_range};
 ghost use Rattle.arbitrary_base.specs.Residue.{residue, wrap, Congruent};
 ghost use Rattle.arbitrary_base.specs.Operation.{wrapped_difference};
 ghost use Rattle.arbitrary_base.specs.Saturation.{clamp};
@@ -240,8 +240,10 @@ where
     /// The negated number, wrapped, and whether the exact one is out of range.
     #[tactic(auto, using(arbitrary_base::proofs::modular::ExactOrCongruent::wrapped))]
     pub fn overflowing_neg(self) -> (Self, bool)
+        ensures operation { result.0 ≡ wrapped_difference T.SIGNED BITS (pos 0) self }
         ensures value { result.0 ≡ wrap T.SIGNED BITS (neg_ℤ self) }
         ensures overflow { IsTrue result.1 ↔ ¬ (InRange T.SIGNED BITS (neg_ℤ self)) }
+        ensures flag { result.1 ≡ not (in_range T.SIGNED BITS (neg_ℤ self)) }
         ensures exact { InRange T.SIGNED BITS (neg_ℤ self) → result.0 ≡ neg_ℤ self }
         ensures congruent { Congruent BITS result.0 (neg_ℤ self) }
     {

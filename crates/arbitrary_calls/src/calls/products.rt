@@ -3,7 +3,7 @@
 ghost use Rattle.std.specs.Prelude.{length, not, ◌≡◌, ◌≢◌, ◌↔◌, ◌≤◌, ◌*◌, ◌<ℤ◌, ◌*ℤ◌, ℤ, pos, neg_ℤ, IsTrue, int_div, Some, SomeIff, option_map};
 ghost use Rattle.std.specs.Int.{int_pow};
 ghost use Rattle.std.specs.Int.Digits.{digits_of};
-ghost use Rattle.arbitrary_base.specs.Range.{InRange, lo, hi};
+ghost use Rattle.arbitrary_base.specs.Range.{InRange, in_range, lo, hi};
 ghost use Rattle.arbitrary_base.specs.Residue.{Congruent, wrap};
 ghost use Rattle.arbitrary_base.specs.Saturation.{clamp};
 ghost use Rattle.arbitrary_base.specs.Operation.{wrapped_product};
@@ -74,10 +74,14 @@ pub trait ProductCalls: Stored + LowBits {
     /// The product, wrapped, and whether the exact one is out of range.
     #[tactic(auto, using(arbitrary_base::proofs::modular::ExactOrCongruent::wrapped))]
     final fn overflowing_mul(self, rhs: Self) -> (Self, bool)
+        ensures operation { let number = Self.number in
+            number result.0 ≡ wrapped_product Self.IS_SIGNED Self.BITS (number self) (number rhs) }
         ensures value { let product = Self.number self *ℤ Self.number rhs in
             Self.number result.0 ≡ wrap Self.IS_SIGNED Self.BITS product }
         ensures overflow { let product = Self.number self *ℤ Self.number rhs in
             IsTrue result.1 ↔ ¬ (InRange Self.IS_SIGNED Self.BITS product) }
+        ensures flag { let product = Self.number self *ℤ Self.number rhs in
+            result.1 ≡ not (in_range Self.IS_SIGNED Self.BITS product) }
         ensures exact { let product = Self.number self *ℤ Self.number rhs in
             InRange Self.IS_SIGNED Self.BITS product → Self.number result.0 ≡ product }
         ensures congruent { let product = Self.number self *ℤ Self.number rhs in
@@ -158,6 +162,8 @@ pub trait ProductCalls: Stored + LowBits {
             Self.number result.0 ≡ wrap Self.IS_SIGNED Self.BITS quotient }
         ensures overflow { let quotient = int_div (Self.number self) (Self.number rhs) in
             IsTrue result.1 ↔ ¬ (InRange Self.IS_SIGNED Self.BITS quotient) }
+        ensures flag { let quotient = int_div (Self.number self) (Self.number rhs) in
+            result.1 ≡ not (in_range Self.IS_SIGNED Self.BITS quotient) }
         ensures exact { let quotient = int_div (Self.number self) (Self.number rhs) in
             InRange Self.IS_SIGNED Self.BITS quotient → Self.number result.0 ≡ quotient }
         ensures of_least { let number = Self.number in
