@@ -8,7 +8,7 @@ pub record Congruent (B : ℕ) (x y : ℤ) : Type 0 where
   pub times : ℤ
   pub apart : x -ℤ y ≡ times *ℤ pos (2 ^ B)
 
--- the same between two types of which one has a sign; of two without, nothing is said: there the low bits are a remainder
+-- the same between two types of which at least one has a sign; of two without, nothing is said: there the low bits are a remainder
 abbrev pub SignedCongruent : Bool → Bool → ℕ → ℤ → ℤ → Type 0
 SignedCongruent false false B x y = Unit
 SignedCongruent false true B x y = Congruent B x y

@@ -2,7 +2,7 @@
 //! meet it in `primitives`, and `UInt` and `Int` in `arbitrary_core`, with a body for each call. A call with one body for
 //! all stands in a trait that requires less: of `numbered`, or of `arbitrary_calls`.
 
-ghost use Rattle.std.specs.Prelude.{◌≡◌, ◌≢◌, ◌<◌, ◌+ℤ◌, ◌-ℤ◌, ◌*ℤ◌, ℤ, true, false, pos, neg_ℤ, Some, MatchResult, int_div, map, not};
+ghost use Rattle.std.specs.Prelude.{◌≡◌, ◌≢◌, ◌<◌, ◌^◌, ◌+ℤ◌, ◌-ℤ◌, ◌*ℤ◌, ℤ, true, false, pos, neg_ℤ, Some, MatchResult, int_div, map, not};
 ghost use Rattle.std.specs.Ordering.{int_cmp, int_eq};
 ghost use Rattle.std.specs.Fmt.{signed_decimal};
 ghost use Rattle.arbitrary_base.specs.Range.{lo, hi, InRange};
@@ -111,6 +111,8 @@ pub trait Integer: Numbered
     fn from_unsigned(value: Self::UnsignedInteger) -> Self
         ensures value { Self.number result ≡ wrap Self.IS_SIGNED Self.BITS (unsigned_number value) }
         ensures congruent { Congruent Self.BITS (Self.number result) (unsigned_number value) }
+        ensures congruent_to { (y : ℤ) → Congruent Self.BITS (unsigned_number value) y
+            → Congruent Self.BITS (Self.number result) y }
         ensures undo { (y : ℤ) → let pattern = wrap false Self.BITS y in
             InRange Self.IS_SIGNED Self.BITS y → unsigned_number value ≡ pattern
             → Self.number result ≡ y };
@@ -200,6 +202,9 @@ pub trait Integer: Numbered
 /// An integer type that has no sign.
 pub trait UnsignedInteger: Integer {
     ghost unsigned_law: { Self.IS_SIGNED ≡ false };
+
+    // 1 is a number of it.
+    ghost one_law: { Self.valid → 1 < 2 ^ Self.BITS };
 }
 
 /// An integer type that has a sign. Unary minus is allowed where the exact result is in range, and

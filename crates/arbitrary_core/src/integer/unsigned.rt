@@ -4,6 +4,7 @@
 ghost use Rattle.std.specs.Prelude.{refl};
 ghost use Rattle.std.specs.Int.{IsInRange};
 ghost use Rattle.std.proofs.Common.{le_trans};
+ghost use Rattle.std.proofs.lemmas.Nat.{pow_below};
 ghost use Rattle.arbitrary_traits.specs.Assigned.{all_assigned};
 
 use crate::signed::Int;
@@ -145,6 +146,8 @@ where
     <T::Signed as BuiltinInteger>::Unsigned: UnsignedOf<T::Signed>,
 {
     ghost unsigned_law = { T.unsigned_law };
+
+    ghost one_law = { λ v. pow_below 0 BITS v.0 };
 }
 
 impl<T: BuiltinInteger + UnsignedStorage, const BITS: usize> UnsignedCounterpart<UInt<T, BITS>>

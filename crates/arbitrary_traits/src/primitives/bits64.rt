@@ -2,7 +2,8 @@
 
 ghost use Rattle.std.specs.Prelude.{◌+◌, ◌*◌, ◌+ℤ◌, ◌-ℤ◌, ◌*ℤ◌, pos, neg_ℤ, refl};
 ghost use Rattle.std.specs.Int.{w64};
-ghost use Rattle.std.proofs.Common.{ap};
+ghost use Rattle.std.proofs.Common.{ap, lit≤};
+ghost use Rattle.std.proofs.lemmas.Nat.{pow_below};
 ghost use Rattle.arbitrary_traits.specs.Assigned.{all_assigned};
 ghost use Rattle.arbitrary_base.proofs.storages.PrimitiveOperators.{lt-of_in_range, nat_eq-pos, nonzero-pos, signed-divides, signed-fits, sub-in_range, sub-pos};
 ghost use Rattle.arbitrary_base.proofs.storages.PrimitiveBits.{bitand-signed, bitand-unsigned, bitor-signed, bitor-unsigned, bitxor-signed, bitxor-unsigned, not-signed, not-unsigned};
@@ -56,6 +57,8 @@ impl Primitive for u64 {
 
 impl UnsignedInteger for u64 {
     ghost unsigned_law = { refl };
+
+    ghost one_law = { λ _. pow_below 0 64 (lit≤ tt) };
 }
 
 impl Primitive for i64 {
