@@ -1,6 +1,6 @@
 //! What generic code knows of the operators and calls of an integer of fixed width. The calls stand in `calls`.
 
-ghost use Rattle.std.specs.Prelude.{not, Bool, ℕ, ◌&&◌, ◌||◌, ◌⊎◌, ◌≡◌, ◌+◌, ◌-◌, ◌+ℤ◌, ◌≤ℤ◌, ℤ, pos, false, true};
+ghost use Rattle.std.specs.Prelude.{not, Bool, ℕ, ◌&&◌, ◌||◌, ◌⊎◌, ◌≡◌, ◌+◌, ◌-◌, ◌+ℤ◌, ◌-ℤ◌, ◌*ℤ◌, ◌≤ℤ◌, ℤ, pos, false, true};
 ghost use Rattle.std.specs.Bool.{beq};
 ghost use Rattle.std.specs.List.{count_by, suffix_len, prefix_len};
 ghost use Rattle.arbitrary_base.specs.Range.{InRange, hi, lo};
@@ -30,6 +30,32 @@ pub trait FixedWidth: Integer + FixedWidthCalls {
 
     ghost complement_law: { (a r : Self) → Self.not_gives a r
         → Self.number r ≡ bitwise_not Self.IS_SIGNED Self.BITS (Self.number a) };
+
+    // The operators that may overflow, with no premise of what they give: each value is in range, so one may be made where its result is in
+    // range if the operands are.
+    ghost may_add: { (a b : Self) → let number = Self.number in
+        let in_range = InRange Self.IS_SIGNED Self.BITS in
+        (in_range (number a) → in_range (number b) → in_range (number a +ℤ number b))
+        → Self.can_add a b };
+
+    ghost exact_sum: { (a b r : Self) → Self.add_gives a b r
+        → Self.number r ≡ Self.number a +ℤ Self.number b };
+
+    ghost may_sub: { (a b : Self) → let number = Self.number in
+        let in_range = InRange Self.IS_SIGNED Self.BITS in
+        (in_range (number a) → in_range (number b) → in_range (number a -ℤ number b))
+        → Self.can_sub a b };
+
+    ghost exact_difference: { (a b r : Self) → Self.sub_gives a b r
+        → Self.number r ≡ Self.number a -ℤ Self.number b };
+
+    ghost may_mul: { (a b : Self) → let number = Self.number in
+        let in_range = InRange Self.IS_SIGNED Self.BITS in
+        (in_range (number a) → in_range (number b) → in_range (number a *ℤ number b))
+        → Self.can_mul a b };
+
+    ghost exact_product: { (a b r : Self) → Self.mul_gives a b r
+        → Self.number r ≡ Self.number a *ℤ Self.number b };
 
     // For proofs in generic code, where the check knows of an operator or a call what these laws say, and takes no set beside them. They are
     // over functions of values: a law on numbers would be tried at each number of equal value. But for those that turn operands round, none
@@ -85,9 +111,6 @@ pub trait FixedWidth: Integer + FixedWidthCalls {
 
     ghost and_commutes: { (a b : Self) → and_of a b ≡ and_of b a };
 
-    ghost and_associates: { (a b c d : Self) → d ≡ and_of a b
-        → and_of d c ≡ and_of a (and_of b c) };
-
     ghost or_of: { (a b : Self) → Self };
 
     ghost or_gives: { (a b r : Self) → Self.bitor_gives a b r
@@ -126,9 +149,6 @@ pub trait FixedWidth: Integer + FixedWidthCalls {
 
     ghost xor_commutes: { (a b : Self) → xor_of a b ≡ xor_of b a };
 
-    ghost xor_associates: { (a b c d : Self) → d ≡ xor_of a b
-        → xor_of d c ≡ xor_of a (xor_of b c) };
-
     ghost not_of: { (a : Self) → Self };
 
     ghost complement_gives: { (a r : Self) → Self.not_gives a r
@@ -156,9 +176,6 @@ pub trait FixedWidth: Integer + FixedWidthCalls {
 
     ghost not_number: { (x : ℤ) (a : Self) → a ≡ value_of x
         → bitwise_not Self.IS_SIGNED Self.BITS x ≡ Self.number (not_of a) };
-
-    ghost and_of_or: { (a b c d : Self) → d ≡ or_of b c
-        → and_of a d ≡ or_of (and_of a b) (and_of a c) };
 
     ghost or_of_and: { (a b c d : Self) → d ≡ and_of b c
         → or_of a d ≡ and_of (or_of a b) (or_of a c) };

@@ -6,7 +6,7 @@ ghost use Rattle.std.proofs.lemmas.Bool.Decides.{Decides-int_eq};
 ghost use Rattle.arbitrary_base.specs.Range.{hi, lo};
 ghost use Rattle.arbitrary_base.specs.Operation.{bitwise_and, bitwise_not, bitwise_or, bitwise_xor, reversed, wrapped_difference, wrapped_product, wrapped_sum};
 ghost use Rattle.arbitrary_base.proofs.operations.Amount.{amount-none, count_of_ones, difference-after_sum, difference-again, difference-alike, difference-of_ones, difference-own, difference-with_zero, leading_ones-of_not, leading_run, leading_run-is, leading_run-of_reversed, leading_zeros-of_not, left, left-none, left-of_amount, left-of_and, left-of_or, left-of_right, left-of_sum, left-of_xor, left-of_zero, left-own, left_turn-of_amount, ones-is, ones-of_not, ones-of_reversed, ones-of_turned, ones-of_zero, own-in_range, own_value, own_value-is, product-again, product-own, product-with_sum, reversed-back, reversed-of_ones, reversed-of_turned, reversed-of_zero, reversed-own, right, right-none, right-of_amount, right-of_and, right-of_or, right-of_xor, right-of_zero, right-own, right_turn-of_amount, sum-after_difference, sum-again, sum-own, sum-to_difference_of, sum-where_disjoint, sum-with_negated, sum-with_zero, trailing_ones-of_not, trailing_run, trailing_run-is, trailing_run-of_reversed, trailing_zeros-of_not, turned, turned-none, turned-of_and, turned-of_not, turned-of_ones, turned-of_or, turned-of_xor, turned-of_zero, turned-own};
-ghost use Rattle.arbitrary_base.proofs.operations.Bitwise.{and-distributes_or, bitwise_and-associates, bitwise_and-commutes, bitwise_or-associates, bitwise_or-commutes, bitwise_xor-associates, bitwise_xor-commutes, not-and_parts, not-or_parts, or-distributes_and};
+ghost use Rattle.arbitrary_base.proofs.operations.Bitwise.{bitwise_and-commutes, bitwise_or-associates, bitwise_or-commutes, bitwise_xor-commutes, not-and_parts, not-or_parts, or-distributes_and};
 ghost use Rattle.arbitrary_base.proofs.operations.RotateAndReverse.{reversed-and, reversed-not, reversed-or, reversed-xor};
 ghost use Rattle.arbitrary_base.proofs.operations.WrappedRing.{wrapped_product-commutes, wrapped_product-zero, wrapped_sum-commutes};
 ghost use Rattle.arbitrary_base.proofs.operations.BitByBit.{and-itself, bit_at, bit_at-and, bit_at-not, bit_at-or, bit_at-xor, bit_at-zero, equal-or_differ, is_own_bits, not-twice, own_bits, own_bits-and, own_bits-not, own_bits-or, own_bits-xor, own_bits-zero, xor-none_equal, xor-twice};
@@ -29,6 +29,18 @@ where
     ghost xor_law = { λ a b r h. h.0 ∙ sym (xor-is _ _ _ _) };
 
     ghost complement_law = { λ a r h. h.0 ∙ sym (not-is _ _ _) };
+
+    ghost may_add = { λ a b h. h };
+
+    ghost exact_sum = { λ a b r h. h };
+
+    ghost may_sub = { λ a b h. h };
+
+    ghost exact_difference = { λ a b r h. h };
+
+    ghost may_mul = { λ a b h. h };
+
+    ghost exact_product = { λ a b r h. h };
 
     ghost bit = { λ a i. bit_at BITS a i };
 
@@ -76,9 +88,6 @@ where
 
     ghost and_commutes = { λ a b. bitwise_and-commutes T.SIGNED BITS a b };
 
-    ghost and_associates = { λ a b c d e. ap (λ (x : ℤ). bitwise_and T.SIGNED BITS x c) e
-        ∙ bitwise_and-associates T.SIGNED BITS a b c };
-
     ghost or_of = { λ a b. bitwise_or T.SIGNED BITS a b };
 
     ghost or_gives = { λ a b r h. (
@@ -118,9 +127,6 @@ where
 
     ghost xor_commutes = { λ a b. bitwise_xor-commutes T.SIGNED BITS a b };
 
-    ghost xor_associates = { λ a b c d e. ap (λ (x : ℤ). bitwise_xor T.SIGNED BITS x c) e
-        ∙ bitwise_xor-associates T.SIGNED BITS a b c };
-
     ghost not_of = { λ a. bitwise_not T.SIGNED BITS a };
 
     ghost complement_gives = { λ a r h. (h.0 ∙ sym (not-is _ _ _), own_bits _ _ _ h.1) };
@@ -138,9 +144,6 @@ where
     ghost not_bit = { λ a i b e. bit_at-not T.SIGNED BITS a i ∙ ap not (sym e) };
 
     ghost not_number = { λ x a e. ap (bitwise_not T.SIGNED BITS) (sym e) };
-
-    ghost and_of_or = { λ a b c d e. ap (bitwise_and T.SIGNED BITS a) e
-        ∙ and-distributes_or T.SIGNED BITS a b c };
 
     ghost or_of_and = { λ a b c d e. ap (bitwise_or T.SIGNED BITS a) e
         ∙ or-distributes_and T.SIGNED BITS a b c };
