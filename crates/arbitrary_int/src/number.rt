@@ -1,7 +1,7 @@
 //! Unsigned integers as the first version of the original crate saw them. New code takes `Integer`, which has
 //! the same calls and signed integers too.
 
-ghost use Rattle.std.specs.Prelude.{◌≡◌, ◌≤◌, ℕ, pos, false, refl, MatchResult};
+ghost use Rattle.std.specs.Prelude.{◌≡◌, ◌≤◌, ◌<◌, ◌%◌, ◌^◌, ℕ, pos, false, refl, unsigned_abs, MatchResult};
 ghost use Rattle.arbitrary_base.specs.Range.{lo, hi, InRange};
 ghost use Rattle.arbitrary_base.specs.Residue.{wrap};
 
@@ -85,6 +85,8 @@ pub trait Number: UnsignedInteger + Integer<UnderlyingType = <Self as Number>::U
         ensures value { let given = T.number value in
             Self.number result ≡ wrap Self.IS_SIGNED Self.Numbered.BITS given }
         ensures wider { T.Numbered.BITS ≤ Self.Numbered.BITS → Self.number result ≡ T.number value }
+        ensures low { Self.Numbered.BITS ≤ T.Numbered.BITS
+            → Self.number result ≡ pos (unsigned_abs (T.number value) % 2 ^ Self.Numbered.BITS) }
     {
         <Self as Numbered>::masked_new(value)
     }
@@ -93,6 +95,8 @@ pub trait Number: UnsignedInteger + Integer<UnderlyingType = <Self as Number>::U
     final fn as_u8(&self) -> u8
         ensures value { pos result ≡ wrap false 8 (Self.number self.now) }
         ensures wider { Self.Numbered.BITS ≤ 8 → pos result ≡ Self.number self.now }
+        ensures low { 8 < Self.Numbered.BITS
+            → result ≡ unsigned_abs (Self.number self.now) % 2 ^ 8 }
     {
         Numbered::as_u8(*self)
     }
@@ -101,6 +105,8 @@ pub trait Number: UnsignedInteger + Integer<UnderlyingType = <Self as Number>::U
     final fn as_u16(&self) -> u16
         ensures value { pos result ≡ wrap false 16 (Self.number self.now) }
         ensures wider { Self.Numbered.BITS ≤ 16 → pos result ≡ Self.number self.now }
+        ensures low { 16 < Self.Numbered.BITS
+            → result ≡ unsigned_abs (Self.number self.now) % 2 ^ 16 }
     {
         Numbered::as_u16(*self)
     }
@@ -109,6 +115,8 @@ pub trait Number: UnsignedInteger + Integer<UnderlyingType = <Self as Number>::U
     final fn as_u32(&self) -> u32
         ensures value { pos result ≡ wrap false 32 (Self.number self.now) }
         ensures wider { Self.Numbered.BITS ≤ 32 → pos result ≡ Self.number self.now }
+        ensures low { 32 < Self.Numbered.BITS
+            → result ≡ unsigned_abs (Self.number self.now) % 2 ^ 32 }
     {
         Numbered::as_u32(*self)
     }
@@ -117,6 +125,8 @@ pub trait Number: UnsignedInteger + Integer<UnderlyingType = <Self as Number>::U
     final fn as_u64(&self) -> u64
         ensures value { pos result ≡ wrap false 64 (Self.number self.now) }
         ensures wider { Self.Numbered.BITS ≤ 64 → pos result ≡ Self.number self.now }
+        ensures low { 64 < Self.Numbered.BITS
+            → result ≡ unsigned_abs (Self.number self.now) % 2 ^ 64 }
     {
         Numbered::as_u64(*self)
     }
@@ -125,6 +135,8 @@ pub trait Number: UnsignedInteger + Integer<UnderlyingType = <Self as Number>::U
     final fn as_u128(&self) -> u128
         ensures value { pos result ≡ wrap false 128 (Self.number self.now) }
         ensures wider { Self.Numbered.BITS ≤ 128 → pos result ≡ Self.number self.now }
+        ensures low { 128 < Self.Numbered.BITS
+            → result ≡ unsigned_abs (Self.number self.now) % 2 ^ 128 }
     {
         Numbered::as_u128(*self)
     }
@@ -133,6 +145,8 @@ pub trait Number: UnsignedInteger + Integer<UnderlyingType = <Self as Number>::U
     final fn as_usize(&self) -> usize
         ensures value { pos result ≡ wrap false 64 (Self.number self.now) }
         ensures wider { Self.Numbered.BITS ≤ 64 → pos result ≡ Self.number self.now }
+        ensures low { 64 < Self.Numbered.BITS
+            → result ≡ unsigned_abs (Self.number self.now) % 2 ^ 64 }
     {
         Numbered::as_usize(*self)
     }
@@ -142,6 +156,8 @@ pub trait Number: UnsignedInteger + Integer<UnderlyingType = <Self as Number>::U
         requires { T.valid }
         ensures value { T.number result ≡ wrap T.IS_SIGNED T.Numbered.BITS (Self.number self) }
         ensures wider { Self.Numbered.BITS ≤ T.Numbered.BITS → T.number result ≡ Self.number self }
+        ensures low { T.Numbered.BITS ≤ Self.Numbered.BITS
+            → T.number result ≡ pos (unsigned_abs (Self.number self) % 2 ^ T.Numbered.BITS) }
     {
         <T as Numbered>::masked_new(self)
     }
