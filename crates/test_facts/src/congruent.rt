@@ -11,6 +11,12 @@ pub fn distance(from: i12, to: i12) -> u12
     to.wrapping_sub(from).to_unsigned()
 }
 
+pub fn turn(from: u14, to: u14) -> i14
+    ensures { Congruent 14 result (to -ℤ from) }
+{
+    i14::from_unsigned(to.wrapping_sub(from))
+}
+
 pub fn negated(x: u12) -> u12
     ensures { Congruent 12 result (pos 0 -ℤ x) }
 {

@@ -1,6 +1,7 @@
 //! The operators `!`, `&` and `|` beside the order and the ends of the range, in code that is generic in the type.
 
-ghost use Rattle.std.specs.Prelude.{◌≤ℤ◌, IsTrue};
+ghost use Rattle.std.specs.Prelude.{◌≡◌, ◌+ℤ◌, ◌-ℤ◌, ◌≤ℤ◌, ◌<ℤ◌, pos, IsTrue};
+ghost use Rattle.arbitrary_int.specs.Range.{hi, lo};
 
 use arbitrary_int::prelude::*;
 
@@ -59,4 +60,71 @@ pub fn flags_only_add<V: FixedWidth + UnsignedInteger>(x: V, flags: V) -> V
     ensures { V.number x ≤ℤ V.number result }
 {
     x | flags
+}
+
+pub fn one<V: FixedWidth + UnsignedInteger>() -> V
+    requires { V.valid }
+    ensures { V.number result ≡ pos 1 }
+{
+    V::from_(1u8)
+}
+
+pub fn next<V: FixedWidth + ValidWidth + UnsignedInteger>(x: V) -> V
+    ensures { V.number x <ℤ hi V.IS_SIGNED V.BITS → V.number result ≡ V.number x +ℤ pos 1 }
+{
+    if x < V::max_value() {
+        x + V::from_(1u8)
+    } else {
+        x
+    }
+}
+
+pub fn previous<V: FixedWidth + ValidWidth + UnsignedInteger>(x: V) -> V
+    ensures { pos 0 <ℤ V.number x → V.number result ≡ V.number x -ℤ pos 1 }
+{
+    if x == V::zero() { x } else { x - V::from_(1u8) }
+}
+
+pub fn absolute_difference<V: FixedWidth + UnsignedInteger>(x: V, y: V) -> V
+    ensures down { V.number y ≤ℤ V.number x → V.number result ≡ V.number x -ℤ V.number y }
+    ensures up { V.number x ≤ℤ V.number y → V.number result ≡ V.number y -ℤ V.number x }
+{
+    if x > y { x - y } else { y - x }
+}
+
+pub fn difference_of_a_number_at_most_as_great<V: FixedWidth>(x: V, y: V) -> V
+    requires sign { pos 0 ≤ℤ V.number y }
+    requires order { V.number y ≤ℤ V.number x }
+    requires low { lo V.IS_SIGNED V.BITS ≤ℤ pos 0 }
+    ensures { V.number result ≡ V.number x -ℤ V.number y }
+{
+    x - y
+}
+
+pub fn spread<V: FixedWidth + UnsignedInteger>(x: V, y: V) -> V {
+    x.max(y) - x.min(y)
+}
+
+pub fn sum_in_range<V: FixedWidth + UnsignedInteger>(x: V, y: V) -> V
+    requires { (V.number x +ℤ V.number y) ≤ℤ hi V.IS_SIGNED V.BITS }
+    ensures { V.number result ≡ V.number x +ℤ V.number y }
+{
+    x + y
+}
+
+pub fn added_to<V: FixedWidth + UnsignedInteger>(total: &mut V, x: V)
+    requires { (V.number total.old +ℤ V.number x) ≤ℤ hi V.IS_SIGNED V.BITS }
+    ensures { V.number total.new ≡ V.number total.old +ℤ V.number x }
+{
+    *total += x;
+}
+
+pub fn clamped_sum<V: FixedWidth + ValidWidth + UnsignedInteger>(x: V, y: V) -> V
+    ensures { V.number result ≤ℤ hi V.IS_SIGNED V.BITS }
+{
+    if x > V::max_value() - y {
+        V::max_value()
+    } else {
+        x + y
+    }
 }

@@ -169,3 +169,21 @@ pub fn xor_parts<V: FixedWidth>(x: V, y: V) -> bool
 {
     x ^ y == (x | y) & !(x & y)
 }
+
+pub fn parts_under_a_mask<V: FixedWidth>(x: V, mask: V) -> bool
+    ensures { IsTrue result }
+{
+    (x & mask) | (x & !mask) == x
+}
+
+pub fn written_field_is_read_back<V: FixedWidth>(x: V, field: V, mask: V) -> bool
+    ensures { IsTrue result }
+{
+    ((x & !mask) | (field & mask)) & mask == field & mask
+}
+
+pub fn written_field_leaves_the_others<V: FixedWidth>(x: V, field: V, mask: V) -> bool
+    ensures { IsTrue result }
+{
+    ((x & !mask) | (field & mask)) & !mask == x & !mask
+}

@@ -138,6 +138,12 @@ pub fn complement_of_and<V: FixedWidth>(x: V, y: V) -> V
     !(x & y)
 }
 
+pub fn complement_of_or<V: FixedWidth>(x: V, y: V) -> V
+    ensures { V.number result ≡ bitwise_and V.IS_SIGNED V.BITS (bitwise_not V.IS_SIGNED V.BITS (V.number x)) (bitwise_not V.IS_SIGNED V.BITS (V.number y)) }
+{
+    !(x | y)
+}
+
 pub fn sum_with_a_difference<V: FixedWidth>(x: V, y: V) -> bool
     requires { V.valid }
     ensures { IsTrue result }

@@ -65,3 +65,18 @@ pub fn counted_in_two_words(low: &mut u16, high: &mut u13)
         *low += 1;
     }
 }
+
+pub fn branch_target(counter: u14, offset: i7) -> u14
+    ensures { Congruent 14 result (counter +ℤ pos 1 +ℤ offset) }
+{
+    counter
+        .wrapping_add(u14::new(1))
+        .wrapping_add(offset.as_::<u14>())
+}
+
+pub fn address_in_a_table(base: u24, index: i12, offset: i7) -> u24
+    ensures { Congruent 24 result (base +ℤ index +ℤ offset) }
+{
+    base.wrapping_add(index.as_::<u24>())
+        .wrapping_add(u24::masked_new(offset))
+}
