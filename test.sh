@@ -45,7 +45,7 @@ python3 tools/wrong_bodies.py --some 4 \
     arbitrary_calls/{counts_the_ones_of_the_storage,right_shift_fills_with_zeros} \
     arbitrary_core/{order_is_that_of_the_bits,text_is_that_of_the_bits,valid_width_is_constant} \
     arbitrary_core/{default_of_a_signed_type_is_its_minimum,saturated_sum_by_the_trait_wraps} \
-    arbitrary_core/greatest_number_by_the_trait_is_one_too_small_at_full_widths \
+    arbitrary_core/{greatest_number_by_the_trait_is_one_too_small_at_full_widths,greater_number_is_that_of_the_bits} \
     arbitrary_int/{every_list_is_well_formed,no_list_is_well_formed,negation_step_saturates,tells_the_place_after} \
     arbitrary_int/undoes_an_earlier_step_at_a_stop \
     arbitrary_int/{no_bytes_are_canonical,reader_masks_excess_bits,reader_always_passes_a_fault_on,reader_takes_one_byte_too_many} \

@@ -1,6 +1,6 @@
 //! Equality and order of `Int`: those of the number, and not of its bits. `unsigned` has those of `UInt`, which keeps its number.
 
-ghost use Rattle.std.specs.Prelude.{◌≡◌, ◌≤ℤ◌, ◌<ℤ◌, ◌+ℤ◌, ◌-ℤ◌, ◌-◌, ◌^◌, pos};
+ghost use Rattle.std.specs.Prelude.{◌≡◌, ◌⊎◌, ◌≤ℤ◌, ◌<ℤ◌, ◌+ℤ◌, ◌-ℤ◌, ◌-◌, ◌^◌, pos};
 ghost use Rattle.std.specs.Int.{IsInRange};
 ghost use Rattle.std.specs.Ordering.{int_cmp, int_eq, as_partial_cmp};
 ghost use Rattle.std.specs.Cmp.{partial_order_from_own_ties};
@@ -77,5 +77,47 @@ where
 
     fn cmp(&self, other: &Self) -> Ordering {
         compare(&place(*self), &place(*other))
+    }
+}
+
+// What `Ord` gives under these names, told by bounds. `Ord` tells it by a word that a search splits by the sign of each number, so that facts of
+// three numbers stay open. A `UInt` has no sign to split by, and none of these.
+impl<T: BuiltinInteger + SignedStorage, const BITS: usize> Int<T, BITS>
+where
+    T::Unsigned: UnsignedOf<T>,
+{
+    /// The greater of two numbers.
+    pub fn max(self, other: Self) -> Self
+        ensures left { self ≤ℤ result }
+        ensures right { other ≤ℤ result }
+        ensures either { (result ≡ self) ⊎ (result ≡ other) }
+    {
+        if self < other { other } else { self }
+    }
+
+    /// The lesser of two numbers.
+    pub fn min(self, other: Self) -> Self
+        ensures left { result ≤ℤ self }
+        ensures right { result ≤ℤ other }
+        ensures either { (result ≡ self) ⊎ (result ≡ other) }
+    {
+        if other < self { other } else { self }
+    }
+
+    /// The number, or the end of `low` to `high` that is nearest to it. `low` is at most `high`.
+    pub fn clamp(self, low: Self, high: Self) -> Self
+        requires order { low ≤ℤ high }
+        ensures least { low ≤ℤ result }
+        ensures greatest { result ≤ℤ high }
+        ensures nearest { ((self <ℤ low) × (result ≡ low))
+            ⊎ (((high <ℤ self) × (result ≡ high)) ⊎ (result ≡ self)) }
+    {
+        if self < low {
+            low
+        } else if high < self {
+            high
+        } else {
+            self
+        }
     }
 }
