@@ -24,5 +24,6 @@ pub mod quotients;
 pub mod ranges;
 pub mod rotations;
 pub mod sign_masks;
+pub mod signed_orders;
 pub mod single_bits;
 pub mod undone;

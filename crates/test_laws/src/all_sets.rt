@@ -84,3 +84,9 @@ pub fn without_sign(x: i12, y: i12) -> bool
 {
     (x & y).to_unsigned() == x.to_unsigned() & y.to_unsigned()
 }
+
+pub fn xor_of_min_and_max(x: i12, y: i12) -> bool
+    ensures { IsTrue result }
+{
+    x.min(y) ^ x.max(y) == x ^ y
+}

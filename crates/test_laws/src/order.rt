@@ -79,9 +79,3 @@ pub fn shr_by_more(x: u12, j: u8, k: u8) -> bool
 {
     x >> k <= x >> j
 }
-
-pub fn xor_of_min_and_max(x: i12, y: i12) -> bool
-    ensures { IsTrue result }
-{
-    x.min(y) ^ x.max(y) == x ^ y
-}
