@@ -48,7 +48,17 @@ fn making_a_value_and_reading_it_25(rt: HostRuntime) {
     same(&rt, i7::new(-1).is_negative(), true);
     same(&rt, u7::new(3) == u7::new(3), true);
     same(&rt, i7::new(-1) < i7::new(0), true);
+    same(&rt, i7::new(-3).max(i7::new(2)), i7::new(2));
+    same(
+        &rt,
+        i7::new(-50).clamp(i7::new(-9), i7::new(9)),
+        i7::new(-9),
+    );
     same(&rt, u1::from(true), u1::new(1));
+}
+
+#[test]
+fn making_a_value_and_reading_it_33(rt: HostRuntime) {
     same(&rt, bool::from(u1::new(0)), false);
 }
 
