@@ -1,6 +1,7 @@
 //! The conditions of calls, and how a caller meets them.
 
 ghost use Rattle.std.specs.Prelude.{◌≡◌, ◌+ℤ◌, ◌≤ℤ◌, ◌<ℤ◌, ◌%◌, pos, int_div};
+ghost use Rattle.arbitrary_int.specs.Residue.{Congruent};
 
 use arbitrary_int::prelude::*;
 
@@ -19,6 +20,13 @@ pub fn level(byte: u8) -> Option<u4> {
 /// The level that a byte says, or why there is none.
 pub fn read_level(byte: u8) -> Result<u4, TryNewError> {
     u4::try_new(byte)
+}
+
+/// The word as a signed number, with the same bits.
+pub fn signed_word(word: u32) -> i32
+    ensures { Congruent 32 result (pos word) }
+{
+    word.as_i32()
 }
 
 /// The sum of two samples that are known to be small.
