@@ -1,6 +1,7 @@
 //! Sums, products, quotients and comparisons.
 
-ghost use Rattle.std.specs.Prelude.{◌≡◌, ◌↔◌, ◌+ℤ◌, ◌-ℤ◌, ◌*ℤ◌, ◌≤ℤ◌, ◌<ℤ◌, pos, neg_ℤ, int_div, IsTrue};
+ghost use Rattle.std.specs.Prelude.{◌≡◌, ◌↔◌, ◌+ℤ◌, ◌-ℤ◌, ◌*ℤ◌, ◌≤ℤ◌, ◌<ℤ◌, not, true, pos, neg_ℤ, int_div, IsTrue};
+ghost use Rattle.arbitrary_int.specs.Range.{in_range};
 ghost use Rattle.arbitrary_int.specs.Residue.{Congruent};
 
 use arbitrary_int::prelude::*;
@@ -305,4 +306,16 @@ pub fn smaller(a: i12, b: i12) -> i12
     ensures right { result ≤ℤ b }
 {
     if a < b { a } else { b }
+}
+
+pub fn product_is_out_of_range(x: i12, y: i12) -> bool
+    ensures { result ≡ not (in_range true 12 (x *ℤ y)) }
+{
+    x.overflowing_mul(y).1
+}
+
+pub fn negation_is_out_of_range<const BITS: usize>(x: Int<i32, BITS>) -> bool
+    ensures { result ≡ not (in_range true BITS (neg_ℤ x.entry)) }
+{
+    x.overflowing_neg().1
 }

@@ -76,3 +76,9 @@ pub fn highest_times(x: u12) -> bool
 {
     u12::max_value().wrapping_mul(x) == x.wrapping_neg()
 }
+
+pub fn product_beside_its_flag(x: i12, y: i12, z: i12) -> bool
+    ensures { IsTrue result }
+{
+    x.overflowing_mul(y.wrapping_add(z)).0 == x.wrapping_mul(y).wrapping_add(x.wrapping_mul(z))
+}

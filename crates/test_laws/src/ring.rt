@@ -52,3 +52,9 @@ pub fn difference_of_sums(x: u24, y: u24, z: u24) -> bool
 {
     x.wrapping_add(z).wrapping_sub(y.wrapping_add(z)) == x.wrapping_sub(y)
 }
+
+pub fn negated_twice_beside_the_flag(x: i12) -> bool
+    ensures { IsTrue result }
+{
+    x.overflowing_neg().0.overflowing_neg().0 == x
+}
