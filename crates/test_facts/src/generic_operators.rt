@@ -1,7 +1,7 @@
-//! The operators `!`, `&` and `|` beside the order and the ends of the range, in code that is generic in the type.
+//! Operators beside the order and the ends of the range, in code that is generic in the type.
 
 ghost use Rattle.std.specs.Prelude.{◌≡◌, ◌+ℤ◌, ◌-ℤ◌, ◌≤ℤ◌, ◌<ℤ◌, pos, IsTrue};
-ghost use Rattle.arbitrary_int.specs.Range.{hi, lo};
+ghost use Rattle.arbitrary_int.specs.Range.{hi};
 
 use arbitrary_int::prelude::*;
 
@@ -92,13 +92,20 @@ pub fn absolute_difference<V: FixedWidth + UnsignedInteger>(x: V, y: V) -> V
     if x > y { x - y } else { y - x }
 }
 
-pub fn difference_of_a_number_at_most_as_great<V: FixedWidth>(x: V, y: V) -> V
+pub fn difference_of_a_number_at_most_as_great<V: FixedWidth + ValidWidth>(x: V, y: V) -> V
     requires sign { pos 0 ≤ℤ V.number y }
     requires order { V.number y ≤ℤ V.number x }
-    requires low { lo V.IS_SIGNED V.BITS ≤ℤ pos 0 }
     ensures { V.number result ≡ V.number x -ℤ V.number y }
 {
     x - y
+}
+
+pub fn difference_and_back<V: FixedWidth + UnsignedInteger>(x: V, y: V) -> bool
+    requires { V.number y ≤ℤ V.number x }
+    ensures { IsTrue result }
+{
+    let _known = x.to_u128_bits();
+    (x - y) + y == x
 }
 
 pub fn spread<V: FixedWidth + UnsignedInteger>(x: V, y: V) -> V {
@@ -120,7 +127,8 @@ pub fn added_to<V: FixedWidth + UnsignedInteger>(total: &mut V, x: V)
 }
 
 pub fn clamped_sum<V: FixedWidth + ValidWidth + UnsignedInteger>(x: V, y: V) -> V
-    ensures { V.number result ≤ℤ hi V.IS_SIGNED V.BITS }
+    ensures exact { let sum = V.number x +ℤ V.number y in sum ≤ℤ hi V.IS_SIGNED V.BITS → V.number result ≡ sum }
+    ensures above { let highest = hi V.IS_SIGNED V.BITS in highest <ℤ (V.number x +ℤ V.number y) → V.number result ≡ highest }
 {
     if x > V::max_value() - y {
         V::max_value()
