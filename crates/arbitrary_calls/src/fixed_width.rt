@@ -32,22 +32,24 @@ pub trait FixedWidth: Integer + FixedWidthCalls {
         → Self.number r ≡ bitwise_not Self.IS_SIGNED Self.BITS (Self.number a) };
 
     // The operators that may overflow, with no premise of what they give: each value is in range, so one may be made where its result is in
-    // range if the operands are.
+    // range if the operands are. A sum and a difference tell that their operands are.
     ghost may_add: { (a b : Self) → let number = Self.number in
         let in_range = InRange Self.IS_SIGNED Self.BITS in
         (in_range (number a) → in_range (number b) → in_range (number a +ℤ number b))
         → Self.can_add a b };
 
-    ghost exact_sum: { (a b r : Self) → Self.add_gives a b r
-        → Self.number r ≡ Self.number a +ℤ Self.number b };
+    ghost exact_sum: { (a b r : Self) → let number = Self.number in Self.add_gives a b r
+        → (number r ≡ number a +ℤ number b) × InRange Self.IS_SIGNED Self.BITS (number a)
+        × InRange Self.IS_SIGNED Self.BITS (number b) };
 
     ghost may_sub: { (a b : Self) → let number = Self.number in
         let in_range = InRange Self.IS_SIGNED Self.BITS in
         (in_range (number a) → in_range (number b) → in_range (number a -ℤ number b))
         → Self.can_sub a b };
 
-    ghost exact_difference: { (a b r : Self) → Self.sub_gives a b r
-        → Self.number r ≡ Self.number a -ℤ Self.number b };
+    ghost exact_difference: { (a b r : Self) → let number = Self.number in Self.sub_gives a b r
+        → (number r ≡ number a -ℤ number b) × InRange Self.IS_SIGNED Self.BITS (number a)
+        × InRange Self.IS_SIGNED Self.BITS (number b) };
 
     ghost may_mul: { (a b : Self) → let number = Self.number in
         let in_range = InRange Self.IS_SIGNED Self.BITS in

@@ -104,8 +104,28 @@ pub fn difference_and_back<V: FixedWidth + UnsignedInteger>(x: V, y: V) -> bool
     requires { V.number y ≤ℤ V.number x }
     ensures { IsTrue result }
 {
-    let _known = x.to_u128_bits();
     (x - y) + y == x
+}
+
+pub fn sum_and_back<V: FixedWidth + UnsignedInteger>(x: V, y: V) -> bool
+    requires { (V.number x +ℤ V.number y) ≤ℤ hi V.IS_SIGNED V.BITS }
+    ensures { IsTrue result }
+{
+    (x + y) - y == x
+}
+
+pub fn sum_is_at_least<V: FixedWidth + UnsignedInteger>(x: V, y: V) -> bool
+    requires { (V.number x +ℤ V.number y) ≤ℤ hi V.IS_SIGNED V.BITS }
+    ensures { IsTrue result }
+{
+    x + y >= x
+}
+
+pub fn difference_is_at_most<V: FixedWidth + UnsignedInteger>(x: V, y: V) -> bool
+    requires { V.number y ≤ℤ V.number x }
+    ensures { IsTrue result }
+{
+    x - y <= x
 }
 
 pub fn spread<V: FixedWidth + UnsignedInteger>(x: V, y: V) -> V {

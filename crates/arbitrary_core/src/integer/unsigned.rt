@@ -107,11 +107,11 @@ where
 
     ghost can_add_law = { λ a b h _ _. h };
 
-    ghost add_law = { λ a b r h f. h };
+    ghost add_law = { λ a b r h f. h.0 };
 
     ghost can_sub_law = { λ a b h _ _. h };
 
-    ghost sub_law = { λ a b r h f. h };
+    ghost sub_law = { λ a b r h f. h.0 };
 
     ghost can_mul_law = { λ a b h _ _. h };
 

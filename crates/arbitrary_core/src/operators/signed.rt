@@ -1,6 +1,7 @@
 //! `+ - * /` and unary minus of `Int`, exact: the precondition is that the result is in range, and that a
-//! divisor is not zero. That the operands are in range is given, and of a product its bound: no greater in magnitude
-//! than the magnitudes' product, which always holds, and beside which a check finds that the product fits.
+//! divisor is not zero. That the operands are in range is given, and `+` and `-` tell it of what they took. Of a product its
+//! bound is given: no greater in magnitude than the magnitudes' product, which always holds, and beside which a check finds
+//! that the product fits.
 
 ghost use Rattle.std.specs.Prelude.{◌≡◌, ◌≢◌, ◌+ℤ◌, ◌-ℤ◌, ◌*ℤ◌, ◌*◌, ◌≤◌, neg_ℤ, pos, int_div, unsigned_abs};
 ghost use Rattle.arbitrary_base.specs.Range.{InRange};
@@ -19,7 +20,8 @@ where
     ghost can_add = { λ a b. let sum = a +ℤ b in
         InRange T.SIGNED BITS a → InRange T.SIGNED BITS b → InRange T.SIGNED BITS sum };
 
-    ghost add_gives = { λ a b r. r ≡ a +ℤ b };
+    ghost add_gives = { λ a b r. (r ≡ a +ℤ b)
+        × InRange T.SIGNED BITS a × InRange T.SIGNED BITS b };
 
     #[tactic(auto, using(arbitrary_base::proofs::storages::CheckedSum::fitting))]
     fn add(self, rhs: Int<T, BITS>) -> Int<T, BITS> {
@@ -34,7 +36,8 @@ where
     ghost can_add_assign = { λ a b. let sum = a +ℤ b in
         InRange T.SIGNED BITS a → InRange T.SIGNED BITS b → InRange T.SIGNED BITS sum };
 
-    ghost add_assign_gives = { λ a b r. r ≡ a +ℤ b };
+    ghost add_assign_gives = { λ a b r. (r ≡ a +ℤ b)
+        × InRange T.SIGNED BITS a × InRange T.SIGNED BITS b };
 
     fn add_assign(&mut self, rhs: Int<T, BITS>) {
         *self = *self + rhs;
@@ -50,7 +53,8 @@ where
     ghost can_sub = { λ a b. let difference = a -ℤ b in
         InRange T.SIGNED BITS a → InRange T.SIGNED BITS b → InRange T.SIGNED BITS difference };
 
-    ghost sub_gives = { λ a b r. r ≡ a -ℤ b };
+    ghost sub_gives = { λ a b r. (r ≡ a -ℤ b)
+        × InRange T.SIGNED BITS a × InRange T.SIGNED BITS b };
 
     #[tactic(auto, using(arbitrary_base::proofs::storages::CheckedSum::fitting))]
     fn sub(self, rhs: Int<T, BITS>) -> Int<T, BITS> {
@@ -65,7 +69,8 @@ where
     ghost can_sub_assign = { λ a b. let difference = a -ℤ b in
         InRange T.SIGNED BITS a → InRange T.SIGNED BITS b → InRange T.SIGNED BITS difference };
 
-    ghost sub_assign_gives = { λ a b r. r ≡ a -ℤ b };
+    ghost sub_assign_gives = { λ a b r. (r ≡ a -ℤ b)
+        × InRange T.SIGNED BITS a × InRange T.SIGNED BITS b };
 
     fn sub_assign(&mut self, rhs: Int<T, BITS>) {
         *self = *self - rhs;

@@ -1,5 +1,5 @@
 //! `+ - * /` of `UInt`, exact: the precondition is that the result is in range, and that a
-//! divisor is not zero. That the operands are in range is given.
+//! divisor is not zero. That the operands are in range is given, and `+` and `-` tell it of what they took.
 
 ghost use Rattle.std.specs.Prelude.{◌≡◌, ◌≢◌, ◌+ℤ◌, ◌-ℤ◌, ◌*ℤ◌, pos, int_div};
 ghost use Rattle.arbitrary_base.specs.Range.{InRange};
@@ -15,7 +15,8 @@ impl<T: UnsignedStorage, const BITS: usize> Add<UInt<T, BITS>> for UInt<T, BITS>
     ghost can_add = { λ a b. let sum = a +ℤ b in
         InRange T.SIGNED BITS a → InRange T.SIGNED BITS b → InRange T.SIGNED BITS sum };
 
-    ghost add_gives = { λ a b r. r ≡ a +ℤ b };
+    ghost add_gives = { λ a b r. (r ≡ a +ℤ b)
+        × InRange T.SIGNED BITS a × InRange T.SIGNED BITS b };
 
     #[tactic(auto, using(arbitrary_base::proofs::storages::CheckedSum::fitting))]
     fn add(self, rhs: UInt<T, BITS>) -> UInt<T, BITS> {
@@ -27,7 +28,8 @@ impl<T: UnsignedStorage, const BITS: usize> AddAssign<UInt<T, BITS>> for UInt<T,
     ghost can_add_assign = { λ a b. let sum = a +ℤ b in
         InRange T.SIGNED BITS a → InRange T.SIGNED BITS b → InRange T.SIGNED BITS sum };
 
-    ghost add_assign_gives = { λ a b r. r ≡ a +ℤ b };
+    ghost add_assign_gives = { λ a b r. (r ≡ a +ℤ b)
+        × InRange T.SIGNED BITS a × InRange T.SIGNED BITS b };
 
     fn add_assign(&mut self, rhs: UInt<T, BITS>) {
         *self = *self + rhs;
@@ -40,7 +42,8 @@ impl<T: UnsignedStorage, const BITS: usize> Sub<UInt<T, BITS>> for UInt<T, BITS>
     ghost can_sub = { λ a b. let difference = a -ℤ b in
         InRange T.SIGNED BITS a → InRange T.SIGNED BITS b → InRange T.SIGNED BITS difference };
 
-    ghost sub_gives = { λ a b r. r ≡ a -ℤ b };
+    ghost sub_gives = { λ a b r. (r ≡ a -ℤ b)
+        × InRange T.SIGNED BITS a × InRange T.SIGNED BITS b };
 
     #[tactic(auto, using(arbitrary_base::proofs::storages::CheckedSum::fitting))]
     fn sub(self, rhs: UInt<T, BITS>) -> UInt<T, BITS> {
@@ -52,7 +55,8 @@ impl<T: UnsignedStorage, const BITS: usize> SubAssign<UInt<T, BITS>> for UInt<T,
     ghost can_sub_assign = { λ a b. let difference = a -ℤ b in
         InRange T.SIGNED BITS a → InRange T.SIGNED BITS b → InRange T.SIGNED BITS difference };
 
-    ghost sub_assign_gives = { λ a b r. r ≡ a -ℤ b };
+    ghost sub_assign_gives = { λ a b r. (r ≡ a -ℤ b)
+        × InRange T.SIGNED BITS a × InRange T.SIGNED BITS b };
 
     fn sub_assign(&mut self, rhs: UInt<T, BITS>) {
         *self = *self - rhs;
