@@ -4,8 +4,9 @@ use Rattle.std.specs.Ordering.{int_eq}
 use Rattle.std.proofs.Common.{refl, ap, sym, subst, ◌∙◌}
 use Rattle.std.proofs.lemmas.Bool.Decides.{Decides-int_eq, same_from_decides}
 use Rattle.arbitrary_base.specs.Range.{InRange}
-use Rattle.arbitrary_base.specs.Residue.{residue, wrap}
+use Rattle.arbitrary_base.specs.Residue.{Congruent, residue, wrap}
 use Rattle.arbitrary_base.specs.BitList.{bits, num, val}
+use Rattle.arbitrary_base.proofs.modular.Congruence.{Congruent-trans}
 use Rattle.arbitrary_base.proofs.modular.Residue.{residue-lt, congruent-wrap, wrap-congruent, wrap-in_range, wrap-same}
 use Rattle.arbitrary_base.proofs.storages.Primitive.{unsigned-in_range}
 use Rattle.arbitrary_base.proofs.modular.RoundTrip.{pattern-stays, number-stays, number-of_residue}
@@ -16,7 +17,11 @@ pub pattern-range : (t : Bool) (B : ℕ) (x p : ℤ) → t ≡ false → pos (re
 pattern-range t B x p e f =
     subst (λ (z : ℤ). InRange t B z) f (subst (λ (u : Bool). InRange u B (pos (residue B x))) (sym e) (unsigned-in_range B _ (residue-lt B x)))
 
-pub ruleset stored = (pattern-stays, number-stays, pattern-range, congruent-wrap, wrap-congruent, wrap-in_range)
+-- the number of a pattern is congruent to what the pattern is
+pub wrap-congruent_to : (s : Bool) (B : ℕ) (p y : ℤ) → Congruent B p y → Congruent B (wrap s B p) y
+wrap-congruent_to s B p y c = Congruent-trans B (wrap s B p) p y (wrap-congruent s B p) c
+
+pub ruleset stored = (pattern-stays, number-stays, pattern-range, congruent-wrap, wrap-congruent, wrap-congruent_to, wrap-in_range)
 
 -- the truncation of p, which is that of x at the other sign, is that of x
 pub wrapped-twice : (s t : Bool) (B : ℕ) (x p r : ℤ) → 1 ≤ B → p ≡ wrap t B x → r ≡ wrap s B p → r ≡ wrap s B x

@@ -1,6 +1,6 @@
 //! Signed integers of any width, in two's complement.
 
-ghost use Rattle.std.specs.Prelude.{not, ◌≡◌, ◌↔◌, ◌<◌, ◌≤◌, ◌-ℤ◌, ◌<ℤ◌, ◌^◌, pos, neg_ℤ, IsTrue, IfOk, MatchResult, ⊤, SomeIff, option_map};
+ghost use Rattle.std.specs.Prelude.{not, ◌≡◌, ◌↔◌, ◌<◌, ◌≤◌, ◌-ℤ◌, ◌<ℤ◌, ◌^◌, ℤ, pos, neg_ℤ, IsTrue, IfOk, MatchResult, ⊤, SomeIff, option_map};
 ghost use Rattle.std.specs.Int.{IsInRange};
 ghost use Rattle.arbitrary_base.specs.Range.{InRange, hi, in_range};
 ghost use Rattle.arbitrary_base.specs.Residue.{residue, wrap, Congruent};
@@ -154,6 +154,8 @@ where
         ensures bits { pos (residue BITS result) ≡ T.Unsigned.number bits }
         ensures number { result ≡ wrap T.SIGNED BITS (T.Unsigned.number bits) }
         ensures congruent { Congruent BITS result (T.Unsigned.number bits) }
+        ensures congruent_to { (y : ℤ) → Congruent BITS (T.Unsigned.number bits) y
+            → Congruent BITS result y }
     {
         Int {
             bits,
@@ -169,6 +171,8 @@ where
         ensures bits { pos (residue BITS result) ≡ T.Unsigned.number bits }
         ensures number { result ≡ wrap T.SIGNED BITS (T.Unsigned.number bits) }
         ensures congruent { Congruent BITS result (T.Unsigned.number bits) }
+        ensures congruent_to { (y : ℤ) → Congruent BITS (T.Unsigned.number bits) y
+            → Congruent BITS result y }
     {
         Int::<T, BITS>::from_bits(bits)
     }

@@ -52,7 +52,9 @@ pub trait Numbered: Copy + Sealed {
     }
 
     // Here and in `as_` to `as_isize` premises on signs and widths bring the equation, or the congruence
-    // where the number may change. `congruent` is for each equal `y`, so that no search opens it unasked.
+    // where the number may change. `congruent` is for each equal `y`, so that no search opens it unasked. `congruent_to` is for
+    // what the number is congruent to at its own width; in `as_u8` to `as_isize` only where it has no sign, or comparing a byte of
+    // a signed number stays open.
     /// The type's number that is congruent to that of `value` modulo `2 ^ BITS`: high bits are
     /// dropped, and the sign is extended. The width is valid.
     #[tactic(auto, using(crate::proofs::Conversion::conversions))]
@@ -69,6 +71,8 @@ pub trait Numbered: Copy + Sealed {
         ensures other_sign { let given = T.number value in
             T.IS_SIGNED ≡ not IS_SIGNED → Congruent BITS (number result) given }
         ensures congruent { (y : ℤ) → T.number value ≡ y → Congruent BITS (number result) y }
+        ensures congruent_to { (y : ℤ) → BITS ≤ T.BITS
+            → Congruent T.BITS (T.number value) y → Congruent BITS (number result) y }
         ensures told { let given = T.number value in
             SignedCongruent T.IS_SIGNED IS_SIGNED BITS (number result) given }
         ensures range { InRange T.IS_SIGNED T.BITS (T.number value) }
@@ -91,6 +95,8 @@ pub trait Numbered: Copy + Sealed {
         ensures other_sign { let given = number self in
             IS_SIGNED ≡ not T.IS_SIGNED → Congruent T.BITS (T.number result) given }
         ensures congruent { (y : ℤ) → number self ≡ y → Congruent T.BITS (T.number result) y }
+        ensures congruent_to { (y : ℤ) → T.BITS ≤ BITS
+            → Congruent BITS (number self) y → Congruent T.BITS (T.number result) y }
         ensures told { let given = number self in
             SignedCongruent IS_SIGNED T.IS_SIGNED T.BITS (T.number result) given }
         ensures range { InRange IS_SIGNED BITS (number self) }
@@ -107,6 +113,8 @@ pub trait Numbered: Copy + Sealed {
         ensures low { IS_SIGNED ≡ false → 8 < BITS → result ≡ unsigned_abs (number self) % 2 ^ 8 }
         ensures signed { IS_SIGNED ≡ true → Congruent 8 (pos result) (number self) }
         ensures congruent { (y : ℤ) → number self ≡ y → Congruent 8 (pos result) y }
+        ensures congruent_to { (y : ℤ) → IS_SIGNED ≡ false → 8 ≤ BITS
+            → Congruent BITS (number self) y → Congruent 8 (pos result) y }
         ensures range { InRange IS_SIGNED BITS (number self) }
         ensures width { valid }
     {
@@ -121,6 +129,8 @@ pub trait Numbered: Copy + Sealed {
         ensures low { IS_SIGNED ≡ false → 16 < BITS → result ≡ unsigned_abs (number self) % 2 ^ 16 }
         ensures signed { IS_SIGNED ≡ true → Congruent 16 (pos result) (number self) }
         ensures congruent { (y : ℤ) → number self ≡ y → Congruent 16 (pos result) y }
+        ensures congruent_to { (y : ℤ) → IS_SIGNED ≡ false → 16 ≤ BITS
+            → Congruent BITS (number self) y → Congruent 16 (pos result) y }
         ensures range { InRange IS_SIGNED BITS (number self) }
         ensures width { valid }
     {
@@ -135,6 +145,8 @@ pub trait Numbered: Copy + Sealed {
         ensures low { IS_SIGNED ≡ false → 32 < BITS → result ≡ unsigned_abs (number self) % 2 ^ 32 }
         ensures signed { IS_SIGNED ≡ true → Congruent 32 (pos result) (number self) }
         ensures congruent { (y : ℤ) → number self ≡ y → Congruent 32 (pos result) y }
+        ensures congruent_to { (y : ℤ) → IS_SIGNED ≡ false → 32 ≤ BITS
+            → Congruent BITS (number self) y → Congruent 32 (pos result) y }
         ensures range { InRange IS_SIGNED BITS (number self) }
         ensures width { valid }
     {
@@ -149,6 +161,8 @@ pub trait Numbered: Copy + Sealed {
         ensures low { IS_SIGNED ≡ false → 64 < BITS → result ≡ unsigned_abs (number self) % 2 ^ 64 }
         ensures signed { IS_SIGNED ≡ true → Congruent 64 (pos result) (number self) }
         ensures congruent { (y : ℤ) → number self ≡ y → Congruent 64 (pos result) y }
+        ensures congruent_to { (y : ℤ) → IS_SIGNED ≡ false → 64 ≤ BITS
+            → Congruent BITS (number self) y → Congruent 64 (pos result) y }
         ensures range { InRange IS_SIGNED BITS (number self) }
         ensures width { valid }
     {
@@ -162,6 +176,8 @@ pub trait Numbered: Copy + Sealed {
         ensures wider { IS_SIGNED ≡ false → BITS ≤ 128 → pos result ≡ number self }
         ensures signed { IS_SIGNED ≡ true → Congruent 128 (pos result) (number self) }
         ensures congruent { (y : ℤ) → number self ≡ y → Congruent 128 (pos result) y }
+        ensures congruent_to { (y : ℤ) → IS_SIGNED ≡ false → 128 ≤ BITS
+            → Congruent BITS (number self) y → Congruent 128 (pos result) y }
         ensures range { InRange IS_SIGNED BITS (number self) }
         ensures width { valid }
     {
@@ -176,6 +192,8 @@ pub trait Numbered: Copy + Sealed {
         ensures low { IS_SIGNED ≡ false → 64 < BITS → result ≡ unsigned_abs (number self) % 2 ^ 64 }
         ensures signed { IS_SIGNED ≡ true → Congruent 64 (pos result) (number self) }
         ensures congruent { (y : ℤ) → number self ≡ y → Congruent 64 (pos result) y }
+        ensures congruent_to { (y : ℤ) → IS_SIGNED ≡ false → 64 ≤ BITS
+            → Congruent BITS (number self) y → Congruent 64 (pos result) y }
         ensures range { InRange IS_SIGNED BITS (number self) }
         ensures width { valid }
     {
@@ -191,6 +209,8 @@ pub trait Numbered: Copy + Sealed {
         ensures as_wide { IS_SIGNED ≡ true → BITS ≤ 8 → result ≡ number self }
         ensures narrower { 8 ≤ BITS → Congruent 8 result (number self) }
         ensures congruent { (y : ℤ) → number self ≡ y → Congruent 8 result y }
+        ensures congruent_to { (y : ℤ) → IS_SIGNED ≡ false → 8 ≤ BITS
+            → Congruent BITS (number self) y → Congruent 8 result y }
         ensures range { InRange IS_SIGNED BITS (number self) }
         ensures width { valid }
     {
@@ -206,6 +226,8 @@ pub trait Numbered: Copy + Sealed {
         ensures as_wide { IS_SIGNED ≡ true → BITS ≤ 16 → result ≡ number self }
         ensures narrower { 16 ≤ BITS → Congruent 16 result (number self) }
         ensures congruent { (y : ℤ) → number self ≡ y → Congruent 16 result y }
+        ensures congruent_to { (y : ℤ) → IS_SIGNED ≡ false → 16 ≤ BITS
+            → Congruent BITS (number self) y → Congruent 16 result y }
         ensures range { InRange IS_SIGNED BITS (number self) }
         ensures width { valid }
     {
@@ -221,6 +243,8 @@ pub trait Numbered: Copy + Sealed {
         ensures as_wide { IS_SIGNED ≡ true → BITS ≤ 32 → result ≡ number self }
         ensures narrower { 32 ≤ BITS → Congruent 32 result (number self) }
         ensures congruent { (y : ℤ) → number self ≡ y → Congruent 32 result y }
+        ensures congruent_to { (y : ℤ) → IS_SIGNED ≡ false → 32 ≤ BITS
+            → Congruent BITS (number self) y → Congruent 32 result y }
         ensures range { InRange IS_SIGNED BITS (number self) }
         ensures width { valid }
     {
@@ -236,6 +260,8 @@ pub trait Numbered: Copy + Sealed {
         ensures as_wide { IS_SIGNED ≡ true → BITS ≤ 64 → result ≡ number self }
         ensures narrower { 64 ≤ BITS → Congruent 64 result (number self) }
         ensures congruent { (y : ℤ) → number self ≡ y → Congruent 64 result y }
+        ensures congruent_to { (y : ℤ) → IS_SIGNED ≡ false → 64 ≤ BITS
+            → Congruent BITS (number self) y → Congruent 64 result y }
         ensures range { InRange IS_SIGNED BITS (number self) }
         ensures width { valid }
     {
@@ -251,6 +277,8 @@ pub trait Numbered: Copy + Sealed {
         ensures as_wide { IS_SIGNED ≡ true → BITS ≤ 128 → result ≡ number self }
         ensures narrower { 128 ≤ BITS → Congruent 128 result (number self) }
         ensures congruent { (y : ℤ) → number self ≡ y → Congruent 128 result y }
+        ensures congruent_to { (y : ℤ) → IS_SIGNED ≡ false → 128 ≤ BITS
+            → Congruent BITS (number self) y → Congruent 128 result y }
         ensures range { InRange IS_SIGNED BITS (number self) }
         ensures width { valid }
     {
@@ -266,6 +294,8 @@ pub trait Numbered: Copy + Sealed {
         ensures as_wide { IS_SIGNED ≡ true → BITS ≤ 64 → result ≡ number self }
         ensures narrower { 64 ≤ BITS → Congruent 64 result (number self) }
         ensures congruent { (y : ℤ) → number self ≡ y → Congruent 64 result y }
+        ensures congruent_to { (y : ℤ) → IS_SIGNED ≡ false → 64 ≤ BITS
+            → Congruent BITS (number self) y → Congruent 64 result y }
         ensures range { InRange IS_SIGNED BITS (number self) }
         ensures width { valid }
     {

@@ -1,6 +1,6 @@
-//! What is known up to a multiple of the numbers of the type: distances and negated numbers.
+//! What is known up to a multiple of the numbers of the type: distances, negated numbers, and the low bits of what wraps.
 
-ghost use Rattle.std.specs.Prelude.{◌≡◌, ◌-ℤ◌, ◌<ℤ◌, pos};
+ghost use Rattle.std.specs.Prelude.{◌≡◌, ◌+ℤ◌, ◌-ℤ◌, ◌*ℤ◌, ◌<ℤ◌, pos};
 ghost use Rattle.arbitrary_int.specs.Residue.{Congruent};
 
 use arbitrary_int::prelude::*;
@@ -15,6 +15,42 @@ pub fn turn(from: u14, to: u14) -> i14
     ensures { Congruent 14 result (to -ℤ from) }
 {
     i14::from_unsigned(to.wrapping_sub(from))
+}
+
+pub fn turn_by_conversion(from: u14, to: u14) -> i14
+    ensures { Congruent 14 result (to -ℤ from) }
+{
+    to.wrapping_sub(from).as_::<i14>()
+}
+
+pub fn turn_by_bits(from: u14, to: u14) -> i14
+    ensures { Congruent 14 result (to -ℤ from) }
+{
+    i14::from_bits(to.wrapping_sub(from).value())
+}
+
+pub fn low_bits_of_sum(a: i24, b: i24) -> i12
+    ensures { Congruent 12 result (a +ℤ b) }
+{
+    a.wrapping_add(b).as_::<i12>()
+}
+
+pub fn low_bits_of_difference(a: u24, b: u24) -> u12
+    ensures { Congruent 12 result (a -ℤ b) }
+{
+    u12::masked_new(a.wrapping_sub(b))
+}
+
+pub fn low_bits_of_product(a: u24, b: u24) -> u12
+    ensures { Congruent 12 result (a *ℤ b) }
+{
+    a.wrapping_mul(b).as_::<u12>()
+}
+
+pub fn low_byte_of_sum(a: u24, b: u24) -> u8
+    ensures { Congruent 8 (pos result) (a +ℤ b) }
+{
+    a.wrapping_add(b).as_u8()
 }
 
 pub fn negated(x: u12) -> u12

@@ -36,12 +36,6 @@ pub fn oldest(head: u4, count: u5) -> u4
     head.wrapping_sub(count.as_::<u4>())
 }
 
-pub fn low_byte_of_sum(a: u24, b: u24) -> u8
-    ensures { Congruent 8 (pos result) (a +ℤ b) }
-{
-    a.wrapping_add(b).as_u8()
-}
-
 pub fn halves(x: i12) -> (u7, u5)
     ensures { Congruent 12 x (pos 32 *ℤ result.0 +ℤ result.1) }
 {

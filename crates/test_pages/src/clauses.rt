@@ -43,11 +43,10 @@ pub fn two_steps(count: u12) -> u12
 }
 
 /// The low 12 bits of a sum.
-#[tactic(auto, using(arbitrary_int::proofs::Conversions::conversions))]
 pub fn low_sum(a: u24, b: u24) -> u12
     ensures { Congruent 12 result (a +ℤ b) }
 {
-    a.as_::<u12>().wrapping_add(b.as_::<u12>())
+    a.wrapping_add(b).as_::<u12>()
 }
 
 /// How far to turn from one direction to another, of 16,384 to a round, by the shorter way.
