@@ -50,6 +50,7 @@ pub mod BitPlaces
 pub mod OneBits
 pub mod FlagTests
 pub mod SignWord
+pub mod ZigZag
 pub mod Sets
 pub mod BitVector
 pub mod Conversions
@@ -58,6 +59,7 @@ pub mod LowestPlace
 pub mod MaskedResults
 pub mod Extensions
 pub mod Saturations
+pub mod ExactSums
 pub mod ComplementParts
 pub mod NegatedParts
 pub mod LowestMasks

@@ -1,0 +1,27 @@
+//! Laws of a number coded with its sign in the lowest bit (zigzag): small numbers of either sign have small codes.
+#![tactic(auto, using(arbitrary_int::proofs::ZigZag::zigzag))]
+
+ghost use Rattle.std.specs.Prelude.{◌≡◌, ◌-ℤ◌, ◌*ℤ◌, ◌≤ℤ◌, ◌<ℤ◌, pos, neg_ℤ};
+
+use arbitrary_int::prelude::*;
+
+pub fn code(x: i12) -> u12
+    ensures above { pos 0 ≤ℤ x → result ≡ pos 2 *ℤ x }
+    ensures below { x <ℤ pos 0 → result ≡ neg_ℤ (pos 2 *ℤ x) -ℤ pos 1 }
+{
+    ((x << 1) ^ (x >> 11)).to_unsigned()
+}
+
+pub fn code_by_conversion(x: i24) -> u24
+    ensures above { pos 0 ≤ℤ x → result ≡ x *ℤ pos 2 }
+    ensures below { x <ℤ pos 0 → result ≡ neg_ℤ (x *ℤ pos 2) -ℤ pos 1 }
+{
+    ((x << 1) ^ (x >> 23)).as_::<u24>()
+}
+
+pub fn code_by_a_call(x: i12) -> u12
+    ensures above { pos 0 ≤ℤ x → result ≡ pos 2 *ℤ x }
+    ensures below { x <ℤ pos 0 → result ≡ neg_ℤ (pos 2 *ℤ x) -ℤ pos 1 }
+{
+    (x.wrapping_shl(1) ^ (x >> 11)).to_unsigned()
+}
