@@ -72,11 +72,12 @@ pub trait FixedWidth: Integer + FixedWidthCalls {
     ghost equal_law: { (a b : Self) → (Self.eq a b ≡ Self.eq a b)
         × (Self.eq a b ≡ true → a ≡ b) × (a ≡ b → Self.eq a b ≡ true) };
 
-    // Whether a value is the number that its bits have, as each in range is; and the value of that number.
+    // Whether a value is the number that its bits have, as each in range is; and the value of that number. The range is one that a call
+    // tells: with the type's own sign and width in its place the search would open the range of each number in sight, by its sign.
     ghost fits: { (a : Self) → Bool };
 
-    ghost fits_law: { (a : Self) → Self.valid → InRange Self.IS_SIGNED Self.BITS (Self.number a)
-        → fits a ≡ true };
+    ghost fits_law: { (a : Self) (s : Bool) (n : ℕ) → Self.valid → InRange s n (Self.number a)
+        → s ≡ Self.IS_SIGNED → n ≡ Self.BITS → fits a ≡ true };
 
     ghost own: { (a : Self) → Self };
 

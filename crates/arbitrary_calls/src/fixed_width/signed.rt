@@ -1,9 +1,9 @@
 //! `Int` as an integer of fixed width: the laws. `unsigned` beside this file has the same of `UInt`.
 
-ghost use Rattle.std.specs.Prelude.{ℤ, ◌+ℤ◌, not, refl};
-ghost use Rattle.std.proofs.Common.{◌∙◌, ap, sym};
+ghost use Rattle.std.specs.Prelude.{Bool, ℕ, ℤ, ◌+ℤ◌, not, refl};
+ghost use Rattle.std.proofs.Common.{◌∙◌, ap, subst, sym};
 ghost use Rattle.std.proofs.lemmas.Bool.Decides.{Decides-int_eq};
-ghost use Rattle.arbitrary_base.specs.Range.{hi, lo};
+ghost use Rattle.arbitrary_base.specs.Range.{InRange, hi, lo};
 ghost use Rattle.arbitrary_base.specs.Operation.{bitwise_and, bitwise_not, bitwise_or, bitwise_xor, reversed, wrapped_difference, wrapped_product, wrapped_sum};
 ghost use Rattle.arbitrary_base.proofs.operations.Amount.{amount-none, count_of_ones, difference-after_sum, difference-again, difference-alike, difference-of_ones, difference-own, difference-with_zero, leading_ones-of_not, leading_run, leading_run-is, leading_run-of_reversed, leading_zeros-of_not, left, left-none, left-of_amount, left-of_and, left-of_or, left-of_right, left-of_sum, left-of_xor, left-of_zero, left-own, left_turn-of_amount, ones-is, ones-of_not, ones-of_reversed, ones-of_turned, ones-of_zero, own-in_range, own_value, own_value-is, product-again, product-own, product-with_sum, reversed-back, reversed-of_ones, reversed-of_turned, reversed-of_zero, reversed-own, right, right-none, right-of_amount, right-of_and, right-of_or, right-of_xor, right-of_zero, right-own, right_turn-of_amount, sum-after_difference, sum-again, sum-own, sum-to_difference_of, sum-where_disjoint, sum-with_negated, sum-with_zero, trailing_ones-of_not, trailing_run, trailing_run-is, trailing_run-of_reversed, trailing_zeros-of_not, turned, turned-none, turned-of_and, turned-of_not, turned-of_ones, turned-of_or, turned-of_xor, turned-of_zero, turned-own};
 ghost use Rattle.arbitrary_base.proofs.operations.Bitwise.{bitwise_and-commutes, bitwise_or-associates, bitwise_or-commutes, bitwise_xor-commutes, not-and_parts, not-or_parts, or-distributes_and};
@@ -55,7 +55,9 @@ where
 
     ghost fits = { λ a. is_own_bits T.SIGNED BITS a };
 
-    ghost fits_law = { λ a h f. own-in_range _ _ _ h.0 f };
+    ghost fits_law = { λ a s n v f d e.
+        let own_sign = subst (λ (u : Bool). InRange u n a) d f in
+        own-in_range _ _ _ v.0 (subst (λ (m : ℕ). InRange T.SIGNED m a) e own_sign) };
 
     ghost own = { λ a. own_value T.SIGNED BITS a };
 
