@@ -38,6 +38,50 @@ pub fn clamped_twice<V: Integer>(x: V, low: V, high: V) -> bool
     y == z
 }
 
+pub fn held_in_a_band<V: FixedWidth>(x: V, low: V, high: V) -> V
+    requires { V.number low ≤ℤ V.number high }
+    ensures low { V.number low ≤ℤ V.number result }
+    ensures high { V.number result ≤ℤ V.number high }
+{
+    if x < low {
+        low
+    } else if x > high {
+        high
+    } else {
+        x
+    }
+}
+
+pub fn held_by_max_and_min<V: FixedWidth>(x: V, low: V, high: V) -> V
+    requires { V.number low ≤ℤ V.number high }
+    ensures low { V.number low ≤ℤ V.number result }
+    ensures high { V.number result ≤ℤ V.number high }
+{
+    x.max(low).min(high)
+}
+
+pub fn held_by_clamp<V: FixedWidth>(x: V, low: V, high: V) -> V
+    requires { V.number low ≤ℤ V.number high }
+    ensures low { V.number low ≤ℤ V.number result }
+    ensures high { V.number result ≤ℤ V.number high }
+{
+    x.clamp(low, high)
+}
+
+pub fn held_early<V: FixedWidth>(x: V, low: V, high: V) -> V
+    requires { V.number low ≤ℤ V.number high }
+    ensures low { V.number low ≤ℤ V.number result }
+    ensures high { V.number result ≤ℤ V.number high }
+{
+    if x < low {
+        return low;
+    }
+    if x > high {
+        return high;
+    }
+    x
+}
+
 pub fn greatest_less_least_clamped<V: FixedWidth>() -> bool
     requires { V.valid }
     ensures { IsTrue result }
