@@ -55,6 +55,13 @@ pub fn joined_bits_are_at_least<V: FixedWidth + UnsignedInteger>(x: V, y: V) -> 
     x | y >= x
 }
 
+pub fn a_number_is_at_most_its_bits_with_others<V: FixedWidth + UnsignedInteger>(x: V, y: V) -> bool
+    requires { V.valid }
+    ensures { IsTrue result }
+{
+    x <= x | y
+}
+
 pub fn flags_only_add<V: FixedWidth + UnsignedInteger>(x: V, flags: V) -> V
     requires { V.valid }
     ensures { V.number x ≤ℤ V.number result }

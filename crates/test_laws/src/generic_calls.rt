@@ -151,6 +151,27 @@ pub fn sum_with_a_difference<V: FixedWidth>(x: V, y: V) -> bool
     x.wrapping_add(y.wrapping_sub(x)) == y
 }
 
+pub fn difference_from_a_difference<V: FixedWidth>(x: V, y: V) -> bool
+    requires { V.valid }
+    ensures { IsTrue result }
+{
+    x.wrapping_sub(x.wrapping_sub(y)) == y
+}
+
+pub fn negated_twice<V: FixedWidth>(x: V) -> bool
+    requires { V.valid }
+    ensures { IsTrue result }
+{
+    V::zero().wrapping_sub(V::zero().wrapping_sub(x)) == x
+}
+
+pub fn product_with_one<V: FixedWidth + UnsignedInteger>(x: V) -> bool
+    requires { V.valid }
+    ensures { IsTrue result }
+{
+    x.wrapping_mul(V::from_(1u8)) == x
+}
+
 pub fn clamped_results_commute<V: FixedWidth>(x: V, y: V) -> bool
     ensures { IsTrue result }
 {
