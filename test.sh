@@ -1,8 +1,8 @@
 #!/usr/bin/env bash
-# Checks the short names, the words, the examples of the documents, the count of the definitions and bitrun.sh, then proves what has not
-# passed on this machine before, tests and runs everything, and tries each edit that must be refused. Beside that it runs the program with
-# each growth of memory refused in turn. Then it runs the program on damaged and on random inputs, as both compilers have just built it, and
-# tries further wrong bodies. Before the last line it prints what all that took.
+# Checks the short names, the words, the examples of the documents, the count of the definitions and bitrun.sh, then proves, tests and runs
+# everything, and tries each edit that must be refused. Beside that it runs the program with each growth of memory refused in turn. Then it
+# runs the program on damaged and on random inputs, as both compilers have just built it, and tries further wrong bodies. Before the last
+# line it prints what all that took.
 set -euo pipefail
 unset CDPATH
 cd -- "$(dirname -- "$0")"
