@@ -1,7 +1,8 @@
 //! What generic code knows of the operators and calls of an integer of fixed width. The calls stand in `calls`.
 
-ghost use Rattle.std.specs.Prelude.{not, Bool, ℕ, ◌&&◌, ◌||◌, ◌⊎◌, ◌≡◌, ◌+◌, ◌-◌, ◌+ℤ◌, ◌-ℤ◌, ◌*ℤ◌, ◌≤ℤ◌, ℤ, pos, false, true};
+ghost use Rattle.std.specs.Prelude.{not, Bool, ℕ, ◌&&◌, ◌||◌, ◌⊎◌, ◌≡◌, ◌≢◌, ◌+◌, ◌-◌, ◌+ℤ◌, ◌-ℤ◌, ◌*ℤ◌, ◌≤ℤ◌, ℤ, pos, false, true};
 ghost use Rattle.std.specs.Bool.{beq};
+ghost use Rattle.std.specs.Ordering.{ord_max, ord_min};
 ghost use Rattle.std.specs.List.{count_by, suffix_len, prefix_len};
 ghost use Rattle.arbitrary_base.specs.Range.{InRange, hi, lo};
 ghost use Rattle.arbitrary_base.specs.Residue.{wrap};
@@ -58,6 +59,17 @@ pub trait FixedWidth: Integer + FixedWidthCalls {
 
     ghost exact_product: { (a b r : Self) → Self.mul_gives a b r
         → Self.number r ≡ Self.number a *ℤ Self.number b };
+
+    // Where the type has no sign a quotient is in range, and a divisor has only to be other than 0.
+    ghost may_divide: { (a b : Self) → Self.IS_SIGNED ≡ false → Self.number b ≢ pos 0
+        → Self.can_div a b };
+
+    // The lesser and the greater of two values, by bounds.
+    ghost lesser_law: { (a b : Self) → let r = ord_min Self.cmp a b in
+        (r ≡ r) × (Self.number r ≤ℤ Self.number a) × (Self.number r ≤ℤ Self.number b) };
+
+    ghost greater_law: { (a b : Self) → let r = ord_max Self.cmp a b in
+        (r ≡ r) × (Self.number a ≤ℤ Self.number r) × (Self.number b ≤ℤ Self.number r) };
 
     // For proofs in generic code, where the check knows of an operator or a call what these laws say, and takes no set beside them. They are
     // over functions of values: a law on numbers would be tried at each number of equal value. But for those that turn operands round, none

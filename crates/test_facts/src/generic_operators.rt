@@ -1,6 +1,6 @@
 //! Operators beside the order and the ends of the range, in code that is generic in the type.
 
-ghost use Rattle.std.specs.Prelude.{◌≡◌, ◌+ℤ◌, ◌-ℤ◌, ◌≤ℤ◌, ◌<ℤ◌, pos, IsTrue};
+ghost use Rattle.std.specs.Prelude.{◌≡◌, ◌+ℤ◌, ◌-ℤ◌, ◌≤ℤ◌, ◌<ℤ◌, pos, int_div, IsTrue};
 ghost use Rattle.arbitrary_int.specs.Range.{hi};
 
 use arbitrary_int::prelude::*;
@@ -162,4 +162,20 @@ pub fn clamped_sum<V: FixedWidth + ValidWidth + UnsignedInteger>(x: V, y: V) -> 
     } else {
         x + y
     }
+}
+
+pub fn quotient<V: FixedWidth + UnsignedInteger>(x: V, y: V) -> V
+    requires { pos 0 <ℤ V.number y }
+    ensures { V.number result ≡ int_div (V.number x) (V.number y) }
+{
+    x / y
+}
+
+pub fn quotient_or_zero<V: FixedWidth + ValidWidth + UnsignedInteger>(x: V, y: V) -> V
+    ensures { pos 0 <ℤ V.number y → V.number result ≡ int_div (V.number x) (V.number y) }
+{
+    if y == V::zero() {
+        return V::zero();
+    }
+    x / y
 }

@@ -105,3 +105,15 @@ pub fn swapped_by_xors<V: FixedWidth>(x: V, y: V) -> bool
     let c = a ^ b;
     b == x && c == y
 }
+
+pub fn limited_sum<V: FixedWidth>(x: V, y: V, limit: V) -> V
+    ensures { V.number result ≤ℤ V.number limit }
+{
+    x.saturating_add(y).min(limit)
+}
+
+pub fn raised_difference<V: FixedWidth>(x: V, y: V, floor: V) -> V
+    ensures { V.number floor ≤ℤ V.number result }
+{
+    x.wrapping_sub(y).max(floor)
+}

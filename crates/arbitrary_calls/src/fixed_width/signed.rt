@@ -12,6 +12,8 @@ ghost use Rattle.arbitrary_base.proofs.operations.WrappedRing.{wrapped_product-c
 ghost use Rattle.arbitrary_base.proofs.operations.BitByBit.{and-itself, bit_at, bit_at-and, bit_at-not, bit_at-or, bit_at-xor, bit_at-zero, equal-or_differ, is_own_bits, not-twice, own_bits, own_bits-and, own_bits-not, own_bits-or, own_bits-xor, own_bits-zero, xor-none_equal, xor-twice};
 ghost use Rattle.arbitrary_base.proofs.operations.Definition.{and-is, not-is, or-is, xor-is};
 ghost use Rattle.arbitrary_base.proofs.operations.OperatorOrder.{and-at_most, and-at_most_left, not-mirrors, not-of_greatest, not-of_least, or-at_least, or-at_least_right};
+ghost use Rattle.arbitrary_core.proofs.UnsignedQuotient.{quotient-in_range};
+ghost use Rattle.arbitrary_core.proofs.EndOfTwo.{greater-at_least, lesser-at_most};
 
 use crate::fixed_width::FixedWidth;
 use arbitrary_base::storage::{BuiltinInteger, SignedStorage, UnsignedOf};
@@ -40,6 +42,12 @@ where
     ghost may_mul = { λ a b h x y _. h x y };
 
     ghost exact_product = { λ a b r h. h.0 };
+
+    ghost may_divide = { λ a b u n. (n, λ f g. quotient-in_range _ _ _ _ u f g) };
+
+    ghost lesser_law = { λ a b. let e = lesser-at_most a b in (refl, e.0, e.1) };
+
+    ghost greater_law = { λ a b. let e = greater-at_least a b in (refl, e.0, e.1) };
 
     ghost bit = { λ a i. bit_at BITS a i };
 

@@ -122,7 +122,7 @@ where
 
     ghost mul_law = { λ a b r h f. h.0 };
 
-    ghost can_div_law = { λ a b f n g. (n, g) };
+    ghost can_div_law = { λ a b f n g. (n, λ h k. g) };
 
     ghost div_law = { λ a b r h. h };
 

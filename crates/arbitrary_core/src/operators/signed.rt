@@ -120,7 +120,8 @@ where
 {
     type Output = Int<T, BITS>;
 
-    ghost can_div = { λ a b. (b ≢ pos 0) × InRange T.SIGNED BITS (int_div a b) };
+    ghost can_div = { λ a b. let quotient = int_div a b in (b ≢ pos 0)
+        × (InRange T.SIGNED BITS a → InRange T.SIGNED BITS b → InRange T.SIGNED BITS quotient) };
 
     ghost div_gives = { λ a b r. r ≡ int_div a b };
 
@@ -134,7 +135,8 @@ impl<T: BuiltinInteger + SignedStorage, const BITS: usize> DivAssign<Int<T, BITS
 where
     T::Unsigned: UnsignedOf<T>,
 {
-    ghost can_div_assign = { λ a b. (b ≢ pos 0) × InRange T.SIGNED BITS (int_div a b) };
+    ghost can_div_assign = { λ a b. let quotient = int_div a b in (b ≢ pos 0)
+        × (InRange T.SIGNED BITS a → InRange T.SIGNED BITS b → InRange T.SIGNED BITS quotient) };
 
     ghost div_assign_gives = { λ a b r. r ≡ int_div a b };
 

@@ -91,13 +91,15 @@ impl<T: UnsignedStorage, const BITS: usize> MulAssign<UInt<T, BITS>> for UInt<T,
 impl<T: UnsignedStorage, const BITS: usize> Div<UInt<T, BITS>> for UInt<T, BITS> {
     type Output = UInt<T, BITS>;
 
-    ghost can_div = { λ a b. (b ≢ pos 0) × InRange T.SIGNED BITS (int_div a b) };
+    ghost can_div = { λ a b. let quotient = int_div a b in (b ≢ pos 0)
+        × (InRange T.SIGNED BITS a → InRange T.SIGNED BITS b → InRange T.SIGNED BITS quotient) };
 
     ghost div_gives = { λ a b r. r ≡ int_div a b };
 
     #[tactic(auto, using(arbitrary_base::proofs::storages::CheckedSum::fitting))]
     fn div(self, rhs: UInt<T, BITS>) -> UInt<T, BITS>
-        requires { (rhs ≢ pos 0) × InRange T.SIGNED BITS (int_div self rhs) }
+        requires { let quotient = int_div self rhs in let in_range = InRange T.SIGNED BITS in
+            (rhs ≢ pos 0) × (in_range self → in_range rhs → in_range quotient) }
         ensures value { result ≡ int_div self rhs }
         ensures itself { self ≡ rhs → result ≡ pos 1 }
     {
@@ -106,7 +108,8 @@ impl<T: UnsignedStorage, const BITS: usize> Div<UInt<T, BITS>> for UInt<T, BITS>
 }
 
 impl<T: UnsignedStorage, const BITS: usize> DivAssign<UInt<T, BITS>> for UInt<T, BITS> {
-    ghost can_div_assign = { λ a b. (b ≢ pos 0) × InRange T.SIGNED BITS (int_div a b) };
+    ghost can_div_assign = { λ a b. let quotient = int_div a b in (b ≢ pos 0)
+        × (InRange T.SIGNED BITS a → InRange T.SIGNED BITS b → InRange T.SIGNED BITS quotient) };
 
     ghost div_assign_gives = { λ a b r. r ≡ int_div a b };
 
