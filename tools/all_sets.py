@@ -1,7 +1,8 @@
 #!/usr/bin/env python3
-"""Writes AllSets.antt: each law of the sets that docs/PROVING.md names, but for the set that stands apart, once. A law that stood there once
-for each set that has it would be tried as often, and the search would come to its limit. LongerSide.antt turns laws round, and
-PositiveParts.antt has some for fewer numbers: theirs stand in place of those. `find_set.py --listed` tells whether the file is so.
+"""Writes AllSets.antt: each law of the sets that docs/PROVING.md names, but for the set that stands apart, once; and those of some of these
+sets, as `laws`. A law that stood there once for each set that has it would be tried as often, and the search would come to its limit.
+LongerSide.antt turns laws round, and PositiveParts.antt has some for fewer numbers: theirs stand in place of those. `find_set.py --listed`
+tells whether the file is so.
 """
 import re
 
@@ -14,6 +15,13 @@ IN_PLACE = [['LongerSide', 'longer_sides'], ['PositiveParts', 'positive_parts']]
 IMPORT = re.compile(r'^use ([\w.]+)\.\{(.*)\}$', re.M)
 SET = re.compile(r'^pub ruleset (\w+) = \((.*)\)$', re.M)
 LINE = 'pub ruleset all_sets = '
+WORDS = re.compile(r'^pub ruleset words = \((.*)\)$', re.M)
+# The sets that are about operations alone, whatever the number: no written mask, no place of a bit, no field, no count. The fewer laws there
+# are, the further the search comes with each.
+OPERATIONS = ['bits', 'distribution', 'bit_by_bit', 'mask_tests', 'shifts', 'rotations', 'reversals', 'ring', 'products', 'masks', 'complements',
+              'negations', 'mixed', 'carries', 'order', 'cancellations']
+OF_LAWS = [*(['BitVector', it] for it in OPERATIONS), ['Truncations', 'truncations'], ['Extensions', 'extensions'], ['LowestPlace', 'lowest_place']]
+LAWS = re.compile(r'^(pub ruleset laws = ).*$', re.M)
 
 
 def module(name):
@@ -42,17 +50,21 @@ def replaced():
 
 
 def text():
-    """AllSets.antt as it should be: its head and its other set stay."""
+    """AllSets.antt as it should be: its head, its comments and the set `words` stay."""
     names = [it.split('::') for it in sets() if not it.startswith(ALL) and it != APART]
     without = replaced()
-    found = [law for it in [*names, *IN_PLACE] for law in laws(*it) if law not in without]
+
+    def once(chosen):
+        return dict.fromkeys(law for it in [*chosen, *IN_PLACE] for law in laws(*it) if law not in without)
+
     alias = {}
-    for origin, part in dict.fromkeys(found):
+    for origin, part in once(names):
         alias[origin, part] = part if part not in alias.values() else f'{part}_of_{origin.split(".")[-1]}'
     old = ALL_FILE.read_text()
     head = re.match(r'(?:--.*\n)*', old)[0]
-    rest = old[old.index('\n', old.index(LINE)):]
-    words = SET.search(rest)[2].split(', ')
+    of_laws = ', '.join(alias[law] for law in once(OF_LAWS))
+    rest = LAWS.sub(lambda found: f'{found[1]}({of_laws})', old[old.index('\n', old.index(LINE)):])
+    words = WORDS.search(rest)[1].split(', ')
     used = {}
     for (origin, part), name in alias.items():
         used.setdefault(origin, set()).add(part if part == name else f'{part} as {name}')

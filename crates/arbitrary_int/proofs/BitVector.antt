@@ -28,7 +28,7 @@ use Rattle.arbitrary_int.proofs.KnownCount.{popcount-of_numeral}
 use Rattle.arbitrary_int.proofs.KnownEnds.{front-of_negative, front_ones-of_negative, front_ones-of_numeral, popcount-of_negative, tail_ones-of_negative, tail_ones-of_numeral}
 use Rattle.arbitrary_int.proofs.CountBounds.{front-of_numeral}
 use Rattle.arbitrary_int.proofs.LeadingZeros.{tail-of_numeral}
-use Rattle.arbitrary_int.proofs.MaskTests.{and_not-none, or-equal_xor, or-unchanged, xor-equal_or, xor-none, xor-unchanged}
+use Rattle.arbitrary_int.proofs.MaskTests.{and-highest, and-minus_one, and_not-none, or-equal_xor, or-none, or-unchanged, xor-equal_or, xor-none, xor-unchanged}
 use Rattle.arbitrary_int.proofs.QuotientAndCube.{negated-is_difference, power-thrice, quotient-times}
 use Rattle.arbitrary_int.proofs.ShiftPairs.{further-at_most, left_right-wraps, nearer-at_least, rotated_left-as_sum, rotated_left-as_xor}
 use Rattle.arbitrary_int.proofs.SingleBit.{and-one_bit, left-of_one, low-of_right, low-of_right_not, low-of_right_set, reversed-one, reversed-one_bit}
@@ -124,4 +124,4 @@ pub ruleset quotients = (power-zero, power-one, power-twice, power-thrice, quoti
 pub ruleset bit_by_bit = (Decides-int_eq, and-compared, or-compared, xor-compared, not-compared, compared-and, compared-or, compared-xor, compared-not, bit-and, bit-or, bit-xor, bit-not, bit-zero, bit-highest, bit-minus_one)
 
 -- two tests of `&`, `|` or `^` that tell the same
-pub ruleset mask_tests = (Decides-int_eq, and_not-none, or-unchanged, or-equal_xor, xor-equal_or, xor-unchanged, xor-none, bitwise_and-commutes, bitwise_and-same, bitwise_or-commutes, bitwise_xor-commutes)
+pub ruleset mask_tests = (Decides-int_eq, and_not-none, or-unchanged, or-equal_xor, xor-equal_or, xor-unchanged, xor-none, bitwise_and-commutes, bitwise_and-same, bitwise_or-commutes, bitwise_xor-commutes, or-none, and-minus_one, and-highest)

@@ -1,12 +1,14 @@
--- Two tests by `==` that tell the same of two numbers: whether one has no bit outside the other, whether they share none, whether they are equal.
-use Rattle.std.specs.Prelude.{◌≡◌, ℕ, ℤ, Bool, pos, ◌≤◌}
+-- Two tests by `==` that tell the same of two numbers: whether one has no bit outside the other, whether they share none, whether they are equal,
+-- whether neither has a bit, or both have each.
+use Rattle.std.specs.Prelude.{◌≡◌, ℕ, ℤ, Bool, true, false, pos, negsuc, ◌&&◌, ◌≤◌, ◌^◌, ◌-ℤ◌}
 use Rattle.std.specs.Ordering.{int_eq}
-use Rattle.std.proofs.Common.{sym, ap, ◌∙◌}
+use Rattle.std.proofs.Common.{refl, sym, ap, ap₂, subst, ◌∙◌}
 use Rattle.std.proofs.lemmas.Bool.Decides.{Decides-int_eq, same_from_decides}
 use Rattle.arbitrary_base.specs.Range.{InRange}
 use Rattle.arbitrary_base.specs.Operation.{bitwise_and, bitwise_not, bitwise_or, bitwise_xor}
-use Rattle.arbitrary_base.proofs.operations.Bitwise.{and-absorbs, bitwise_and-commutes, bitwise_or-commutes, bitwise_or-zero, bitwise_xor-commutes, bitwise_xor-equal, bitwise_xor-same, bitwise_xor-undoes, bitwise_xor-zero, or-absorbs}
+use Rattle.arbitrary_base.proofs.operations.Bitwise.{and-absorbs, bitwise_and-commutes, bitwise_and-highest, bitwise_and-minus_one, bitwise_and-zero, bitwise_or-commutes, bitwise_or-highest, bitwise_or-minus_one, bitwise_or-zero, bitwise_xor-commutes, bitwise_xor-equal, bitwise_xor-same, bitwise_xor-undoes, bitwise_xor-zero, or-absorbs}
 use Rattle.arbitrary_base.proofs.operations.BitsAndSums.{and-in_range, xor-in_range}
+use Rattle.arbitrary_base.proofs.operations.Definition.{zero-in_range}
 use Rattle.arbitrary_base.proofs.operations.Mask.{and_not-is_xor, or-is_xor, or-of_parts}
 
 alike : (x y z w : ℤ) → (x ≡ y → z ≡ w) → (z ≡ w → x ≡ y) → int_eq x y ≡ int_eq z w
@@ -47,3 +49,48 @@ module _ (s : Bool) (B : ℕ) (x y : ℤ) (some : 1 ≤ B) (f : InRange s B x) (
 
   pub xor-none : int_eq (bitwise_xor s B x y) (pos 0) ≡ int_eq x y
   xor-none = alike _ _ _ _ (bitwise_xor-equal s B x y some f g) (λ e. ap (bitwise_xor s B x) (sym e) ∙ bitwise_xor-same s B x some)
+
+-- ---- a result that has no bit, or each
+
+unmet : (r : Bool) → (r ≡ true → false ≡ true) → r ≡ false
+unmet true n = sym (n refl)
+unmet false n = refl
+
+-- a test that holds exactly where two others do
+both : (x y z w v u : ℤ) → (x ≡ y → (z ≡ w) × (v ≡ u)) → (z ≡ w → v ≡ u → x ≡ y) → int_eq x y ≡ (int_eq z w && int_eq v u)
+both x y z w v u f g = by (int_eq z w) (int_eq v u) (Decides-int_eq z w) (Decides-int_eq v u) (Decides-int_eq x y)
+  where
+    by : (p q : Bool) → (p ≡ true → z ≡ w) × (z ≡ w → p ≡ true) → (q ≡ true → v ≡ u) × (v ≡ u → q ≡ true)
+        → (int_eq x y ≡ true → x ≡ y) × (x ≡ y → int_eq x y ≡ true) → int_eq x y ≡ (p && q)
+    by true true d e h = h.1 (g (d.0 refl) (e.0 refl))
+    by true false d e h = unmet (int_eq x y) (λ t. e.1 (f (h.0 t)).1)
+    by false q d e h = unmet (int_eq x y) (λ t. d.1 (f (h.0 t)).0)
+
+module _ (s : Bool) (B : ℕ) (x y : ℤ) (some : 1 ≤ B) (f : InRange s B x) (g : InRange s B y) where
+  pub or-none : int_eq (bitwise_or s B x y) (pos 0) ≡ (int_eq x (pos 0) && int_eq y (pos 0))
+  or-none = both _ _ _ _ _ _
+      (λ e. (left x y f e, left y x g (bitwise_or-commutes s B y x ∙ e)))
+      (λ d e. ap₂ (bitwise_or s B) d e ∙ bitwise_or-zero s B (pos 0) some (zero-in_range s B))
+    where
+      left : (z w : ℤ) → InRange s B z → bitwise_or s B z w ≡ pos 0 → z ≡ pos 0
+      left z w h e = sym (and-absorbs s B z w some h) ∙ ap (bitwise_and s B z) e ∙ bitwise_and-zero s B z some
+
+module _ (B : ℕ) (x y : ℤ) (some : 1 ≤ B) (f : InRange true B x) (g : InRange true B y) where
+  pub and-minus_one : int_eq (bitwise_and true B x y) (negsuc 0) ≡ (int_eq x (negsuc 0) && int_eq y (negsuc 0))
+  and-minus_one = both _ _ _ _ _ _
+      (λ e. (left x y f e, left y x g (bitwise_and-commutes true B y x ∙ e)))
+      (λ d e. ap₂ (bitwise_and true B) d e ∙ bitwise_and-minus_one B (negsuc 0) some (subst (InRange true B) d f))
+    where
+      left : (z w : ℤ) → InRange true B z → bitwise_and true B z w ≡ negsuc 0 → z ≡ negsuc 0
+      left z w h e = sym (or-absorbs true B z w some h) ∙ ap (bitwise_or true B z) e ∙ bitwise_or-minus_one B z some
+
+module _ (B : ℕ) (x y z : ℤ) (some : 1 ≤ B) (f : InRange false B x) (g : InRange false B y) (h : z ≡ pos (2 ^ B) -ℤ pos 1) where
+  pub and-highest : int_eq (bitwise_and false B x y) z ≡ (int_eq x z && int_eq y z)
+  and-highest = both _ _ _ _ _ _
+      (λ e. (left x y f e, left y x g (bitwise_and-commutes false B y x ∙ e)))
+      (λ d e. ap₂ (bitwise_and false B) d e ∙ bitwise_and-highest B z z some (subst (InRange false B) d f) h)
+    where
+      left : (v w : ℤ) → InRange false B v → bitwise_and false B v w ≡ z → v ≡ z
+      left v w i e =
+          sym (or-absorbs false B v w some i) ∙ ap (bitwise_or false B v) e
+          ∙ bitwise_or-highest B v z some (subst (InRange false B) e (and-in_range false B v w some)) h

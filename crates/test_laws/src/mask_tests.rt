@@ -1,7 +1,7 @@
 //! Two tests of bits that tell the same, each by the set `mask_tests` alone.
 #![tactic(auto, using(arbitrary_int::proofs::BitVector::mask_tests))]
 
-ghost use Rattle.std.specs.Prelude.{IsTrue};
+ghost use Rattle.std.specs.Prelude.{◌≡◌, ◌↔◌, pos, IsTrue};
 
 use arbitrary_int::prelude::*;
 
@@ -39,4 +39,34 @@ pub fn no_bit_in_common(a: i12, b: i12) -> bool
     ensures { IsTrue result }
 {
     a & b != i12::zero() || a ^ b == a | b
+}
+
+pub fn no_bit_in_either(x: i24, y: i24) -> bool
+    ensures { IsTrue result }
+{
+    (x | y == i24::zero()) == (x == i24::zero() && y == i24::zero())
+}
+
+pub fn nothing_joined(x: i33, y: i33) -> bool
+    ensures { IsTrue result ↔ ((x ≡ pos 0) × (y ≡ pos 0)) }
+{
+    x | y == i33::zero()
+}
+
+pub fn no_flag_in_either(x: u100, y: u100) -> bool
+    ensures { IsTrue result }
+{
+    (x | y == u100::zero()) == (x == u100::zero() && y == u100::zero())
+}
+
+pub fn every_bit_in_both(x: i24, y: i24) -> bool
+    ensures { IsTrue result }
+{
+    (x & y == i24::new(-1)) == (x == i24::new(-1) && y == i24::new(-1))
+}
+
+pub fn greatest_in_both(x: u48, y: u48) -> bool
+    ensures { IsTrue result }
+{
+    (x & y == u48::max_value()) == (x == u48::max_value() && y == u48::max_value())
 }
