@@ -49,6 +49,8 @@ pub mod RunsOfTwo
 pub mod BitPlaces
 pub mod OneBits
 pub mod FlagTests
+pub mod SignMasks
+pub mod SignTests
 pub mod SignWord
 pub mod ZigZag
 pub mod Sets

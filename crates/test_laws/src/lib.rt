@@ -39,6 +39,8 @@ pub mod reversals;
 pub mod ring;
 pub mod rotations;
 pub mod shifts;
+pub mod sign_masks;
+pub mod sign_tests;
 pub mod signed;
 pub mod signed_order;
 pub mod signs;

@@ -1,0 +1,89 @@
+//! Laws of a number under a spread sign, `x >> (BITS - 1)`, and of what it gives: the absolute, the lesser and the greater of two, one of 0 and -1.
+#![tactic(auto, using(arbitrary_int::proofs::SignMasks::sign_masks))]
+
+ghost use Rattle.std.specs.Prelude.{IsTrue};
+
+use arbitrary_int::prelude::*;
+
+pub fn at_least_zero(x: i63) -> bool
+    ensures { IsTrue result }
+{
+    x & !(x >> 62) == x.max(i63::zero())
+}
+
+pub fn at_least_minus_one(x: i120) -> bool
+    ensures { IsTrue result }
+{
+    x | (x >> 119) == x.max(i120::new(-1))
+}
+
+pub fn at_most_minus_one(x: i100) -> bool
+    ensures { IsTrue result }
+{
+    x | !(x >> 99) == x.min(i100::new(-1))
+}
+
+pub fn absolute_by_difference(x: i12) -> bool
+    ensures { IsTrue result }
+{
+    let sign = x >> 11;
+    (x ^ sign).wrapping_sub(sign) == if x < i12::new(0) { x.wrapping_neg() } else { x }
+}
+
+pub fn absolute_by_sum(x: i24) -> bool
+    ensures { IsTrue result }
+{
+    let sign = x >> 23;
+    x.wrapping_add(sign) ^ sign == if x < i24::zero() { x.wrapping_neg() } else { x }
+}
+
+pub fn absolute_by_double(x: i12) -> bool
+    ensures { IsTrue result }
+{
+    x.wrapping_sub((x << 1) & (x >> 11)) == if x < i12::zero() { x.wrapping_neg() } else { x }
+}
+
+pub fn negated_absolute(x: i63) -> bool
+    ensures { IsTrue result }
+{
+    let sign = x >> 62;
+    sign.wrapping_sub(x ^ sign) == if x < i63::zero() { x } else { x.wrapping_neg() }
+}
+
+pub fn negated_by_another_sign(x: i24, y: i24) -> bool
+    ensures { IsTrue result }
+{
+    let sign = y >> 23;
+    (x ^ sign).wrapping_sub(sign) == if y.is_negative() { x.wrapping_neg() } else { x }
+}
+
+pub fn lesser_by_mask(x: i24, y: i24) -> bool
+    ensures { IsTrue result }
+{
+    let mask = if x < y { i24::new(-1) } else { i24::zero() };
+    y ^ ((x ^ y) & mask) == x.min(y)
+}
+
+pub fn sign_as_number(x: i12) -> bool
+    ensures { IsTrue result }
+{
+    (x >> 11) | i12::new(1)
+        == if x < i12::zero() {
+            i12::new(-1)
+        } else {
+            i12::new(1)
+        }
+}
+
+pub fn negative_part(x: i7) -> bool
+    ensures { IsTrue result }
+{
+    (x & (x >> 6) == x) == (x <= i7::zero())
+}
+
+pub fn turned_below_zero(x: i100) -> bool
+    ensures { IsTrue result }
+{
+    let sign = x >> 99;
+    !(x ^ sign) == if x < i100::zero() { x } else { !x }
+}

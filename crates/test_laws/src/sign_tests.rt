@@ -1,0 +1,84 @@
+//! Laws of signs: the order of two numbers, whether they are equal, and an overflow, told by the sign of what bits make of them.
+#![tactic(auto, using(arbitrary_int::proofs::SignTests::sign_tests))]
+
+ghost use Rattle.std.specs.Prelude.{IsTrue, ◌<ℤ◌, ◌≤ℤ◌, pos};
+
+use arbitrary_int::prelude::*;
+
+pub fn like_signs(x: i100, y: i100) -> bool
+    ensures { IsTrue result }
+{
+    (x ^ y >= i100::zero()) == (x.is_negative() == y.is_negative())
+}
+
+pub fn xor_of_two_negatives(x: i7, y: i7) -> i7
+    requires left { x <ℤ pos 0 }
+    requires right { y <ℤ pos 0 }
+    ensures { pos 0 ≤ℤ result }
+{
+    x ^ y
+}
+
+pub fn below_by_bits(x: i63, y: i63) -> bool
+    ensures { IsTrue result }
+{
+    ((x & !y) | (!(x ^ y) & x.wrapping_sub(y)) < i63::zero()) == (x < y)
+}
+
+pub fn below_by_overflow(x: i24, y: i24) -> bool
+    ensures { IsTrue result }
+{
+    let difference = x.wrapping_sub(y);
+    (difference ^ ((x ^ y) & (difference ^ x)) < i24::zero()) == (x < y)
+}
+
+pub fn at_most_by_bits(x: i24, y: i24) -> bool
+    ensures { IsTrue result }
+{
+    ((x | !y) & ((x ^ y) | !y.wrapping_sub(x)) < i24::zero()) == (x <= y)
+}
+
+pub fn differ(x: i100, y: i100) -> bool
+    ensures { IsTrue result }
+{
+    (x.wrapping_sub(y) | y.wrapping_sub(x) < i100::zero()) == (x != y)
+}
+
+pub fn equal(x: i12, y: i12) -> bool
+    ensures { IsTrue result }
+{
+    (x.wrapping_sub(y) | y.wrapping_sub(x) >= i12::zero()) == (x == y)
+}
+
+pub fn not_zero(x: i12) -> bool
+    ensures { IsTrue result }
+{
+    (x | x.wrapping_neg() < i12::zero()) == (x != i12::zero())
+}
+
+pub fn zero(x: i7) -> bool
+    ensures { IsTrue result }
+{
+    (!x & x.wrapping_sub(i7::new(1)) < i7::zero()) == (x == i7::zero())
+}
+
+pub fn positive(x: i63) -> bool
+    ensures { IsTrue result }
+{
+    (x.wrapping_neg() & !x < i63::zero()) == x.is_positive()
+}
+
+#[tactic(auto, using(arbitrary_int::proofs::SignTests::overflow_tests))]
+pub fn overflow_of_like_signs(x: i7, y: i7) -> bool
+    ensures { IsTrue result }
+{
+    let sum = x.wrapping_add(y);
+    (!(x ^ y) & (x ^ sum) < i7::zero()) == x.checked_add(y).is_none()
+}
+
+pub fn overflow_flag(x: i48, y: i48) -> bool
+    ensures { IsTrue result }
+{
+    let (sum, overflow) = x.overflowing_add(y);
+    (!(x ^ y) & (x ^ sum) < i48::zero()) == overflow
+}
