@@ -10,6 +10,7 @@ pub mod Everyday
 pub mod SideBySide
 pub mod JoinedFields
 pub mod ReadBack
+pub mod JoinedWords
 pub mod MovedIn
 pub mod ReplacedField
 pub mod StreamBytes
@@ -51,6 +52,7 @@ pub mod OneBits
 pub mod FlagTests
 pub mod SignMasks
 pub mod SignTests
+pub mod MaskDigits
 pub mod SignWord
 pub mod ZigZag
 pub mod Sets

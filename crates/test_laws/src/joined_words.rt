@@ -1,0 +1,268 @@
+//! Words of any number of fields, put together by `|` and read back: one set for every spelling and either order.
+//! None has a proof of its own: the file names one set of laws.
+#![tactic(auto, using(arbitrary_int::proofs::JoinedWords::joined_words))]
+
+ghost use Rattle.std.specs.Prelude.{◌≡◌, ◌+◌, ◌*◌, ◌/◌, ◌%◌, ◌+ℤ◌, ◌*ℤ◌, pos, IsTrue, false, if◌then◌else◌};
+ghost use Rattle.arbitrary_int.specs.Field.{field};
+ghost use Rattle.arbitrary_int.specs.Residue.{Congruent, wrap};
+
+use arbitrary_int::prelude::*;
+
+pub fn three_above_a_number(second: u5, first: u5, target: u5) -> u32
+    ensures { pos result ≡ pos 1048576 *ℤ second +ℤ pos 32768 *ℤ first +ℤ pos 128 *ℤ target +ℤ pos 51 }
+{
+    (second.as_u32() << 20) | (first.as_u32() << 15) | (target.as_u32() << 7) | 0x33
+}
+
+pub fn three_above_a_gap(second: u5, first: u5, target: u5) -> u32
+    ensures { pos result ≡ pos 1048576 *ℤ second +ℤ pos 32768 *ℤ first +ℤ pos 128 *ℤ target }
+{
+    (u32::from_(second) << 20) | (u32::from_(first) << 15) | (u32::from_(target) << 7)
+}
+
+pub fn three_by_a_cast(a: u3, b: u12, c: u5) -> u32
+    ensures { pos result ≡ pos 268435456 *ℤ a +ℤ pos 65536 *ℤ b +ℤ pos 256 *ℤ c }
+{
+    ((a.value() as u32) << 28) | ((b.value() as u32) << 16) | ((c.value() as u32) << 8)
+}
+
+pub fn bytes_among_fields(a: u3, b: u8, c: u5, d: u8) -> u32
+    ensures { pos result ≡ pos 268435456 *ℤ a +ℤ pos 1048576 *ℤ pos b +ℤ pos 4096 *ℤ c +ℤ pos d }
+{
+    (u32::from_(a) << 28) | (u32::from(b) << 20) | (u32::from_(c) << 12) | u32::from(d)
+}
+
+pub fn seven(
+    version: u2,
+    padding: u1,
+    extension: u1,
+    sources: u4,
+    marker: u1,
+    payload: u7,
+    sequence: u16,
+) -> u32
+    ensures { pos result ≡ pos 1073741824 *ℤ version +ℤ pos 536870912 *ℤ padding +ℤ pos 268435456 *ℤ extension +ℤ pos 16777216 *ℤ sources +ℤ pos 8388608 *ℤ marker +ℤ pos 65536 *ℤ payload +ℤ pos sequence }
+{
+    (version.as_u32() << 30)
+        | (padding.as_u32() << 29)
+        | (extension.as_u32() << 28)
+        | (sources.as_u32() << 24)
+        | (marker.as_u32() << 23)
+        | (payload.as_u32() << 16)
+        | u32::from(sequence)
+}
+
+pub fn eight(a: u4, b: u4, c: u4, d: u4, e: u4, f: u4, g: u4, h: u4) -> u32
+    ensures { pos result ≡ pos 268435456 *ℤ a +ℤ pos 16777216 *ℤ b +ℤ pos 1048576 *ℤ c +ℤ pos 65536 *ℤ d +ℤ pos 4096 *ℤ e +ℤ pos 256 *ℤ f +ℤ pos 16 *ℤ g +ℤ h }
+{
+    (a.as_u32() << 28)
+        | (b.as_u32() << 24)
+        | (c.as_u32() << 20)
+        | (d.as_u32() << 16)
+        | (e.as_u32() << 12)
+        | (f.as_u32() << 8)
+        | (g.as_u32() << 4)
+        | h.as_u32()
+}
+
+pub fn six_low_first(a: u6, b: u5, c: u5, d: u5, e: u5, f: u6) -> u32
+    ensures { pos result ≡ pos 67108864 *ℤ f +ℤ pos 2097152 *ℤ e +ℤ pos 65536 *ℤ d +ℤ pos 2048 *ℤ c +ℤ pos 64 *ℤ b +ℤ a }
+{
+    a.as_u32()
+        | (b.as_u32() << 6)
+        | (c.as_u32() << 11)
+        | (d.as_u32() << 16)
+        | (e.as_u32() << 21)
+        | (f.as_u32() << 26)
+}
+
+pub fn above_a_number(b: u5, c: u5, d: u5) -> u32
+    ensures { pos result ≡ pos 65536 *ℤ d +ℤ pos 2048 *ℤ c +ℤ pos 64 *ℤ b +ℤ pos 19 }
+{
+    0x13 | (b.as_u32() << 6) | (c.as_u32() << 11) | (d.as_u32() << 16)
+}
+
+pub fn numbers_at_two_places(a: u6, b: u5, c: u3, d: u5) -> u32
+    ensures { pos result ≡ pos 2147483648 +ℤ pos 16777216 *ℤ d +ℤ pos 2097152 *ℤ c +ℤ pos 65536 *ℤ b +ℤ pos 8192 +ℤ a }
+{
+    0x8000_0000 | (d.as_u32() << 24) | (c.as_u32() << 21) | (b.as_u32() << 16) | 0x2000 | a.as_u32()
+}
+
+pub fn numbers_at_two_places_low_first(a: u6, b: u5, c: u3, d: u5) -> u32
+    ensures { pos result ≡ pos 2147483648 +ℤ pos 16777216 *ℤ d +ℤ pos 2097152 *ℤ c +ℤ pos 65536 *ℤ b +ℤ pos 8192 +ℤ a }
+{
+    a.as_u32() | 0x2000 | (b.as_u32() << 16) | (c.as_u32() << 21) | (d.as_u32() << 24) | 0x8000_0000
+}
+
+pub fn parts_of_a_byte(target: u4, number: u8) -> u16
+    ensures { pos result ≡ pos 57344 +ℤ pos 256 *ℤ pos (number / 16) +ℤ pos 16 *ℤ target +ℤ pos (number % 16) }
+{
+    0xE000 | (u16::from(number >> 4) << 8) | (target.as_u16() << 4) | u16::from(number & 15)
+}
+
+pub fn flags(a: bool, b: bool, c: bool, d: bool) -> u8
+    ensures { result ≡ (if a then 8 else 0) + (if b then 4 else 0) + (if c then 2 else 0) + (if d then 1 else 0) }
+{
+    (u8::from(a) << 3) | (u8::from(b) << 2) | (u8::from(c) << 1) | u8::from(d)
+}
+
+pub fn four_of_a_type(a: u7, b: u5, c: u5, d: u7) -> u24
+    ensures { result ≡ pos 131072 *ℤ d +ℤ pos 4096 *ℤ c +ℤ pos 128 *ℤ b +ℤ a }
+{
+    (u24::from_(d) << 17) | (u24::from_(c) << 12) | (u24::from_(b) << 7) | u24::from_(a)
+}
+
+pub fn four_of_a_type_low_first(a: u7, b: u5, c: u5, d: u7) -> u24
+    ensures { result ≡ pos 131072 *ℤ d +ℤ pos 4096 *ℤ c +ℤ pos 128 *ℤ b +ℤ a }
+{
+    u24::from_(a) | (u24::from_(b) << 7) | (u24::from_(c) << 12) | (u24::from_(d) << 17)
+}
+
+/// A transfer from memory.
+#[derive(Clone, Copy, Debug, PartialEq, Eq)]
+pub struct Descriptor {
+    pub interrupts: u1,
+    pub is_last: u1,
+    pub bytes: u14,
+    pub address: u48,
+}
+
+impl Descriptor {
+    pub fn pack(&self) -> u64
+        ensures { pos result ≡ pos 9223372036854775808 *ℤ self.now.interrupts +ℤ pos 4611686018427387904 *ℤ self.now.is_last +ℤ pos 281474976710656 *ℤ self.now.bytes +ℤ self.now.address }
+    {
+        (self.interrupts.as_u64() << 63)
+            | (self.is_last.as_u64() << 62)
+            | (self.bytes.as_u64() << 48)
+            | self.address.as_u64()
+    }
+}
+
+/// An entry of a label stack.
+#[derive(Clone, Copy, Debug, PartialEq, Eq)]
+pub struct Label {
+    pub label: u20,
+    pub traffic: u3,
+    pub bottom: bool,
+    pub lifetime: u8,
+}
+
+impl Label {
+    // Behind a reference no call but `as_u32` says that a byte is one.
+    pub fn pack(&self) -> u32
+        ensures { pos result ≡ pos 4096 *ℤ self.now.label +ℤ pos 512 *ℤ self.now.traffic +ℤ pos (if self.now.bottom then 256 else 0) +ℤ pos self.now.lifetime }
+    {
+        (self.label.value() << 12)
+            | (self.traffic.as_u32() << 9)
+            | (u32::from(self.bottom) << 8)
+            | self.lifetime.as_u32()
+    }
+}
+
+/// The fields of an instruction.
+#[derive(Clone, Copy, Debug, PartialEq, Eq)]
+pub struct Instruction {
+    pub number: u12,
+    pub source: u5,
+    pub function: u3,
+    pub target: u5,
+    pub operation: u7,
+}
+
+impl Instruction {
+    pub fn encode(self) -> u32
+        ensures { pos result ≡ pos 1048576 *ℤ self.number +ℤ pos 32768 *ℤ self.source +ℤ pos 4096 *ℤ self.function +ℤ pos 128 *ℤ self.target +ℤ self.operation }
+    {
+        (self.number.as_u32() << 20)
+            | (self.source.as_u32() << 15)
+            | (self.function.as_u32() << 12)
+            | (self.target.as_u32() << 7)
+            | self.operation.as_u32()
+    }
+
+    pub fn decode(word: u32) -> Instruction
+        ensures number { result.number ≡ field word 20 12 }
+        ensures source { result.source ≡ field word 15 5 }
+        ensures function { result.function ≡ field word 12 3 }
+        ensures target { result.target ≡ field word 7 5 }
+        ensures operation { result.operation ≡ field word 0 7 }
+    {
+        Instruction {
+            number: u12::extract_u32(word, 20),
+            source: u5::extract_u32(word, 15),
+            function: u3::extract_u32(word, 12),
+            target: ((word >> 7) & 31).as_::<u5>(),
+            operation: word.as_::<u7>(),
+        }
+    }
+}
+
+pub fn decoded_of_encoded(instruction: Instruction) -> Instruction
+    ensures { result ≡ instruction }
+{
+    Instruction::decode(instruction.encode())
+}
+
+pub fn signed_beside_fields(number: i12, source: u5, target: u5) -> u32
+    ensures { pos result ≡ pos 1048576 *ℤ wrap false 12 number +ℤ pos 32768 *ℤ source +ℤ pos 128 *ℤ target }
+{
+    (number.to_unsigned().as_u32() << 20) | (source.as_u32() << 15) | (target.as_u32() << 7)
+}
+
+pub fn one_of_five_read_back(a: u3, b: u5, c: u8, d: u6, e: u10) -> u6
+    ensures { result ≡ d }
+{
+    let word = (a.as_u32() << 29)
+        | (b.as_u32() << 24)
+        | (u32::from(c) << 16)
+        | (d.as_u32() << 10)
+        | e.as_u32();
+    (word >> 10).as_::<u6>()
+}
+
+pub fn one_of_five_under_a_mask(a: u3, b: u5, c: u8, d: u6, e: u10) -> u32
+    ensures { pos result ≡ d }
+{
+    let word = e.as_u32()
+        | (d.as_u32() << 10)
+        | (u32::from(c) << 16)
+        | (b.as_u32() << 24)
+        | (a.as_u32() << 29);
+    (word >> 10) & 0x3F
+}
+
+#[tactic(auto, using(arbitrary_int::proofs::JoinedWords::words_read_back))]
+pub fn each_read_back(version: u4, kind: u4, size: u24) -> bool
+    ensures { IsTrue result }
+{
+    let word = (version.as_u32() << 28) | (kind.as_u32() << 24) | size.value();
+    (word >> 28).as_::<u4>() == version
+        && (word >> 24) & 15 == kind.as_u32()
+        && u24::extract_u32(word, 0) == size
+}
+
+#[tactic(auto, using(arbitrary_int::proofs::JoinedWords::words_read_back))]
+pub fn read_back_beside_numbers(mode: u3, source: u5) -> bool
+    ensures { IsTrue result }
+{
+    let word = 0x8000 | (mode.as_u16() << 8) | 0x40 | source.as_u16();
+    u3::extract_u16(word, 8) == mode && word.as_::<u5>() == source && word >> 15 == 1
+}
+
+#[tactic(auto, using(arbitrary_int::proofs::JoinedWords::words_read_back))]
+pub fn read_back_below_a_mask(word: u32, low: u5, high: u3) -> bool
+    ensures { IsTrue result }
+{
+    let written = (word & 0xFFFF_0000) | (high.as_u32() << 8) | low.as_u32();
+    u3::extract_u32(written, 8) == high
+        && u5::extract_u32(written, 0) == low
+        && written >> 16 == word >> 16
+}
+
+#[tactic(auto, using(arbitrary_int::proofs::JoinedWords::words_read_back, arbitrary_int::proofs::Conversions::congruences))]
+pub fn counted_below_the_highest_bit(count: u8) -> u8
+    ensures high { result / 128 ≡ count / 128 }
+    ensures low { Congruent 7 (pos result) (pos count +ℤ pos 1) }
+{
+    (count & 0x80) | u7::masked_new(count).wrapping_add(u7::new(1)).value()
+}
