@@ -68,6 +68,11 @@ pub mod ComplementParts
 pub mod NegatedParts
 pub mod LowestMasks
 pub mod OverflowBits
+pub mod RightRotations
+pub mod MovedProducts
+pub mod VariableMasks
+pub mod VariablePlaces
+pub mod VariableAmounts
 pub use Rattle.arbitrary_base.proofs.integers.Ring
 pub use Rattle.arbitrary_base.proofs.modular.Truncation
 pub use Rattle.arbitrary_base.proofs.modular.Residue
