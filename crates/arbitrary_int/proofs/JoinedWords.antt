@@ -1,7 +1,7 @@
 -- Words of fields put together by `|`, as registers, headers and instructions have them: any number of fields, the high one first or the low one
--- first, with gaps between them or none, in primitives and in a `UInt`, and beside numbers that are written out. Each law is about one field of
--- the word and what stands on one side of it, so no law says how many fields there are. `ints` reads the numbers of these types without a case
--- for each sign, of which a word of fields would have too many.
+-- first, with gaps between them or none, and beside numbers that are written out, in a primitive; in a `UInt` up to four, whose calls say more.
+-- Each law is about one field of the word and what stands on one side of it, so no law says how many fields there are. `ints` reads the numbers
+-- of these types without a case for each sign, of which a word of fields would have too many.
 -- For callers: `#![tactic(auto, using(arbitrary_int::proofs::JoinedWords::joined_words))]`.
 use Rattle.std.specs.Prelude.{◌≡◌, ℕ, zero, suc, ◌+◌, ◌-◌, ◌*◌, ◌/◌, ◌%◌, ◌^◌, ◌<◌}
 use Rattle.std.specs.Int.Bits.{bit_and, bit_or, bit_xor}
