@@ -54,6 +54,7 @@ pub mod SignMasks
 pub mod SignTests
 pub mod MaskDigits
 pub mod SignWord
+pub mod TurnedSigns
 pub mod ZigZag
 pub mod Sets
 pub mod BitVector

@@ -1,7 +1,7 @@
 //! Laws of signs: the order of two numbers, whether they are equal, and an overflow, told by the sign of what bits make of them.
 #![tactic(auto, using(arbitrary_int::proofs::SignTests::sign_tests))]
 
-ghost use Rattle.std.specs.Prelude.{IsTrue, ◌<ℤ◌, ◌≤ℤ◌, pos};
+ghost use Rattle.std.specs.Prelude.{◌≡◌, ◌≤ℤ◌, ◌<ℤ◌, ◌+ℤ◌, pos, IsTrue};
 
 use arbitrary_int::prelude::*;
 
@@ -81,4 +81,27 @@ pub fn overflow_flag(x: i48, y: i48) -> bool
 {
     let (sum, overflow) = x.overflowing_add(y);
     (!(x ^ y) & (x ^ sum) < i48::zero()) == overflow
+}
+
+#[tactic(auto, using(arbitrary_int::proofs::TurnedSigns::turned_signs))]
+pub fn order_with_the_sign_turned(x: i12, y: i12) -> bool
+    ensures { IsTrue result }
+{
+    let sign = i12::min_value();
+    (x < y) == ((x ^ sign).to_unsigned() < (y ^ sign).to_unsigned())
+}
+
+#[tactic(auto, using(arbitrary_int::proofs::TurnedSigns::turned_signs))]
+pub fn at_most_with_the_sign_turned(x: i63, y: i63) -> bool
+    ensures { IsTrue result }
+{
+    let sign = i63::min_value();
+    ((x ^ sign).to_unsigned() <= (y ^ sign).to_unsigned()) == (x <= y)
+}
+
+#[tactic(auto, using(arbitrary_int::proofs::TurnedSigns::turned_signs))]
+pub fn number_with_the_sign_turned(x: i12) -> u12
+    ensures { result ≡ x +ℤ pos 2048 }
+{
+    (x ^ i12::min_value()).to_unsigned()
 }
