@@ -1,5 +1,5 @@
 #!/usr/bin/env python3
-"""Writes AllSets.antt: each law of the sets that docs/PROVING.md names, but for the set that stands apart, once; and those of some of these
+"""Writes AllSets.antt: each law of the sets that docs/PROVING.md names, but for the sets that stand apart, once; and those of some of these
 sets, as `laws`. A law that stood there once for each set that has it would be tried as often, and the search would come to its limit.
 LongerSide.antt turns laws round, and PositiveParts.antt has some for fewer numbers: theirs stand in place of those. `find_set.py --listed`
 tells whether the file is so.
@@ -20,7 +20,8 @@ WORDS = re.compile(r'^pub ruleset words = \((.*)\)$', re.M)
 # are, the further the search comes with each.
 OPERATIONS = ['bits', 'distribution', 'bit_by_bit', 'mask_tests', 'shifts', 'rotations', 'reversals', 'ring', 'products', 'masks', 'complements',
               'negations', 'mixed', 'carries', 'order', 'cancellations']
-OF_LAWS = [*(['BitVector', it] for it in OPERATIONS), ['Truncations', 'truncations'], ['Extensions', 'extensions'], ['LowestPlace', 'lowest_place']]
+OF_LAWS = [*(['BitVector', it] for it in OPERATIONS), ['RightRotations', 'right_rotations'], ['MovedProducts', 'moved_products'],
+           ['Truncations', 'truncations'], ['Extensions', 'extensions'], ['LowestPlace', 'lowest_place']]
 LAWS = re.compile(r'^(pub ruleset laws = ).*$', re.M)
 
 
@@ -51,18 +52,18 @@ def replaced():
 
 def text():
     """AllSets.antt as it should be: its head, its comments and the set `words` stay."""
-    names = [it.split('::') for it in sets() if not it.startswith(ALL) and it != APART]
+    names = [it.split('::') for it in sets() if not it.startswith(ALL) and it not in APART]
     without = replaced()
 
     def once(chosen):
         return dict.fromkeys(law for it in [*chosen, *IN_PLACE] for law in laws(*it) if law not in without)
 
     alias = {}
-    for origin, part in once(names):
+    for origin, part in once([*names, *OF_LAWS]):
         alias[origin, part] = part if part not in alias.values() else f'{part}_of_{origin.split(".")[-1]}'
     old = ALL_FILE.read_text()
     head = re.match(r'(?:--.*\n)*', old)[0]
-    of_laws = ', '.join(alias[law] for law in once(OF_LAWS))
+    of_all, of_laws = (', '.join(alias[law] for law in once(chosen)) for chosen in (names, OF_LAWS))
     rest = LAWS.sub(lambda found: f'{found[1]}({of_laws})', old[old.index('\n', old.index(LINE)):])
     words = WORDS.search(rest)[1].split(', ')
     used = {}
@@ -72,7 +73,7 @@ def text():
         if chosen in words:
             used.setdefault(HERE + file, set()).add(chosen)
     imports = ''.join(f'use {origin}.{{{", ".join(sorted(parts))}}}\n' for origin, parts in sorted(used.items()))
-    return f'{head}{imports}\n{LINE}({", ".join(alias.values())}){rest}'
+    return f'{head}{imports}\n{LINE}({of_all}){rest}'
 
 
 if __name__ == '__main__':

@@ -22,8 +22,11 @@ from wrong_bodies import PARTS, command, libraries
 PAGE = ROOT / 'docs/PROVING.md'
 ALL = 'AllSets::'
 ALL_FILE = ROOT / 'crates/arbitrary_int/proofs/AllSets.antt'
-# its cases would fill the search of the others
-APART = 'MovedBits::moved_bits'
+# What is not among all sets: the cases of the first would fill the search, and the others close nothing there that they close alone.
+APART = ['MovedBits::moved_bits', 'RightRotations::right_rotations', 'MovedProducts::moved_products', 'VariableMasks::variable_masks',
+         'VariableMasks::variable_parts', 'VariablePlaces::variable_places', 'VariableAmounts::variable_amounts', 'SignMasks::sign_masks',
+         'SignTests::sign_tests', 'SignTests::overflow_tests', 'TurnedSigns::turned_signs', 'JoinedWords::joined_words',
+         'JoinedWords::words_read_back', 'MaskDigits::mask_digits']
 # Where a row of a table has two sets, `;` is between them. The head of a table says which module its sets are of.
 HEAD = re.compile(r'\| .* \| The set(?: of `(\w+)`)? \|')
 NAME = re.compile(r'`((?:\w+::)?\w+)`')

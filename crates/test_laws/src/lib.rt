@@ -34,6 +34,7 @@ pub mod multiples;
 pub mod negated_parts;
 pub mod offsets;
 pub mod one_bits;
+pub mod operations;
 pub mod order;
 pub mod overflow_bits;
 pub mod products;

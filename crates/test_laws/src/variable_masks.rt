@@ -112,7 +112,7 @@ pub fn parts_added_with_a_sign(x: i24, k: u32) -> bool
     ((x >> k) << k).wrapping_add(x & !(i24::new(-1) << k)) == x
 }
 
-pub fn high_bits_kept(x: u24, k: u32) -> bool
+pub fn high_bits_alone(x: u24, k: u32) -> bool
     requires { k < 24 }
     ensures { IsTrue result }
 {
