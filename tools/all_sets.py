@@ -16,10 +16,10 @@ IMPORT = re.compile(r'^use ([\w.]+)\.\{(.*)\}$', re.M)
 SET = re.compile(r'^pub ruleset (\w+) = \((.*)\)$', re.M)
 LINE = 'pub ruleset all_sets = '
 WORDS = re.compile(r'^pub ruleset words = \((.*)\)$', re.M)
-# The sets that are about operations alone, whatever the number: no written mask, no place of a bit, no field, no count. The fewer laws there
-# are, the further the search comes with each.
+# The sets that are about operations alone, whatever the number: no written mask, no place of a bit, no field. The fewer laws there are, the
+# further the search comes with each.
 OPERATIONS = ['bits', 'distribution', 'bit_by_bit', 'mask_tests', 'shifts', 'rotations', 'reversals', 'ring', 'products', 'masks', 'complements',
-              'negations', 'mixed', 'carries', 'order', 'cancellations']
+              'negations', 'mixed', 'carries', 'order', 'cancellations', 'counts', 'exact']
 OF_LAWS = [*(['BitVector', it] for it in OPERATIONS), ['RightRotations', 'right_rotations'], ['MovedProducts', 'moved_products'],
            ['Truncations', 'truncations'], ['Extensions', 'extensions'], ['LowestPlace', 'lowest_place']]
 LAWS = re.compile(r'^(pub ruleset laws = ).*$', re.M)
