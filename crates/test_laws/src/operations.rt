@@ -131,3 +131,27 @@ pub fn difference_of_a_sum(x: u48, y: u48) -> bool
 {
     x.wrapping_add(y).wrapping_sub(y) == x
 }
+
+pub fn zeros_at_the_ends(x: u12) -> bool
+    ensures { IsTrue result }
+{
+    x.reverse_bits().leading_zeros() == x.trailing_zeros()
+}
+
+pub fn ones_of_complement(x: i12) -> bool
+    ensures { IsTrue result }
+{
+    (!x).count_ones() == x.count_zeros()
+}
+
+pub fn ones_of_reversed(x: u12) -> bool
+    ensures { IsTrue result }
+{
+    x.reverse_bits().count_ones() == x.count_ones()
+}
+
+pub fn leading_ones_of_complement(x: i12) -> bool
+    ensures { IsTrue result }
+{
+    (!x).leading_ones() == x.leading_zeros()
+}
