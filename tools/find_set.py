@@ -22,7 +22,7 @@ from wrong_bodies import PARTS, command, libraries
 PAGE = ROOT / 'docs/PROVING.md'
 ALL = 'AllSets::'
 ALL_FILE = ROOT / 'crates/arbitrary_int/proofs/AllSets.antt'
-# What is not among all sets: the cases of the first would fill the search, and the others close nothing there that they close alone.
+# What is not among all sets: beside so many laws the search comes to its limit in most of what these close alone.
 APART = ['MovedBits::moved_bits', 'RightRotations::right_rotations', 'MovedProducts::moved_products', 'VariableMasks::variable_masks',
          'VariableMasks::variable_parts', 'VariablePlaces::variable_places', 'VariableAmounts::variable_amounts', 'SignMasks::sign_masks',
          'SignTests::sign_tests', 'SignTests::overflow_tests', 'TurnedSigns::turned_signs', 'JoinedWords::joined_words',

@@ -1,5 +1,5 @@
--- For callers: the laws of every set that docs/PROVING.md names, as one set, but for `moved_bits`, whose cases would fill the search. A file of
--- several kinds of laws names it once: `#![tactic(auto, using(arbitrary_int::proofs::AllSets::all_sets))]`. The search takes more time by
+-- For callers: the laws of the sets that docs/PROVING.md names, as one set, but for those that it says stand apart. A file of several kinds of
+-- laws names it once: `#![tactic(auto, using(arbitrary_int::proofs::AllSets::all_sets))]`. The search takes more time by
 -- it, and some laws prove by their own set alone, which a function may name beside a file that names this. tools/all_sets.py writes it.
 use Rattle.arbitrary_base.proofs.LawProof.{in_range-tells, sums-associate}
 use Rattle.arbitrary_base.proofs.bit_lists.TwosComplement.{bits-wrap, num-bits_residue, val-bits_in_range}

@@ -1,5 +1,6 @@
 //! Laws that every library of bit vectors has, most at `u12` and `i12`, some at other widths: each function tells whether the two sides are equal, and
-//! ensures that they are. None has a proof of its own: each file or function names one set of laws.
+//! ensures that they are. None has a proof of its own: each file or function names one set of laws, and
+//! one function two.
 #![tactic(auto)]
 
 pub mod all_sets;
