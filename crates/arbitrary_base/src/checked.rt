@@ -106,7 +106,7 @@ pub fn mul<T: Storage>(x: T, y: T, bits: usize) -> Option<T>
         (InRange T.SIGNED bits (T.number x *ℤ T.number y)) (T.number x *ℤ T.number y) }
 {
     if T::SIGNED && (bits < T::WIDTH && is_in_range(x, bits)) {
-        let (product, overflow) = raised::mul(x, y, bits);
+        let (product, overflow) = raised::flagged_mul(x, y, bits);
         if overflow { None } else { Some(product) }
     } else if T::WIDTH <= 16 {
         let product = small::product(x, y);

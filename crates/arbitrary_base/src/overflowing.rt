@@ -2,6 +2,7 @@
 //! out of range.
 
 ghost use Rattle.std.specs.Prelude.{◌≡◌, ◌≢◌, ◌↔◌, ◌≤◌, ◌+ℤ◌, ◌-ℤ◌, ◌*ℤ◌, neg_ℤ, pos, int_div, IsTrue};
+ghost use Rattle.std.specs.Ordering.{int_eq};
 ghost use Rattle.arbitrary_base.specs.Range.{InRange};
 ghost use Rattle.arbitrary_base.specs.Residue.{wrap};
 
@@ -9,6 +10,21 @@ use crate::ends::zero;
 use crate::storage::Storage;
 use crate::truncation::{cast, equal, is_in_range, truncated};
 use crate::{checked, raised, small, wrapping};
+
+/// Whether the truncation of a number is the number.
+// In 128 bits it has the low half of the number, so the high halves tell: one comparison.
+fn is_kept<T: Storage>(truncation: T, x: T, bits: usize) -> bool
+    requires width { 1 ≤ bits }
+    requires storage { bits ≤ T.WIDTH }
+    requires truncation { T.number truncation ≡ wrap T.SIGNED bits (T.number x) }
+    ensures { result ≡ int_eq (T.number truncation) (T.number x) }
+{
+    if T::WIDTH == 128 && 64 <= bits {
+        (truncation.storage_bits() >> 64) as u64 == (x.storage_bits() >> 64) as u64
+    } else {
+        equal(&truncation, &x)
+    }
+}
 
 /// The sum, wrapped, and whether the exact one is out of range.
 #[tactic(auto, using(crate::proofs::storages::Clamp::overflow_laws))]
@@ -26,7 +42,7 @@ pub fn add<T: Storage>(x: T, y: T, bits: usize) -> (T, bool)
     } else if T::SIGNED && bits < T::WIDTH {
         let spare = x.wrapping_add(y);
         let sum = truncated(spare, bits);
-        (sum, !equal(&sum, &spare))
+        (sum, !is_kept(sum, spare, bits))
     } else {
         let exact = checked::add_by_order(x, y, bits);
         (wrapping::add(x, y, bits), exact.is_none())
@@ -55,7 +71,8 @@ pub fn sub<T: Storage>(x: T, y: T, bits: usize) -> (T, bool)
 }
 
 /// The product, wrapped, and whether the exact one is out of range.
-// Callers have `x` in range, and the compiler sees it: there the test of it costs nothing.
+// Callers have `x` in range, and the compiler sees it: there the test of it costs nothing. In 8 bits the storage's own flag costs
+// less here than that of 32.
 #[tactic(auto, using(crate::proofs::storages::Clamp::overflow_laws))]
 pub fn mul<T: Storage>(x: T, y: T, bits: usize) -> (T, bool)
     requires width { 1 ≤ bits }
@@ -65,7 +82,11 @@ pub fn mul<T: Storage>(x: T, y: T, bits: usize) -> (T, bool)
     ensures overflow { IsTrue result.1 ↔ ¬ (InRange T.SIGNED bits (T.number x *ℤ T.number y)) }
 {
     if T::SIGNED && (bits < T::WIDTH && is_in_range(x, bits)) {
-        raised::mul(x, y, bits)
+        if T::WIDTH == 8 {
+            raised::mul(x, y, bits)
+        } else {
+            raised::flagged_mul(x, y, bits)
+        }
     } else if T::WIDTH <= 16 {
         let product = small::product(x, y);
         (

@@ -6,7 +6,7 @@ ghost use Rattle.arbitrary_base.specs.Saturation.{clamp};
 
 use crate::ends::{end, highest, is_below_zero, zero};
 use crate::storage::Storage;
-use crate::{checked, small};
+use crate::{checked, raised, small};
 
 /// The sum, or the end of the range that is nearest to it.
 #[tactic(auto, using(crate::proofs::storages::Clamp::clamps))]
@@ -18,9 +18,13 @@ pub fn add<T: Storage>(x: T, y: T, bits: usize) -> T
     ensures value { T.number result ≡ clamp T.SIGNED bits (T.number x +ℤ T.number y) }
     ensures range { InRange T.SIGNED bits (T.number result) }
 {
-    match checked::add(x, y, bits) {
-        Some(sum) => sum,
-        None => end(is_below_zero(&y), bits),
+    if T::SIGNED && T::WIDTH <= 16 {
+        raised::saturating_add(x, y, bits)
+    } else {
+        match checked::add(x, y, bits) {
+            Some(sum) => sum,
+            None => end(is_below_zero(&y), bits),
+        }
     }
 }
 

@@ -1,5 +1,5 @@
-//! The numbers of storages of at most 16 bits, in 64 bits, where their sums and products are exact. So one is made once, and
-//! `checked`, `saturating`, `overflowing` and `raised` test it.
+//! The numbers of small storages in 64 bits, where sums of at most 32 bits and products of at most 16 are exact. So one is made
+//! once, and `checked`, `saturating`, `overflowing` and `raised` test it.
 
 ghost use Rattle.std.specs.Prelude.{◌≡◌, ◌↔◌, ◌≤◌, ◌+ℤ◌, ◌*ℤ◌, IsTrue};
 ghost use Rattle.arbitrary_base.specs.Range.{InRange};
@@ -11,7 +11,7 @@ use crate::truncation::cast;
 
 /// The number.
 fn number<T: Storage>(x: T) -> i64
-    requires small { T.WIDTH ≤ 16 }
+    requires small { T.WIDTH ≤ 32 }
     ensures value { result ≡ T.number x }
     ensures range { InRange T.SIGNED T.WIDTH (T.number x) }
 {
@@ -31,7 +31,7 @@ pub(crate) fn product<T: Storage>(x: T, y: T) -> i64
 
 /// The exact sum.
 pub(crate) fn sum<T: Storage>(x: T, y: T) -> i64
-    requires small { T.WIDTH ≤ 16 }
+    requires small { T.WIDTH ≤ 32 }
     ensures { result ≡ T.number x +ℤ T.number y }
 {
     number(x) + number(y)
@@ -40,7 +40,7 @@ pub(crate) fn sum<T: Storage>(x: T, y: T) -> i64
 /// Whether the type of `bits` bits over the storage has the number.
 #[tactic(auto, using(crate::proofs::storages::SixteenBits::tests))]
 pub(crate) fn is_number_of<T: Storage>(x: i64, bits: usize) -> bool
-    requires small { T.WIDTH ≤ 16 }
+    requires small { T.WIDTH ≤ 32 }
     requires width { 1 ≤ bits }
     requires storage { bits ≤ T.WIDTH }
     ensures { IsTrue result ↔ InRange T.SIGNED bits x }
@@ -60,7 +60,7 @@ pub(crate) fn from_i64<T: Storage>(x: i64) -> T
 /// The number, or the end of the range of `bits` bits over the storage that is nearest to it.
 #[tactic(auto, using(crate::proofs::storages::SixteenBits::clamps))]
 pub(crate) fn clamped<T: Storage>(x: i64, bits: usize) -> i64
-    requires small { T.WIDTH ≤ 16 }
+    requires small { T.WIDTH ≤ 32 }
     requires width { 1 ≤ bits }
     requires storage { bits ≤ T.WIDTH }
     ensures { result ≡ clamp T.SIGNED bits x }

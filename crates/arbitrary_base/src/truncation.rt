@@ -6,6 +6,7 @@ ghost use Rattle.std.specs.Ordering.{int_cmp, int_eq};
 ghost use Rattle.arbitrary_base.specs.Range.{lo, InRange};
 ghost use Rattle.arbitrary_base.specs.Residue.{Congruent, residue, wrap};
 
+use crate::raised;
 use crate::storage::Storage;
 use std::cmp::Ordering;
 
@@ -46,14 +47,18 @@ pub(crate) fn reach_below_zero(signed: bool, bits: usize) -> u128
 
 /// The 128 bits of the number of a type of `bits` bits that is congruent to the pattern:
 /// zero extension, and sign extension where the type has a sign.
-// Shifting the range up to start at 0 makes the truncation exact for both signs, with no branch.
+// Shifting the range up to start at 0 makes the truncation exact for both signs, with no branch. Past 64 bits two shifts cost less.
 pub fn extend(signed: bool, pattern: u128, bits: usize) -> u128
     requires width { 1 ≤ bits }
     requires storage { bits ≤ 128 }
     ensures { Congruent 128 (pos result) (wrap signed bits (pos pattern)) }
 {
-    let offset = reach_below_zero(signed, bits);
-    masked(pattern.wrapping_add(offset), bits).wrapping_sub(offset)
+    if signed && 64 < bits {
+        raised::sign_extended(pattern, bits)
+    } else {
+        let offset = reach_below_zero(signed, bits);
+        masked(pattern.wrapping_add(offset), bits).wrapping_sub(offset)
+    }
 }
 
 /// The number, truncated to the type of `bits` bits.
