@@ -13,7 +13,7 @@ use crate::{checked, raised, small, wrapping};
 
 /// Whether the truncation of a number is the number.
 // In 128 bits it has the low half of the number, so the high halves tell: one comparison.
-fn is_kept<T: Storage>(truncation: T, x: T, bits: usize) -> bool
+fn is_unchanged<T: Storage>(truncation: T, x: T, bits: usize) -> bool
     requires width { 1 ≤ bits }
     requires storage { bits ≤ T.WIDTH }
     requires truncation { T.number truncation ≡ wrap T.SIGNED bits (T.number x) }
@@ -42,7 +42,7 @@ pub fn add<T: Storage>(x: T, y: T, bits: usize) -> (T, bool)
     } else if T::SIGNED && bits < T::WIDTH {
         let spare = x.wrapping_add(y);
         let sum = truncated(spare, bits);
-        (sum, !is_kept(sum, spare, bits))
+        (sum, !is_unchanged(sum, spare, bits))
     } else {
         let exact = checked::add_by_order(x, y, bits);
         (wrapping::add(x, y, bits), exact.is_none())

@@ -11,4 +11,4 @@ returns-then-bits-WIDTH-clause-overflow g c =
     let room : c.args.bits < g.T.Storage.WIDTH = omega (arith, c.WIDTH-then-SIGNED-2.ensures, c.if-bits-WIDTH.true) in
     overflow-told g.T.Storage.SIGNED c.args.bits _ _ _ _ c.requires.width
     (add-tells g.T.Storage.SIGNED c.args.bits g.T.Storage.WIDTH _ _ _ c.requires.width room c.requires.x_in c.requires.y_in c.wrapping_add-spare.ensures)
-    c.truncated-sum.ensures.value c.is_kept.ensures
+    c.truncated-sum.ensures.value c.is_unchanged.ensures

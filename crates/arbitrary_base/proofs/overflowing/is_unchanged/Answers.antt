@@ -1,6 +1,6 @@
 use Rattle.std.proofs.Common.{arith, refl}
 use Rattle.arbitrary_base.proofs.storages.HighHalf.{halves-tell}
-use Rattle.arbitrary_base.proofs.overflowing.is_kept.Goals as goal
+use Rattle.arbitrary_base.proofs.overflowing.is_unchanged.Goals as goal
 
 pub returns-then-bits-ge64 : goal.returns-then-bits-ge64
 returns-then-bits-ge64 g c =
