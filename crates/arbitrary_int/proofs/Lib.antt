@@ -13,6 +13,8 @@ pub mod ReadBack
 pub mod JoinedWords
 pub mod MovedIn
 pub mod ReplacedField
+pub mod PlacedField
+pub mod FieldInNumber
 pub mod StreamBytes
 pub mod StepWords
 pub mod TextLength

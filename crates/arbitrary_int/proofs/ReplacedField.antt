@@ -19,7 +19,8 @@ use Rattle.arbitrary_int.proofs.SideBySide.{beside}
 none : (n : ℕ) → bit_and n 0 ≡ 0
 none n = let l = and_le_r n 0 in omega arith
 
-apart : (m y k : ℕ) → y < 2 ^ low_zeros 128 (m / 2 ^ k) → m / 2 ^ k % 2 ^ low_zeros 128 (m / 2 ^ k) ≡ 0 → bit_and m (y * 2 ^ k) ≡ 0
+-- a number has no bit of a field that stands among its ones
+pub apart : (m y k : ℕ) → y < 2 ^ low_zeros 128 (m / 2 ^ k) → m / 2 ^ k % 2 ^ low_zeros 128 (m / 2 ^ k) ≡ 0 → bit_and m (y * 2 ^ k) ≡ 0
 apart m y k g e =
     let q = m / 2 ^ k in
     let j = low_zeros 128 q in

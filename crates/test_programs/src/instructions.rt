@@ -1,0 +1,42 @@
+//! Words of instructions whose written number has ones on both sides of a field.
+//! None has a proof of its own: the file names one set of laws.
+#![tactic(auto, using(arbitrary_int::proofs::FieldInNumber::fields_in_numbers))]
+
+ghost use Rattle.std.specs.Prelude.{◌≡◌, ◌+ℤ◌, ◌*ℤ◌, pos, IsTrue};
+
+use arbitrary_int::prelude::*;
+
+/// The byte of a conditional jump of the 8080: `11ccc010`.
+pub fn jump(condition: u3) -> u8
+    ensures { pos result ≡ pos 194 +ℤ condition *ℤ pos 8 }
+{
+    0xC2 | (condition.value() << 3)
+}
+
+pub fn condition_read_back(condition: u3) -> u3
+    ensures { result ≡ condition }
+{
+    let opcode = 0xC2 | (condition.value() << 3);
+    u3::new((opcode >> 3) & 7)
+}
+
+/// `11vvv111`.
+pub fn is_restart(vector: u3) -> bool
+    ensures { IsTrue result }
+{
+    let opcode = 0xC7 | (vector.value() << 3);
+    opcode & 7 == 7 && opcode >> 6 == 3
+}
+
+/// An instruction of RISC-V with a register from bit 7 on, and its field first.
+pub fn with_register(register: u5) -> u32
+    ensures { pos result ≡ register *ℤ pos 128 +ℤ pos 1048595 }
+{
+    (register.as_u32() << 7) | 0x0010_0013
+}
+
+pub fn register_read_back(register: u5) -> u5
+    ensures { result ≡ register }
+{
+    u5::extract_u32((register.as_u32() << 7) | 0x0010_0013, 7)
+}
