@@ -1,6 +1,6 @@
 //! What generic code knows of the operators and calls of an integer of fixed width. The calls stand in `calls`.
 
-ghost use Rattle.std.specs.Prelude.{not, Bool, ℕ, ◌&&◌, ◌||◌, ◌⊎◌, ◌≡◌, ◌≢◌, ◌+◌, ◌-◌, ◌+ℤ◌, ◌-ℤ◌, ◌*ℤ◌, ◌≤ℤ◌, ℤ, pos, false, true};
+ghost use Rattle.std.specs.Prelude.{not, Bool, ℕ, ◌&&◌, ◌||◌, ◌⊎◌, ◌≡◌, ◌≢◌, ◌≤◌, ◌<◌, ◌+◌, ◌-◌, ◌%◌, ◌^◌, ◌+ℤ◌, ◌-ℤ◌, ◌*ℤ◌, ◌≤ℤ◌, ℤ, pos, unsigned_abs, false, true};
 ghost use Rattle.std.specs.Bool.{beq};
 ghost use Rattle.std.specs.Ordering.{ord_max, ord_min};
 ghost use Rattle.std.specs.List.{count_by, suffix_len, prefix_len};
@@ -115,6 +115,10 @@ pub trait FixedWidth: Integer + FixedWidthCalls {
     ghost and_at_most_right: { (a b r : Self) → Self.bitand_gives a b r → Self.valid
         → Self.IS_SIGNED ≡ false → Self.number r ≤ℤ Self.number b };
 
+    // 1 as a mask leaves the remainder by 2.
+    ghost and_one: { (a b r : Self) → Self.bitand_gives a b r → Self.valid
+        → Self.number b ≡ pos 1 → Self.number r ≡ pos (unsigned_abs (Self.number a) % 2) };
+
     ghost and_fits: { (a b : Self) → fits (and_of a b) ≡ true };
 
     ghost and_bit: { (a b : Self) (i : Place Self.BITS)
@@ -215,6 +219,12 @@ pub trait FixedWidth: Integer + FixedWidthCalls {
     ghost shl_law: { (x : ℤ) (m : ℕ) → Self.valid
         → shifted_left Self.IS_SIGNED Self.BITS x m
         ≡ Self.number (shl_of (value_of x) (amount Self.BITS m)) };
+
+    // Without a sign 1 moved up is a power of 2. The amount of a call is a remainder by the width.
+    ghost one_moved: { (x : ℤ) (m k : ℕ) → Self.valid → Self.IS_SIGNED ≡ false → x ≡ pos 1
+        → m ≡ k % Self.BITS → k < Self.BITS
+        → (shifted_left Self.IS_SIGNED Self.BITS x m ≡ pos (2 ^ k))
+        × (1 ≤ 2 ^ k) × (2 ^ k < 2 ^ Self.BITS) };
 
     ghost shl_fits: { (a : Self) (t : Amount Self.BITS) → fits (shl_of a t) ≡ true };
 
@@ -403,6 +413,10 @@ pub trait FixedWidth: Integer + FixedWidthCalls {
 
     ghost sum_of_negated: { (a b c : Self) → Self.valid → c ≡ difference_of (value_of (pos 0)) b
         → sum_of a c ≡ difference_of a b };
+
+    // Without a sign the greatest number less another is its complement, told where that stands too.
+    ghost rest_law: { (a b c r : Self) → Self.sub_gives a b r → Self.not_gives b c → Self.valid
+        → Self.IS_SIGNED ≡ false → Self.number a ≡ hi Self.IS_SIGNED Self.BITS → r ≡ c };
 
     ghost difference_of_ones: { (a b : Self) → Self.valid → b ≡ not_of (value_of (pos 0))
         → difference_of b a ≡ not_of a };

@@ -74,3 +74,10 @@ pub fn ones_and_zeros<V: FixedWidth>(x: V) -> u32
 {
     x.count_ones() + x.count_zeros()
 }
+
+pub fn width<V: FixedWidth>() -> u32
+    requires { V.valid }
+    ensures { result ≡ V.BITS }
+{
+    V::BITS as u32
+}

@@ -16,6 +16,7 @@ pub mod generic_calls;
 pub mod generic_checked;
 pub mod generic_operators;
 pub mod generic_orders;
+pub mod generic_places;
 pub mod masks;
 pub mod numbers;
 pub mod other_bits;

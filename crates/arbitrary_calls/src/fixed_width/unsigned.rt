@@ -13,6 +13,7 @@ ghost use Rattle.arbitrary_base.proofs.operations.BitByBit.{and-itself, bit_at, 
 ghost use Rattle.arbitrary_base.proofs.operations.Definition.{and-is, not-is, or-is, xor-is};
 ghost use Rattle.arbitrary_base.proofs.operations.OperatorOrder.{and-at_most, and-at_most_left, not-mirrors, not-of_greatest, not-of_least, or-at_least, or-at_least_right};
 ghost use Rattle.arbitrary_core.proofs.UnsignedQuotient.{quotient-in_range};
+ghost use Rattle.arbitrary_core.proofs.SingleBits.{and-one, one-moved, rest-is_complement};
 ghost use Rattle.arbitrary_core.proofs.EndOfTwo.{greater-at_least, lesser-at_most};
 
 use crate::fixed_width::FixedWidth;
@@ -89,6 +90,8 @@ where
     ghost and_at_most_left = { λ a b r h v n. and-at_most_left _ _ _ _ _ n v.0 h.0 h.1 };
 
     ghost and_at_most_right = { λ a b r h v n. and-at_most _ _ _ _ _ n v.0 h.0 h.2 };
+
+    ghost and_one = { λ a b r h v e. and-one _ _ _ _ _ v.0 h.0 h.2 e };
 
     ghost and_fits = { λ a b. own_bits-and _ _ _ _ };
 
@@ -176,6 +179,8 @@ where
     ghost shl_of = { λ a t. left T.SIGNED BITS a t };
 
     ghost shl_law = { λ x m h. left-of_amount _ _ _ _ h.0 };
+
+    ghost one_moved = { λ x m k v n e d g. one-moved _ _ _ _ _ n v.0 e d g };
 
     ghost shl_fits = { λ a t. left-own T.SIGNED BITS a t };
 
@@ -316,6 +321,8 @@ where
     ghost difference_zero = { λ a b h e. difference-with_zero _ _ _ _ h.0 e };
 
     ghost sum_of_negated = { λ a b c h e. sum-with_negated _ _ _ _ _ h.0 e };
+
+    ghost rest_law = { λ a b c r h g v n e. rest-is_complement _ _ _ _ _ _ n v.0 e h.0 g.0 g.1 };
 
     ghost difference_of_ones = { λ a b h e. difference-of_ones _ _ _ _ h.0 e };
 
