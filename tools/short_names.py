@@ -3,9 +3,9 @@
 
 Tells whether the short names `u1` to `u127` and `i1` to `i127` each stand for the type over the smallest primitive
 that has room, and whether `arbitrary_int` gives all of them at its root and in its prelude; whether each width from 1 to 128
-has its impl of `HasWidth`; and whether `test_widths` asks for the ends of both types at each. With --write it writes the
-two files of names, the two of impls and the two of tests. 8, 16, 32 and 64 bits have no short name: they are primitives
-already.
+has its impl of `HasWidth`, and each from 8 on that of `FitsIn`; and whether `test_widths` asks for the ends of both types
+at each. With --write it writes the two files of names, the four of impls and the two of tests. 8, 16, 32 and 64 bits have
+no short name: they are primitives already.
 """
 import sys
 from pathlib import Path
@@ -56,6 +56,34 @@ def room(first, last):
     return '\n'.join(lines) + '\n'
 
 
+def widest(bits):
+    """How many bits the widest primitive has whose numbers all fit in so many."""
+    return max(width for width in STORAGES if width <= bits)
+
+
+def fits(first, last):
+    """The file that says which storages have no number too long for the widths from the first to the last."""
+    traits = [f'AtMost{width}' for width in STORAGES if widest(first) <= width <= widest(last)]
+    lines = [
+        f'//! The storages whose numbers all fit in {first} to {last} bits (`most`).',
+        '//! tools/short_names.py writes this file.',
+        '',
+        'ghost use Rattle.std.proofs.Common.{lit≤, le_trans};',
+        '',
+        'use crate::widths::FitsIn;',
+        f'use crate::widths::most::{{{", ".join(traits)}}};',
+    ]
+    for bits in range(first, last + 1):
+        law = f'T.most_{widest(bits)}_law'
+        lines += [
+            '',
+            f'impl<T: AtMost{widest(bits)}> FitsIn<{bits}> for T {{',
+            f'    ghost fits_law = {{ {law if bits in STORAGES else f"le_trans {law} (lit≤ tt)"} }};',
+            '}',
+        ]
+    return '\n'.join(lines) + '\n'
+
+
 def ends(letter, name, module):
     """The file of tests that has the ends of one type at each width, from their definitions."""
     lines = [
@@ -85,6 +113,8 @@ def main():
     texts |= {CRATES / f'test_widths/src/{module}.rt': ends(letter, name, module) for letter, name, module in signs}
     texts[core / 'widths/to_64.rt'] = room(1, 64)
     texts[core / 'widths/to_128.rt'] = room(65, 128)
+    texts[core / 'widths/fits_to_64.rt'] = fits(8, 64)
+    texts[core / 'widths/fits_to_128.rt'] = fits(65, 128)
     for file, text in texts.items():
         if '--write' in sys.argv[1:]:
             file.write_text(text)

@@ -1,10 +1,14 @@
 //! The widths that a storage has room for, shown by a trait: so a function with no argument, as std's `default`, can make
 //! a value of every type that has one. `to_64` and `to_128` have the impls, over `room`; `valid` has the same of an integer type.
 
+ghost use Rattle.std.specs.Prelude.{◌≤◌};
 ghost use Rattle.std.specs.Int.{IsInRange};
 
 use arbitrary_base::storage::Storage;
 
+pub mod fits_to_128;
+pub mod fits_to_64;
+pub mod most;
 pub mod room;
 pub mod to_128;
 pub mod to_64;
@@ -13,4 +17,9 @@ pub mod valid;
 /// The storage has room for `B` bits: each does for every `B` from 1 to its own width, and for no other.
 pub trait HasWidth<const B: usize>: Storage {
     ghost valid_law: { IsInRange 1 Self.WIDTH B };
+}
+
+/// Each number of the storage is one of `B` bits: so for every `B` from its own width to 128, and for no other.
+pub trait FitsIn<const B: usize>: Storage {
+    ghost fits_law: { Self.WIDTH ≤ B };
 }

@@ -277,6 +277,7 @@ pub use arbitrary_core::aliases::unsigned::u126;
 pub use arbitrary_core::aliases::unsigned::u127;
 pub use arbitrary_core::signed::Int;
 pub use arbitrary_core::unsigned::UInt;
+pub use arbitrary_core::widths::FitsIn;
 pub use arbitrary_core::widths::HasWidth;
 pub use arbitrary_core::widths::valid::ValidWidth;
 pub use arbitrary_traits::counterparts::SignedCounterpart;

@@ -1,0 +1,4 @@
+//! std's `From` between these integers, and from and into the primitives.
+
+pub mod signed;
+pub mod unsigned;
