@@ -12,7 +12,7 @@ use std::cmp::Ordering;
 
 /// The pattern whose low `bits` bits are one, and whose others are zero.
 #[tactic(auto, using(crate::proofs::modular::Truncation::low_mask_laws))]
-pub fn low_mask(bits: usize) -> u128
+pub const fn low_mask(bits: usize) -> u128
     requires { bits ≤ 128 }
     ensures value { result + 1 ≡ 2 ^ bits }
     ensures number { pos result ≡ pos (2 ^ bits) -ℤ pos 1 }

@@ -148,7 +148,7 @@ where
     /// The value that has these bits. The precondition is that the width is valid and that the pattern
     /// is below `2 ^ BITS` (or calls `try_from_bits`).
     #[tactic(auto, using(crate::proofs::StoredBits::stored))]
-    pub fn from_bits(bits: T::Unsigned) -> Self
+    pub const fn from_bits(bits: T::Unsigned) -> Self
         requires width { IsInRange 1 T.WIDTH BITS }
         requires range { InRange T.Unsigned.SIGNED BITS (T.Unsigned.number bits) }
         ensures bits { pos (residue BITS result) ≡ T.Unsigned.number bits }

@@ -61,7 +61,7 @@ impl<T: UnsignedStorage, const BITS: usize> UInt<T, BITS> {
 
     /// The value of a number. The precondition is that the width is valid (test it by
     /// `is_valid_width`) and that the number is in range (or calls `try_new`).
-    pub fn new(value: T) -> Self
+    pub const fn new(value: T) -> Self
         requires width { IsInRange 1 T.WIDTH BITS }
         requires range { InRange T.SIGNED BITS (T.number value) }
         ensures { result ≡ T.number value }

@@ -275,6 +275,7 @@ pub use arbitrary_core::aliases::unsigned::u124;
 pub use arbitrary_core::aliases::unsigned::u125;
 pub use arbitrary_core::aliases::unsigned::u126;
 pub use arbitrary_core::aliases::unsigned::u127;
+pub use arbitrary_core::constants::Constants;
 pub use arbitrary_core::signed::Int;
 pub use arbitrary_core::unsigned::UInt;
 pub use arbitrary_core::widths::FitsIn;

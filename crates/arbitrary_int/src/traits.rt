@@ -11,6 +11,7 @@ pub use arbitrary_calls::calls::sums::SumCalls;
 pub use arbitrary_calls::extraction::Extraction;
 pub use arbitrary_calls::fixed_width::FixedWidth;
 pub use arbitrary_calls::stored::Stored;
+pub use arbitrary_core::constants::Constants;
 pub use arbitrary_core::widths::FitsIn;
 pub use arbitrary_core::widths::HasWidth;
 pub use arbitrary_core::widths::valid::ValidWidth;

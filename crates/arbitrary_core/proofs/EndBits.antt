@@ -1,0 +1,53 @@
+-- Why the bits of 0, of the least and of the greatest number are those that the constants of `Int` are made of.
+use Rattle.std.specs.Prelude.{◌≡◌, ◌≢◌, ℕ, ℤ, Bool, true, false, pos, neg_ℤ, ◌+ℤ◌, ◌-ℤ◌, ◌-◌, ◌^◌, ◌≤◌}
+use Rattle.std.proofs.Common.{arith, sym, subst, ◌∙◌}
+use Rattle.std.proofs.lemmas.Int.{ints}
+use Rattle.std.proofs.lemmas.Nat.{pow_pos}
+use Rattle.arbitrary_base.specs.Range.{lo, hi, InRange}
+use Rattle.arbitrary_base.specs.Residue.{wrap, Congruent}
+use Rattle.arbitrary_base.proofs.modular.Congruence.{pow_half, Congruent-from_apart}
+use Rattle.arbitrary_base.proofs.modular.Residue.{wrap-unique, wrap-of_in_range}
+
+at_false : (u : Bool) (B : ℕ) (p : ℤ) → u ≡ false → InRange false B p → InRange u B p
+at_false u B p e f = subst (λ (v : Bool). InRange v B p) (sym e) f
+
+-- bits below the modulus are the bits of a number
+pub zero-fits : (u : Bool) (B : ℕ) (p : ℤ) → u ≡ false → 1 ≤ B → p ≡ pos 0 → InRange u B p
+zero-fits u B p e h d = let q = pow_pos B in
+    at_false u B p e (record { low = omega (arith, ints); high = omega (arith, ints) })
+
+pub least-fits : (u : Bool) (B : ℕ) (p : ℤ) → u ≡ false → 1 ≤ B → p ≡ pos (2 ^ (B - 1)) → InRange u B p
+least-fits u B p e h d = let q = pow_half B h in let r = pow_pos (B - 1) in
+    at_false u B p e (record { low = omega (arith, ints); high = omega (arith, ints) })
+
+pub greatest-fits : (u : Bool) (B : ℕ) (p : ℤ) → u ≡ false → 1 ≤ B → p +ℤ pos 1 ≡ pos (2 ^ (B - 1)) → InRange u B p
+greatest-fits u B p e h d = let q = pow_half B h in let r = pow_pos (B - 1) in
+    at_false u B p e (record { low = omega (arith, ints); high = omega (arith, ints) })
+
+at_true : (s : Bool) (B : ℕ) (p x : ℤ) → s ≡ true → wrap true B p ≡ x → wrap s B p ≡ x
+at_true s B p x e f = subst (λ (v : Bool). wrap v B p ≡ x) (sym e) f
+
+least-apart : (B : ℕ) (p : ℤ) → 1 ≤ B → p ≡ pos (2 ^ (B - 1)) → Congruent B (neg_ℤ (pos (2 ^ (B - 1)))) p
+least-apart B p h d = let q = pow_half B h in Congruent-from_apart B _ _ (1, 0, omega (arith, ints))
+
+greatest-same : (B : ℕ) (p : ℤ) → p +ℤ pos 1 ≡ pos (2 ^ (B - 1)) → p ≡ pos (2 ^ (B - 1)) -ℤ pos 1
+greatest-same B p d = omega (arith, ints)
+
+zero-in : (B : ℕ) (p : ℤ) → p ≡ pos 0 → InRange true B p
+zero-in B p d = let q = pow_pos (B - 1) in record { low = omega (arith, ints); high = omega (arith, ints) }
+
+least-in : (B : ℕ) → InRange true B (neg_ℤ (pos (2 ^ (B - 1))))
+least-in B = let q = pow_pos (B - 1) in record { low = omega (arith, ints); high = omega (arith, ints) }
+
+greatest-in : (B : ℕ) (p : ℤ) → p +ℤ pos 1 ≡ pos (2 ^ (B - 1)) → InRange true B p
+greatest-in B p d = let q = pow_pos (B - 1) in record { low = omega (arith, ints); high = omega (arith, ints) }
+
+-- the numbers of these bits
+pub zero-number : (s : Bool) (B : ℕ) (p : ℤ) → s ≡ true → 1 ≤ B → p ≡ pos 0 → wrap s B p ≡ pos 0
+zero-number s B p e h d = at_true s B p _ e (wrap-of_in_range true B p h (zero-in B p d)) ∙ d
+
+pub least-number : (s : Bool) (B : ℕ) (p : ℤ) → s ≡ true → 1 ≤ B → p ≡ pos (2 ^ (B - 1)) → wrap s B p ≡ lo true B
+least-number s B p e h d = at_true s B p _ e (wrap-unique true B p (neg_ℤ (pos (2 ^ (B - 1)))) h (least-in B) (least-apart B p h d))
+
+pub greatest-number : (s : Bool) (B : ℕ) (p : ℤ) → s ≡ true → 1 ≤ B → p +ℤ pos 1 ≡ pos (2 ^ (B - 1)) → wrap s B p ≡ hi true B
+greatest-number s B p e h d = at_true s B p _ e (wrap-of_in_range true B p h (greatest-in B p d)) ∙ greatest-same B p d

@@ -1,0 +1,12 @@
+use Rattle.std.proofs.Common.{rules, ◌∙◌}
+use Rattle.arbitrary_core.proofs.EndBits.{greatest-fits, greatest-number}
+use Rattle.arbitrary_core.proofs.constants.signed.greatest.Goals as goal
+
+pub from_bits-requires : goal.from_bits-requires
+from_bits-requires g c =
+    let fits = greatest-fits _ g.row.BITS (g.T.Unsigned.Storage.number c.args.bits) g.met.T.Unsigned.UnsignedStorage.unsigned_law (c.requires.width.0) c.requires.bits in
+    search rules
+
+pub returns : goal.returns
+returns g c =
+    c.from_bits.ensures.number ∙ greatest-number _ g.row.BITS _ g.met.T.SignedStorage.signed_law (c.requires.width.0) c.requires.bits

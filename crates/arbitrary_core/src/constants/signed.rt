@@ -1,0 +1,165 @@
+//! The constants of `Int`, in each storage; `unsigned` beside this file has those of `UInt`.
+
+ghost use Rattle.std.specs.Prelude.{◌≡◌, ◌+ℤ◌, ◌-◌, ◌^◌, pos, true, refl};
+ghost use Rattle.std.specs.Int.{IsInRange};
+ghost use Rattle.arbitrary_base.specs.Range.{lo, hi};
+
+use crate::constants::Constants;
+use crate::signed::Int;
+use crate::widths::HasWidth;
+use arbitrary_base::storage::{BuiltinInteger, SignedStorage, UnsignedOf};
+use arbitrary_base::truncation::low_mask;
+
+/// The number 0, of its bits: all are zero.
+const fn zero<T: BuiltinInteger + SignedStorage, const BITS: usize>(
+    bits: T::Unsigned,
+) -> Int<T, BITS>
+where
+    T::Unsigned: UnsignedOf<T>,
+    requires width { IsInRange 1 T.WIDTH BITS }
+    requires bits { T.Unsigned.number bits ≡ pos 0 }
+    ensures { result ≡ pos 0 }
+{
+    Int::<T, BITS>::from_bits(bits)
+}
+
+/// The least number, of its bits: the highest alone is one.
+const fn least<T: BuiltinInteger + SignedStorage, const BITS: usize>(
+    bits: T::Unsigned,
+) -> Int<T, BITS>
+where
+    T::Unsigned: UnsignedOf<T>,
+    requires width { IsInRange 1 T.WIDTH BITS }
+    requires bits { T.Unsigned.number bits ≡ pos (2 ^ (BITS - 1)) }
+    ensures { result ≡ lo true BITS }
+{
+    Int::<T, BITS>::from_bits(bits)
+}
+
+/// The greatest number, of its bits: all but the highest are one.
+const fn greatest<T: BuiltinInteger + SignedStorage, const BITS: usize>(
+    bits: T::Unsigned,
+) -> Int<T, BITS>
+where
+    T::Unsigned: UnsignedOf<T>,
+    requires width { IsInRange 1 T.WIDTH BITS }
+    requires bits { T.Unsigned.number bits +ℤ pos 1 ≡ pos (2 ^ (BITS - 1)) }
+    ensures { result ≡ hi true BITS }
+{
+    Int::<T, BITS>::from_bits(bits)
+}
+
+impl<const BITS: usize> Constants for Int<i8, BITS>
+where
+    i8: HasWidth<BITS>,
+{
+    ghost ZERO = { pos 0 };
+
+    ghost MIN = { lo true BITS };
+
+    ghost MAX = { hi true BITS };
+
+    const ZERO: Int<i8, BITS> = zero::<i8, BITS>(0);
+
+    const MIN: Int<i8, BITS> = least::<i8, BITS>(low_mask(BITS - 1) as u8 + 1);
+
+    const MAX: Int<i8, BITS> = greatest::<i8, BITS>(low_mask(BITS - 1) as u8);
+
+    ghost zero_law = { refl };
+
+    ghost min_law = { refl };
+
+    ghost max_law = { refl };
+}
+
+impl<const BITS: usize> Constants for Int<i16, BITS>
+where
+    i16: HasWidth<BITS>,
+{
+    ghost ZERO = { pos 0 };
+
+    ghost MIN = { lo true BITS };
+
+    ghost MAX = { hi true BITS };
+
+    const ZERO: Int<i16, BITS> = zero::<i16, BITS>(0);
+
+    const MIN: Int<i16, BITS> = least::<i16, BITS>(low_mask(BITS - 1) as u16 + 1);
+
+    const MAX: Int<i16, BITS> = greatest::<i16, BITS>(low_mask(BITS - 1) as u16);
+
+    ghost zero_law = { refl };
+
+    ghost min_law = { refl };
+
+    ghost max_law = { refl };
+}
+
+impl<const BITS: usize> Constants for Int<i32, BITS>
+where
+    i32: HasWidth<BITS>,
+{
+    ghost ZERO = { pos 0 };
+
+    ghost MIN = { lo true BITS };
+
+    ghost MAX = { hi true BITS };
+
+    const ZERO: Int<i32, BITS> = zero::<i32, BITS>(0);
+
+    const MIN: Int<i32, BITS> = least::<i32, BITS>(low_mask(BITS - 1) as u32 + 1);
+
+    const MAX: Int<i32, BITS> = greatest::<i32, BITS>(low_mask(BITS - 1) as u32);
+
+    ghost zero_law = { refl };
+
+    ghost min_law = { refl };
+
+    ghost max_law = { refl };
+}
+
+impl<const BITS: usize> Constants for Int<i64, BITS>
+where
+    i64: HasWidth<BITS>,
+{
+    ghost ZERO = { pos 0 };
+
+    ghost MIN = { lo true BITS };
+
+    ghost MAX = { hi true BITS };
+
+    const ZERO: Int<i64, BITS> = zero::<i64, BITS>(0);
+
+    const MIN: Int<i64, BITS> = least::<i64, BITS>(low_mask(BITS - 1) as u64 + 1);
+
+    const MAX: Int<i64, BITS> = greatest::<i64, BITS>(low_mask(BITS - 1) as u64);
+
+    ghost zero_law = { refl };
+
+    ghost min_law = { refl };
+
+    ghost max_law = { refl };
+}
+
+impl<const BITS: usize> Constants for Int<i128, BITS>
+where
+    i128: HasWidth<BITS>,
+{
+    ghost ZERO = { pos 0 };
+
+    ghost MIN = { lo true BITS };
+
+    ghost MAX = { hi true BITS };
+
+    const ZERO: Int<i128, BITS> = zero::<i128, BITS>(0);
+
+    const MIN: Int<i128, BITS> = least::<i128, BITS>(1 << (BITS - 1));
+
+    const MAX: Int<i128, BITS> = greatest::<i128, BITS>(low_mask(BITS - 1));
+
+    ghost zero_law = { refl };
+
+    ghost min_law = { refl };
+
+    ghost max_law = { refl };
+}

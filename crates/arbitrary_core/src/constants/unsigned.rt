@@ -1,0 +1,124 @@
+//! The constants of `UInt`, in each storage; `signed` beside this file has those of `Int`.
+
+ghost use Rattle.std.specs.Prelude.{pos, false, refl};
+ghost use Rattle.arbitrary_base.specs.Range.{lo, hi};
+
+use crate::constants::Constants;
+use crate::unsigned::UInt;
+use crate::widths::HasWidth;
+use arbitrary_base::truncation::low_mask;
+
+impl<const BITS: usize> Constants for UInt<u8, BITS>
+where
+    u8: HasWidth<BITS>,
+{
+    ghost ZERO = { pos 0 };
+
+    ghost MIN = { lo false BITS };
+
+    ghost MAX = { hi false BITS };
+
+    const ZERO: UInt<u8, BITS> = UInt::<u8, BITS>::new(0);
+
+    const MIN: UInt<u8, BITS> = UInt::<u8, BITS>::new(0);
+
+    const MAX: UInt<u8, BITS> = UInt::<u8, BITS>::new(low_mask(BITS) as u8);
+
+    ghost zero_law = { refl };
+
+    ghost min_law = { refl };
+
+    ghost max_law = { refl };
+}
+
+impl<const BITS: usize> Constants for UInt<u16, BITS>
+where
+    u16: HasWidth<BITS>,
+{
+    ghost ZERO = { pos 0 };
+
+    ghost MIN = { lo false BITS };
+
+    ghost MAX = { hi false BITS };
+
+    const ZERO: UInt<u16, BITS> = UInt::<u16, BITS>::new(0);
+
+    const MIN: UInt<u16, BITS> = UInt::<u16, BITS>::new(0);
+
+    const MAX: UInt<u16, BITS> = UInt::<u16, BITS>::new(low_mask(BITS) as u16);
+
+    ghost zero_law = { refl };
+
+    ghost min_law = { refl };
+
+    ghost max_law = { refl };
+}
+
+impl<const BITS: usize> Constants for UInt<u32, BITS>
+where
+    u32: HasWidth<BITS>,
+{
+    ghost ZERO = { pos 0 };
+
+    ghost MIN = { lo false BITS };
+
+    ghost MAX = { hi false BITS };
+
+    const ZERO: UInt<u32, BITS> = UInt::<u32, BITS>::new(0);
+
+    const MIN: UInt<u32, BITS> = UInt::<u32, BITS>::new(0);
+
+    const MAX: UInt<u32, BITS> = UInt::<u32, BITS>::new(low_mask(BITS) as u32);
+
+    ghost zero_law = { refl };
+
+    ghost min_law = { refl };
+
+    ghost max_law = { refl };
+}
+
+impl<const BITS: usize> Constants for UInt<u64, BITS>
+where
+    u64: HasWidth<BITS>,
+{
+    ghost ZERO = { pos 0 };
+
+    ghost MIN = { lo false BITS };
+
+    ghost MAX = { hi false BITS };
+
+    const ZERO: UInt<u64, BITS> = UInt::<u64, BITS>::new(0);
+
+    const MIN: UInt<u64, BITS> = UInt::<u64, BITS>::new(0);
+
+    const MAX: UInt<u64, BITS> = UInt::<u64, BITS>::new(low_mask(BITS) as u64);
+
+    ghost zero_law = { refl };
+
+    ghost min_law = { refl };
+
+    ghost max_law = { refl };
+}
+
+impl<const BITS: usize> Constants for UInt<u128, BITS>
+where
+    u128: HasWidth<BITS>,
+{
+    ghost ZERO = { pos 0 };
+
+    ghost MIN = { lo false BITS };
+
+    ghost MAX = { hi false BITS };
+
+    const ZERO: UInt<u128, BITS> = UInt::<u128, BITS>::new(0);
+
+    const MIN: UInt<u128, BITS> = UInt::<u128, BITS>::new(0);
+
+    const MAX: UInt<u128, BITS> = UInt::<u128, BITS>::new(low_mask(BITS));
+
+    ghost zero_law = { refl };
+
+    ghost min_law = { refl };
+
+    ghost max_law = { refl };
+}
