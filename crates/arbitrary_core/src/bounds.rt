@@ -1,5 +1,5 @@
-//! Both types under `Bounded`, `SaturatingAdd` and `SaturatingSub` of `num_traits` and under std's `Default`, at each width
-//! that the storage has room for (`HasWidth`).
+//! Both types under `Bounded`, `SaturatingAdd`, `SaturatingSub` and `Zero` of `num_traits` and under std's `Default`, at each
+//! width that the storage has room for (`HasWidth`).
 
 pub mod signed;
 pub mod unsigned;

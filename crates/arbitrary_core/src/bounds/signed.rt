@@ -1,17 +1,18 @@
 //! `Int` under the traits of `num_traits` that ask for its ends, and under std's `Default`.
 
-ghost use Rattle.std.specs.Prelude.{◌≡◌, ◌<ℤ◌, ◌+ℤ◌, ◌-ℤ◌, pos};
+ghost use Rattle.std.specs.Prelude.{◌≡◌, ◌<ℤ◌, ◌+ℤ◌, ◌-ℤ◌, pos, refl};
 ghost use Rattle.arbitrary_base.specs.Range.{lo, hi, InRange};
 ghost use Rattle.arbitrary_base.specs.Saturation.{clamp};
+ghost use Rattle.arbitrary_base.proofs.storages.CheckedSum.{in_range-of_wrap, wrap-zero};
 ghost use Rattle.arbitrary_base.proofs.storages.RangeEnds.{bounds, low_fits, high_fits, saturates};
 
 use crate::signed::Int;
 use crate::widths::HasWidth;
-use arbitrary_base::ends::{highest, lowest};
+use arbitrary_base::ends::{highest, is_zero, lowest};
 use arbitrary_base::saturating;
 use arbitrary_base::storage::{BuiltinInteger, SignedStorage, UnsignedOf};
 use arbitrary_base::truncation::from_low_bits;
-use num_traits::{Bounded, SaturatingAdd, SaturatingSub};
+use num_traits::{Bounded, SaturatingAdd, SaturatingSub, Zero};
 
 impl<T: BuiltinInteger + SignedStorage + HasWidth<BITS>, const BITS: usize> Bounded for Int<T, BITS>
 where
@@ -90,4 +91,28 @@ where
     fn default() -> Int<T, BITS> {
         Int::<T, BITS>::new(from_low_bits(0, BITS))
     }
+}
+
+impl<T: BuiltinInteger + SignedStorage + HasWidth<BITS>, const BITS: usize> Zero for Int<T, BITS>
+where
+    T::Unsigned: UnsignedOf<T>,
+{
+    ghost zero = { pos 0 };
+
+    fn zero() -> Int<T, BITS> {
+        Int::<T, BITS>::default()
+    }
+
+    fn is_zero(&self) -> bool {
+        is_zero(&self.value())
+    }
+
+    ghost zero_law = { λ _. refl };
+
+    ghost zero_fits_law = { λ _. wrap-zero T.SIGNED BITS (T.valid_law.0) };
+
+    ghost can_add_law = { λ a b h _ _.
+        in_range-of_wrap T.SIGNED BITS (a +ℤ b) (T.valid_law.0) (h tt) };
+
+    ghost add_law = { λ a b r h _ _. h.0 };
 }

@@ -1,17 +1,18 @@
 //! `UInt` under the traits of `num_traits` that ask for its ends, and under std's `Default`.
 
-ghost use Rattle.std.specs.Prelude.{◌≡◌, ◌<ℤ◌, ◌+ℤ◌, ◌-ℤ◌, pos};
+ghost use Rattle.std.specs.Prelude.{◌≡◌, ◌<ℤ◌, ◌+ℤ◌, ◌-ℤ◌, pos, refl};
 ghost use Rattle.arbitrary_base.specs.Range.{lo, hi, InRange};
 ghost use Rattle.arbitrary_base.specs.Saturation.{clamp};
+ghost use Rattle.arbitrary_base.proofs.storages.CheckedSum.{in_range-of_wrap, wrap-zero};
 ghost use Rattle.arbitrary_base.proofs.storages.RangeEnds.{bounds, low_fits, high_fits, saturates};
 
 use crate::unsigned::UInt;
 use crate::widths::HasWidth;
-use arbitrary_base::ends::{highest, lowest};
+use arbitrary_base::ends::{highest, is_zero, lowest};
 use arbitrary_base::saturating;
 use arbitrary_base::storage::UnsignedStorage;
 use arbitrary_base::truncation::from_low_bits;
-use num_traits::{Bounded, SaturatingAdd, SaturatingSub};
+use num_traits::{Bounded, SaturatingAdd, SaturatingSub, Zero};
 
 impl<T: UnsignedStorage + HasWidth<BITS>, const BITS: usize> Bounded for UInt<T, BITS> {
     ghost low = { lo T.SIGNED BITS };
@@ -76,4 +77,25 @@ impl<T: UnsignedStorage + HasWidth<BITS>, const BITS: usize> Default for UInt<T,
     fn default() -> UInt<T, BITS> {
         UInt::<T, BITS>::new(from_low_bits(0, BITS))
     }
+}
+
+impl<T: UnsignedStorage + HasWidth<BITS>, const BITS: usize> Zero for UInt<T, BITS> {
+    ghost zero = { pos 0 };
+
+    fn zero() -> UInt<T, BITS> {
+        UInt::<T, BITS>::default()
+    }
+
+    fn is_zero(&self) -> bool {
+        is_zero(&self.value())
+    }
+
+    ghost zero_law = { λ _. refl };
+
+    ghost zero_fits_law = { λ _. wrap-zero T.SIGNED BITS (T.valid_law.0) };
+
+    ghost can_add_law = { λ a b h _ _.
+        in_range-of_wrap T.SIGNED BITS (a +ℤ b) (T.valid_law.0) (h tt) };
+
+    ghost add_law = { λ a b r h _ _. h.0 };
 }
