@@ -91,6 +91,7 @@ def marked(text, names):
         first, pattern, only = named(cell.group(1)) if cell else ('', '', None)
         if any(re.fullmatch(pattern, name) for name in names):
             mark = f'call-{first.lower()}'
+            mark += '-constant' if first.isupper() and first.lower() in names else ''
             mark += '-unsigned' if mark in [row[2] for row in rows] else ''
             rows.append((pattern, only, mark))
             line = f'| {cell.group(1)}<a id="{mark}"></a>{line[cell.end(1):]}'

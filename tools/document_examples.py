@@ -77,7 +77,7 @@ def from_rust():
         ('list', '[u12::new(1000), u12::new(7)]'), ('byte', '200u8'),
     ]
     lines = [
-        '//! The table "In Rust you wrote" of docs/DIFFERENCES.md.', '', 'use crate::constants::{LIMIT, WIDTH, limit};',
+        '//! The table "In Rust you wrote" of docs/DIFFERENCES.md.', '', 'use crate::constants::{LIMIT, TOP, WIDTH, limit};',
         'use arbitrary_int::prelude::*;', 'use arbitrary_int::try_sum;',
     ]
     return '\n'.join(lines + tests('lines_from', known, examples, 'assert_eq!(rt; {}, {});')) + '\n'

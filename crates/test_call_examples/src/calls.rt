@@ -10,41 +10,51 @@ fn making_a_value_and_reading_it_1(rt: HostRuntime) {
     same(&rt, i7::min_value(), i7::new(-64));
     same(&rt, u14::max_value(), u14::new(16383));
     same(&rt, i7::zero(), i7::new(0));
+    same(&rt, i7::MIN, i7::new(-64));
+    same(&rt, u14::MAX, u14::new(16383));
+    same(&rt, i7::ZERO, i7::new(0));
     same(&rt, u7::BITS, 7);
     same(&rt, i7::IS_SIGNED, true);
-    same(&rt, UInt::<u8, 9>::is_valid_width(), false);
-    same(&rt, u7::mask(), 0x7F);
-    same(&rt, u7::new(100).value(), 100);
 }
 
 #[test]
 fn making_a_value_and_reading_it_9(rt: HostRuntime) {
+    same(&rt, UInt::<u8, 9>::is_valid_width(), false);
+    same(&rt, u7::mask(), 0x7F);
+    same(&rt, u7::new(100).value(), 100);
     same(&rt, u7::new_unchecked(100), u7::new(100));
     same(&rt, u7::try_new(128), Err(TryNewError));
     same(&rt, u14::from_u16(300), u14::new(300));
     same(&rt, i7::new(-3).value(), -3);
     same(&rt, u8::from_(u7::new(0x40)), 0x40);
-    same(&rt, u5::masked_new(i4::new(-1)), u5::new(31));
-    same(&rt, u14::new(200).as_::<i7>(), i7::new(-56));
-    same(&rt, i7::new(-1).as_u8(), 255);
 }
 
 #[test]
 fn making_a_value_and_reading_it_17(rt: HostRuntime) {
+    same(&rt, u14::from(u7::new(100)), u14::new(100));
+    same(&rt, i17::from(-300i16), i17::new(-300));
+    same(&rt, u8::from(u7::new(0x40)), 0x40);
+    same(&rt, u5::masked_new(i4::new(-1)), u5::new(31));
+    same(&rt, u14::new(200).as_::<i7>(), i7::new(-56));
+    same(&rt, i7::new(-1).as_u8(), 255);
     same(&rt, i4::new(-1).to_unsigned(), u4::new(15));
     same(&rt, i4::from_unsigned(u4::new(15)), i4::new(-1));
+}
+
+#[test]
+fn making_a_value_and_reading_it_25(rt: HostRuntime) {
     same(&rt, i7::new(-1).to_u128_bits(), u128::MAX);
     same(&rt, u7::from_u128_bits(300), u7::new(44));
     same(&rt, u5::new(0b11011).widen::<6>(), u6::new(0b11011));
     same(&rt, i3::new(-1).to_bits(), 0b111);
     same(&rt, i3::from_bits(0b111), i3::new(-1));
     same(&rt, i3::from_bits_unchecked(0b111), i3::new(-1));
+    same(&rt, i3::try_from_bits(0b1111), Err(TryNewError));
+    same(&rt, i7::new(0).is_positive(), false);
 }
 
 #[test]
-fn making_a_value_and_reading_it_25(rt: HostRuntime) {
-    same(&rt, i3::try_from_bits(0b1111), Err(TryNewError));
-    same(&rt, i7::new(0).is_positive(), false);
+fn making_a_value_and_reading_it_33(rt: HostRuntime) {
     same(&rt, i7::new(-1).is_negative(), true);
     same(&rt, u7::new(3) == u7::new(3), true);
     same(&rt, i7::new(-1) < i7::new(0), true);
@@ -55,10 +65,6 @@ fn making_a_value_and_reading_it_25(rt: HostRuntime) {
         i7::new(-9),
     );
     same(&rt, u1::from(true), u1::new(1));
-}
-
-#[test]
-fn making_a_value_and_reading_it_33(rt: HostRuntime) {
     same(&rt, bool::from(u1::new(0)), false);
 }
 
@@ -226,8 +232,10 @@ fn text(rt: HostRuntime) -> Result<(), Fail> {
 }
 
 #[test]
-fn keys_and_code_written_for_other_traits(rt: HostRuntime) {
+fn keys_and_code_written_for_other_traits_1(rt: HostRuntime) {
     same(&rt, i12::default(), i12::new(0));
+    same(&rt, <i12 as num_traits::Zero>::zero(), i12::new(0));
+    same(&rt, num_traits::Zero::is_zero(&u12::new(7)), false);
     same(
         &rt,
         <i12 as num_traits::Bounded>::min_value(),
@@ -253,6 +261,10 @@ fn keys_and_code_written_for_other_traits(rt: HostRuntime) {
         num_traits::WrappingAdd::wrapping_add(&u12::new(4095), &u12::new(2)),
         u12::new(1),
     );
+}
+
+#[test]
+fn keys_and_code_written_for_other_traits_9(rt: HostRuntime) {
     same(
         &rt,
         num_traits::WrappingSub::wrapping_sub(&i12::new(-2048), &i12::new(1)),

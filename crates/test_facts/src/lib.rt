@@ -24,6 +24,7 @@ pub mod products;
 pub mod quotients;
 pub mod ranges;
 pub mod rotations;
+pub mod rust_lines;
 pub mod sign_masks;
 pub mod signed_orders;
 pub mod single_bits;

@@ -1,19 +1,19 @@
 //! The table "In Rust you wrote" of docs/DIFFERENCES.md.
 
-use crate::constants::{LIMIT, WIDTH, limit};
+use crate::constants::{LIMIT, TOP, WIDTH, limit};
 use arbitrary_int::prelude::*;
 use arbitrary_int::try_sum;
 
 #[test]
 fn lines_from_1(rt: HostRuntime) {
-    assert_eq!(rt; u4::min_value(), u4::new(0));
-    assert_eq!(rt; u4::max_value(), u4::new(15));
-    assert_eq!(rt; u4::zero(), u4::new(0));
     assert_eq!(rt; u4::mask(), 0b1111);
+    assert_eq!(rt; <u8 as Constants>::ZERO, 0);
     assert_eq!(rt; u64::MAX, 18_446_744_073_709_551_615);
     assert_eq!(rt; <i8 as Integer>::min_value(), -128);
     assert_eq!(rt; u4::new(LIMIT), u4::new(3));
     assert_eq!(rt; limit(), u4::new(3));
+    assert_eq!(rt; WIDTH, u4::BITS);
+    assert_eq!(rt; [0u8; 4].len(), u4::BITS);
 }
 
 #[test]
@@ -21,20 +21,20 @@ fn lines_from_9(rt: HostRuntime) {
     let n = u4::new(9);
     let a = u12::new(1000);
     let byte = 200u8;
-    assert_eq!(rt; WIDTH, u4::BITS);
-    assert_eq!(rt; [0u8; 4].len(), u4::BITS);
-    assert_eq!(rt; u8::from_(n), 9);
+    assert_eq!(rt; u4::new(TOP), u4::MAX);
     assert_eq!(rt;
-        {
-            let wide: u8 = u8::from_(n);
-            wide
+        match n {
+            m if m == u4::MAX => 1,
+            _ => 0
         },
-        9
+        0
     );
-    assert_eq!(rt; u12::from_(n), u12::new(9));
-    assert_eq!(rt; u12::from_(byte), u12::new(200));
+    assert_eq!(rt; n.widen::<5>(), u5::new(9));
     assert_eq!(rt; usize::from(a.value()), 1000);
     assert_eq!(rt; u4::try_new(byte), Err(TryNewError));
+    assert_eq!(rt; u4::masked_new(byte), u4::new(8));
+    assert_eq!(rt; n == u4::new(9), true);
+    assert_eq!(rt; n.wrapping_add(u4::new(1)), u4::new(10));
 }
 
 #[test]
@@ -43,13 +43,15 @@ fn lines_from_17(rt: HostRuntime) {
     let a = u12::new(1000);
     let b = u12::new(7);
     let s = i12::new(-300);
-    let byte = 200u8;
-    assert_eq!(rt; u4::masked_new(byte), u4::new(8));
-    assert_eq!(rt; n == u4::new(9), true);
-    assert_eq!(rt; n.wrapping_add(u4::new(1)), u4::new(10));
+    let list = [u12::new(1000), u12::new(7)];
     assert_eq!(rt; a & b, u12::new(0));
     assert_eq!(rt; u12::new(a.value() % b.value()), u12::new(6));
     assert_eq!(rt; n << u4::new(3).value(), u4::new(8));
+    assert_eq!(rt; range_inclusive(n, u4::MAX).next(), Some(n));
+    assert_eq!(rt;
+        "9".parse::<u8>().ok().and_then(|x| u4::try_new(x).ok()),
+        Some(n)
+    );
     assert_eq!(rt;
         {
             let wide = i13::from_(s);
@@ -58,10 +60,5 @@ fn lines_from_17(rt: HostRuntime) {
         i13::new(300)
     );
     assert_eq!(rt; b.saturating_pow(2), u12::new(49));
-}
-
-#[test]
-fn lines_from_25(rt: HostRuntime) {
-    let list = [u12::new(1000), u12::new(7)];
     assert_eq!(rt; try_sum(list.iter().copied()), Some(u12::new(1007)));
 }
