@@ -34,14 +34,13 @@ one-moved false B m k x e h f d g =
     let o = pow_pos k in
     let p = pow_le (suc k) B g in
     let l : 2 ^ k < 2 ^ B = omega arith in
-    let i : InRange false B (pos (2 ^ k)) = record { low = omega (arith, ints); high = omega (arith, ints) } in
-    (
+    let i : InRange false B (pos (2 ^ k)) = record { low = omega (arith, ints); high = omega (arith, ints) } in (
       ap (λ (z : ℤ). shifted_left false B z m) f
-      ∙ ap (shifted_left false B (pos 1)) (d ∙ mod-eq_of_lt g)
-      ∙ shifted_left-is_product false B (pos 1) k h (omega arith)
-      ∙ product-is false B (pos 1) (pos (2 ^ k))
-      ∙ ap (wrap false B) (one-mul_z (pos (2 ^ k)))
-      ∙ wrap-of_in_range false B (pos (2 ^ k)) h i,
+          ∙ ap (shifted_left false B (pos 1)) (d ∙ mod-eq_of_lt g)
+          ∙ shifted_left-is_product false B (pos 1) k h (omega arith)
+          ∙ product-is false B (pos 1) (pos (2 ^ k))
+          ∙ ap (wrap false B) (one-mul_z (pos (2 ^ k)))
+          ∙ wrap-of_in_range false B (pos (2 ^ k)) h i,
       o,
       l,
     )

@@ -137,7 +137,7 @@ small y a b c v h f g e =
 -- where a field of width l at place i lies with respect to one of width w at place k
 apart : (w k i l : ℕ) → ((i + l ≤ k) ⊎ (k + w ≤ i)) ⊎ ((k < i + l) × (i < k + w))
 apart w k i l = elim (cases_lt k (i + l)) [
-  | inl a ↦ elim (cases_lt i (k + w)) [ | inl b ↦ inr (a, b) | inr b ↦ inl (inr b) ]
+  | inl a ↦ elim (cases_lt i (k + w)) [ inl b ↦ inr (a, b) | inr b ↦ inl (inr b) ]
   | inr a ↦ inl (inl a)
 ]
 
@@ -223,18 +223,22 @@ module _ (n t f k v : ℕ) (top : t + 1 ≡ v) (wide : v ≡ 2 ^ low_zeros 128 v
       × ((bit_and n (t - suc f * 2 ^ k % v) / 2 ^ i % d ≡ n / 2 ^ i % d) ⊎ ((k < i + low_zeros 128 d) × (i < k + bit_length 128 (suc f))))
   field_cleared-other i d e h =
       let l = low_zeros 128 d in
-      let c = bit_and n (t - suc f * 2 ^ k % v) / 2 ^ i in
-      (refl, elim (apart (bit_length 128 (suc f)) k i l) [
-        | inl a ↦
-            inl (ap (λ (j : ℕ). c % j) e ∙ kept (low_zeros 128 v) (bit_length 128 (suc f)) n t (suc f) k v top wide ones place i l h a ∙ ap (λ (j : ℕ). n / 2 ^ i % j) (sym e))
-        | inr a ↦ inr a
-      ])
+      let c = bit_and n (t - suc f * 2 ^ k % v) / 2 ^ i in (
+        refl,
+        elim (apart (bit_length 128 (suc f)) k i l) [
+          | inl a ↦
+              inl (ap (λ (j : ℕ). c % j) e ∙ kept (low_zeros 128 v) (bit_length 128 (suc f)) n t (suc f) k v top wide ones place i l h a ∙ ap (λ (j : ℕ). n / 2 ^ i % j) (sym e))
+          | inr a ↦ inr a
+        ],
+      )
 
   pub field_written : (y : ℕ) → y ≤ suc f → (bit_or (bit_and n (t - suc f * 2 ^ k % v)) (y * 2 ^ k % v) ≡ bit_or (bit_and n (t - suc f * 2 ^ k % v)) (y * 2 ^ k % v))
       × (bit_or (bit_and n (t - suc f * 2 ^ k % v)) (y * 2 ^ k % v) / 2 ^ k % (suc f + 1) ≡ y)
-  field_written y g =
-      (refl, ap (λ (d : ℕ). bit_or (bit_and n (t - suc f * 2 ^ k % v)) (y * 2 ^ k % v) / 2 ^ k % d) ones
-          ∙ written (low_zeros 128 v) (bit_length 128 (suc f)) n t (suc f) k v top wide ones place y g)
+  field_written y g = (
+    refl,
+    ap (λ (d : ℕ). bit_or (bit_and n (t - suc f * 2 ^ k % v)) (y * 2 ^ k % v) / 2 ^ k % d) ones
+        ∙ written (low_zeros 128 v) (bit_length 128 (suc f)) n t (suc f) k v top wide ones place y g,
+  )
 
   pub field_written-other : (y i d : ℕ) → y ≤ suc f → d ≡ 2 ^ low_zeros 128 d → i + low_zeros 128 d ≤ low_zeros 128 v
       → (bit_or (bit_and n (t - suc f * 2 ^ k % v)) (y * 2 ^ k % v) / 2 ^ i % d ≡ bit_or (bit_and n (t - suc f * 2 ^ k % v)) (y * 2 ^ k % v) / 2 ^ i % d)
@@ -242,12 +246,14 @@ module _ (n t f k v : ℕ) (top : t + 1 ≡ v) (wide : v ≡ 2 ^ low_zeros 128 v
       ⊎ ((k < i + low_zeros 128 d) × (i < k + bit_length 128 (suc f))))
   field_written-other y i d g e h =
       let l = low_zeros 128 d in
-      let c = bit_or (bit_and n (t - suc f * 2 ^ k % v)) (y * 2 ^ k % v) / 2 ^ i in
-      (refl, elim (apart (bit_length 128 (suc f)) k i l) [
-        | inl a ↦
-            inl (ap (λ (j : ℕ). c % j) e ∙ stays (low_zeros 128 v) (bit_length 128 (suc f)) n t (suc f) k v top wide ones place y g i l h a ∙ ap (λ (j : ℕ). n / 2 ^ i % j) (sym e))
-        | inr a ↦ inr a
-      ])
+      let c = bit_or (bit_and n (t - suc f * 2 ^ k % v)) (y * 2 ^ k % v) / 2 ^ i in (
+        refl,
+        elim (apart (bit_length 128 (suc f)) k i l) [
+          | inl a ↦
+              inl (ap (λ (j : ℕ). c % j) e ∙ stays (low_zeros 128 v) (bit_length 128 (suc f)) n t (suc f) k v top wide ones place y g i l h a ∙ ap (λ (j : ℕ). n / 2 ^ i % j) (sym e))
+          | inr a ↦ inr a
+        ],
+      )
 
 -- ---- the same in a number of these types with no sign, where the mask is a complement
 
@@ -304,9 +310,12 @@ module _ (B f k : ℕ) (x : ℤ) (range : InRange false B x) (ones : suc f + 1 �
         ≡ bitwise_or false B (bitwise_and false B x (bitwise_not false B (shifted_left false B (pos (suc f)) k))) (shifted_left false B z k))
         × (unsigned_abs (bitwise_or false B (bitwise_and false B x (bitwise_not false B (shifted_left false B (pos (suc f)) k))) (shifted_left false B z k)) / 2 ^ k % (suc f + 1)
         ≡ unsigned_abs z)
-    placed-written = (refl, ap (λ (m : ℤ). unsigned_abs m / 2 ^ k % (suc f + 1)) put-number
-        ∙ ap (λ (d : ℕ). bit_or (bit_and (unsigned_abs x) (2 ^ B - 1 - suc f * 2 ^ k % 2 ^ B)) (unsigned_abs z * 2 ^ k % 2 ^ B) / 2 ^ k % d) ones
-        ∙ written B (bit_length 128 (suc f)) (unsigned_abs x) (2 ^ B - 1) (suc f) k (2 ^ B) top refl ones place (unsigned_abs z) within)
+    placed-written = (
+      refl,
+      ap (λ (m : ℤ). unsigned_abs m / 2 ^ k % (suc f + 1)) put-number
+          ∙ ap (λ (d : ℕ). bit_or (bit_and (unsigned_abs x) (2 ^ B - 1 - suc f * 2 ^ k % 2 ^ B)) (unsigned_abs z * 2 ^ k % 2 ^ B) / 2 ^ k % d) ones
+          ∙ written B (bit_length 128 (suc f)) (unsigned_abs x) (2 ^ B - 1) (suc f) k (2 ^ B) top refl ones place (unsigned_abs z) within,
+    )
 
     pub placed-other : (i d : ℕ) → d ≡ 2 ^ low_zeros 128 d → i + low_zeros 128 d ≤ B
         → (unsigned_abs (bitwise_or false B (bitwise_and false B x (bitwise_not false B (shifted_left false B (pos (suc f)) k))) (shifted_left false B z k)) / 2 ^ i % d
@@ -316,14 +325,16 @@ module _ (B f k : ℕ) (x : ℤ) (range : InRange false B x) (ones : suc f + 1 �
         ⊎ ((k < i + low_zeros 128 d) × (i < k + bit_length 128 (suc f))))
     placed-other i d e h =
         let l = low_zeros 128 d in
-        let n = bit_or (bit_and (unsigned_abs x) (2 ^ B - 1 - suc f * 2 ^ k % 2 ^ B)) (unsigned_abs z * 2 ^ k % 2 ^ B) in
-        (refl, elim (apart (bit_length 128 (suc f)) k i l) [
-          | inl a ↦
-              inl (ap (λ (m : ℤ). unsigned_abs m / 2 ^ i % d) put-number ∙ ap (λ (j : ℕ). n / 2 ^ i % j) e
-                  ∙ stays B (bit_length 128 (suc f)) (unsigned_abs x) (2 ^ B - 1) (suc f) k (2 ^ B) top refl ones place (unsigned_abs z) within i l h a
-                  ∙ ap (λ (j : ℕ). unsigned_abs x / 2 ^ i % j) (sym e))
-          | inr a ↦ inr a
-        ])
+        let n = bit_or (bit_and (unsigned_abs x) (2 ^ B - 1 - suc f * 2 ^ k % 2 ^ B)) (unsigned_abs z * 2 ^ k % 2 ^ B) in (
+          refl,
+          elim (apart (bit_length 128 (suc f)) k i l) [
+            | inl a ↦
+                inl (ap (λ (m : ℤ). unsigned_abs m / 2 ^ i % d) put-number ∙ ap (λ (j : ℕ). n / 2 ^ i % j) e
+                ∙ stays B (bit_length 128 (suc f)) (unsigned_abs x) (2 ^ B - 1) (suc f) k (2 ^ B) top refl ones place (unsigned_abs z) within i l h a
+                ∙ ap (λ (j : ℕ). unsigned_abs x / 2 ^ i % j) (sym e))
+            | inr a ↦ inr a
+          ],
+        )
 
 -- a field at a place that varies, written or cleared, and then read back
 pub ruleset placed_fields = (Decides-eqb, Decides-int_eq, pos-unsigned_abs, and_numeral, field_cleared, field_written, placed-written)

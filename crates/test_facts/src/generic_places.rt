@@ -38,5 +38,7 @@ pub fn low_bits<V: FixedWidth + UnsignedInteger>(x: V, count: u32) -> V
     requires within { count < V.BITS }
     ensures { V.number result <ℤ pos (2 ^ count) }
 {
-    x & V::from_(1u8).wrapping_shl(count).wrapping_sub(V::from_(1u8))
+    x & V::from_(1u8)
+        .wrapping_shl(count)
+        .wrapping_sub(V::from_(1u8))
 }
