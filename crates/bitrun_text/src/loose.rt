@@ -2,7 +2,7 @@
 //! read here, and these at once; more digits take a call. A result of `None` says nothing of a line, so whoever asks goes on with its
 //! words.
 
-ghost use Rattle.std.specs.Prelude.{◌≡◌, ◌<◌, ◌+◌, ◌*◌, ◌^◌, ◌∷◌, ℕ, [], true, drop, Some, IfSome};
+ghost use Rattle.std.specs.Prelude.{◌≡◌, ◌≤◌, ◌<◌, ◌+◌, ◌*◌, ◌^◌, ◌∷◌, ℕ, [], true, length, drop, Some, IfSome};
 ghost use Rattle.std.specs.List.{position_or_len};
 ghost use Rattle.arbitrary_int.specs.Step.{StepWithin};
 ghost use Rattle.bitrun_text.specs.Text.{is_blank, is_solid, left_of};
@@ -15,16 +15,31 @@ use crate::operation::{Operation, operation_named};
 use crate::text::{is_blank, is_line_end, split_number, split_word, without_blanks};
 use arbitrary_int::Step;
 
+/// The most bytes that the operands take which are read here at once: three of up to three digits, with the byte after each. Where so
+/// many follow the name, no part has a test of its own.
+const OPERANDS: usize = 12;
+
+/// With its name and a blank, a line has so many.
+const LINE: usize = OPERANDS + 5;
+
 /// The step on so many registers of the line with which the text begins, and what follows its last word.
 #[inline(always)]
 pub fn loose_step(text: &[u8], count: usize) -> Option<(Step, &[u8])>
     ensures step { IfSome result (λ p. NamesStep count text.now p.0 p.1.now) }
     ensures within { IfSome result (λ p. StepWithin count p.0) }
 {
-    let Some((operation, rest)) = fast_name(from_word(text)) else {
+    let word = from_word(text);
+    // With this one test the compiler leaves out those of the name and of what follows it.
+    if word.len() < LINE {
+        return None;
+    }
+    let Some((operation, rest)) = fast_name(word) else {
         return other_step(text, count);
     };
     let (blank, operands) = split_blank(rest)?;
+    if operands.len() < OPERANDS {
+        return None;
+    }
     let (step, end) = loose_operands(operation, operands, count, blank)?;
     Some((step, end))
 }
@@ -38,6 +53,9 @@ fn other_step(text: &[u8], count: usize) -> Option<(Step, &[u8])>
     let (word, rest) = split_word(without_blanks(text));
     let operation = operation_named(word)?;
     let (blank, operands) = split_blank(rest)?;
+    if operands.len() < OPERANDS {
+        return None;
+    }
     let (step, end) = loose_operands(operation, operands, count, blank)?;
     Some((step, end))
 }
@@ -74,17 +92,18 @@ fn loose_operands(
     count: usize,
     blank: u8,
 ) -> Option<(Step, &[u8])>
-    requires { is_blank blank ≡ true }
+    requires blank { is_blank blank ≡ true }
+    requires room { 12 ≤ length operands.now }
     ensures step { IfSome result (λ p. step_with count operation (left_of operands.now).words ≡ Some p.0) }
     ensures end { IfSome result (λ p. (left_of p.1.now).words ≡ []) }
     ensures within { IfSome result (λ p. StepWithin count p.0) }
     ensures later { IfSome result (λ p. (left_of p.1.now).later ≡ (left_of operands.now).later) }
 {
-    let (to, rest) = next_number(operands, count as u64, blank)?;
+    let (to, rest) = next_number(operands, count as u64, blank, OPERANDS)?;
     let to = to as usize;
     match operation {
         Operation::Two(op) => {
-            let (left, rest) = next_number(rest, count as u64, blank)?;
+            let (left, rest) = next_number(rest, count as u64, blank, OPERANDS - 4)?;
             let (right, rest) = last_number(rest, count as u64)?;
             let (left, right) = (left as usize, right as usize);
             Some((
@@ -103,7 +122,7 @@ fn loose_operands(
             Some((Step::One { op, to, src }, rest))
         }
         Operation::By(op) => {
-            let (src, rest) = next_number(rest, count as u64, blank)?;
+            let (src, rest) = next_number(rest, count as u64, blank, OPERANDS - 4)?;
             let (amount, rest) = last_number(rest, 1 << 32)?;
             let (src, amount) = (src as usize, amount as u32);
             Some((
@@ -120,15 +139,18 @@ fn loose_operands(
 }
 
 /// The number that the next word of the line writes with which the text begins, if it is below the limit, and what follows it. As a
-/// rule it has one to three digits, and the blank after them.
+/// rule it has one to three digits, and the blank after them. The text has so many bytes, and the rest four fewer at most.
 #[inline(always)]
-fn next_number(text: &[u8], limit: u64, blank: u8) -> Option<(u64, &[u8])>
-    requires { is_blank blank ≡ true }
+fn next_number(text: &[u8], limit: u64, blank: u8, room: usize) -> Option<(u64, &[u8])>
+    requires blank { is_blank blank ≡ true }
+    requires some { 4 ≤ room }
+    requires room { room ≤ length text.now }
     ensures number { IfSome result (λ p. first_number limit (left_of text.now).words ≡ Some (p.0, (left_of p.1.now).words)) }
     ensures below { IfSome result (λ p. p.0 < limit) }
     ensures later { IfSome result (λ p. (left_of p.1.now).later ≡ (left_of text.now).later) }
+    ensures room { IfSome result (λ p. room ≤ length p.1.now + 4) }
 {
-    let word = from_digit(text);
+    let word = from_digit(text, room)?;
     match few_digits(word, blank) {
         Some((number, rest)) => {
             if number < limit {
@@ -137,7 +159,7 @@ fn next_number(text: &[u8], limit: u64, blank: u8) -> Option<(u64, &[u8])>
                 None
             }
         }
-        None => any_number(word, limit),
+        None => any_number(word, limit, room - 4),
     }
 }
 
@@ -145,38 +167,50 @@ fn next_number(text: &[u8], limit: u64, blank: u8) -> Option<(u64, &[u8])>
 /// limit, and what follows the word.
 #[inline(always)]
 fn last_number(text: &[u8], limit: u64) -> Option<(u64, &[u8])>
+    requires { 4 ≤ length text.now }
     ensures number { IfSome result (λ p. first_number limit (left_of text.now).words ≡ Some (p.0, (left_of p.1.now).words)) }
     ensures end { IfSome result (λ p. (left_of p.1.now).words ≡ []) }
     ensures below { IfSome result (λ p. p.0 < limit) }
     ensures later { IfSome result (λ p. (left_of p.1.now).later ≡ (left_of text.now).later) }
 {
-    let word = from_digit(text);
+    let word = from_digit(text, 4)?;
     match last_digits(word) {
         Some((number, rest)) if number < limit && is_line_end(rest) => Some((number, rest)),
         _ => any_last_number(word, limit),
     }
 }
 
-/// What follows the blanks that the text begins with. As a rule there are none, and a digit comes first.
+/// What follows the blanks that the text begins with, if it has so many bytes. As a rule there are none, and a digit comes first.
 #[inline(always)]
-fn from_digit(text: &[u8]) -> &[u8]
-    ensures { left_of result.now ≡ left_of text.now }
+fn from_digit(text: &[u8], room: usize) -> Option<&[u8]>
+    requires some { 0 < room }
+    requires room { room ≤ length text.now }
+    ensures same { IfSome result (λ word. left_of word.now ≡ left_of text.now) }
+    ensures room { IfSome result (λ word. room ≤ length word.now) }
 {
-    match text {
-        [first, _, _, _, ..] if first.is_ascii_digit() => text,
-        _ => without_blanks(text),
+    if text[0].is_ascii_digit() {
+        return Some(text);
     }
+    let word = without_blanks(text);
+    if word.len() < room {
+        return None;
+    }
+    Some(word)
 }
 
 /// The number that the word writes with which the text begins, of any count of digits, if it is below the limit, and what follows the
 /// word. The call stands in a function of its own, because memory for its result is cleared where the function around it begins.
 #[inline(always)]
-fn any_number(text: &[u8], limit: u64) -> Option<(u64, &[u8])>
+fn any_number(text: &[u8], limit: u64, room: usize) -> Option<(u64, &[u8])>
     ensures number { IfSome result (λ p. first_number limit (left_of text.now).words ≡ Some (p.0, (left_of p.1.now).words)) }
     ensures below { IfSome result (λ p. p.0 < limit) }
     ensures later { IfSome result (λ p. (left_of p.1.now).later ≡ (left_of text.now).later) }
+    ensures room { IfSome result (λ p. room ≤ length p.1.now) }
 {
     let (number, rest) = split_number(text, limit)?;
+    if rest.len() < room {
+        return None;
+    }
     Some((number, rest))
 }
 
@@ -199,10 +233,12 @@ fn any_last_number(text: &[u8], limit: u64) -> Option<(u64, &[u8])>
 /// The number of one to three digits with which the text begins, where the byte follows them, and what follows the byte.
 #[inline(always)]
 fn few_digits(text: &[u8], byte: u8) -> Option<(u64, &[u8])>
-    ensures { IfSome result (λ p. BeginsWithDigits text.now p.0 (byte ∷ p.1.now)) }
+    requires { 4 ≤ length text.now }
+    ensures digits { IfSome result (λ p. BeginsWithDigits text.now p.0 (byte ∷ p.1.now)) }
+    ensures room { IfSome result (λ p. length text.now ≤ length p.1.now + 4) }
 {
     let [a, b, c, d, ..] = text else {
-        return None;
+        unreachable!();
     };
     let first = digit(*a);
     if first >= 10 {
@@ -233,10 +269,11 @@ fn few_digits(text: &[u8], byte: u8) -> Option<(u64, &[u8])>
 /// The number of one to three digits with which the text begins, where no further digit follows, and what follows them.
 #[inline(always)]
 fn last_digits(text: &[u8]) -> Option<(u64, &[u8])>
+    requires { 4 ≤ length text.now }
     ensures { IfSome result (λ p. BeginsWithDigits text.now p.0 p.1.now) }
 {
     let [a, b, c, d, ..] = text else {
-        return None;
+        unreachable!();
     };
     let first = digit(*a);
     if first >= 10 {

@@ -5,17 +5,17 @@ use Rattle.bitrun_text.proofs.loose.last_number.Goals as goal
 pub returns-in-Some-clause-number : goal.returns-in-Some-clause-number
 returns-in-Some-clause-number c =
     let some = c.in-Some in
-    rw (← c.from_digit-word.ensures)
-    (digits-taken c.from_digit-word.result.now some.rest.now some.number c.args.limit some.ensures (c.if-is_line_end.ensures.ends refl) c.if-number-limit.true)
+    rw (← c.in_ok-word.ensures.same)
+    (digits-taken c.in_ok-word.word.now some.rest.now some.number c.args.limit some.ensures (c.if-is_line_end.ensures.ends refl) c.if-number-limit.true)
 
 pub returns-in-Some-clause-later : goal.returns-in-Some-clause-later
 returns-in-Some-clause-later c =
     let some = c.in-Some in
-    rw (← c.from_digit-word.ensures)
-    (digits-later c.from_digit-word.result.now some.rest.now some.number c.args.limit some.ensures (c.if-is_line_end.ensures.ends refl))
+    rw (← c.in_ok-word.ensures.same)
+    (digits-later c.in_ok-word.word.now some.rest.now some.number c.args.limit some.ensures (c.if-is_line_end.ensures.ends refl))
 
 pub returns-in_default-clause-number : goal.returns-in_default-clause-number
-returns-in_default-clause-number c = rw (← c.from_digit-word.ensures) c.any_last_number.ensures.number
+returns-in_default-clause-number c = rw (← c.in_ok-word.ensures.same) c.any_last_number.ensures.number
 
 pub returns-in_default-clause-later : goal.returns-in_default-clause-later
-returns-in_default-clause-later c = rw (← c.from_digit-word.ensures) c.any_last_number.ensures.later
+returns-in_default-clause-later c = rw (← c.in_ok-word.ensures.same) c.any_last_number.ensures.later
