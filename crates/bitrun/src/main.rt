@@ -11,7 +11,8 @@ use std::io;
 use std::process::ExitCode;
 
 fn main(rt: HostRuntime) -> ExitCode {
-    let mut reader = Watched::new(rt.reader());
+    // With no buffer, which nothing would be read into: `serve` reads chunks of its own.
+    let mut reader = Watched::new(rt.stdin());
     let mut writer = Watched::new(io::writer(&rt));
     match serve(rt.alloc(), &mut reader, &mut writer) {
         Ok(()) => ExitCode::SUCCESS,
