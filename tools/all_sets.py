@@ -22,6 +22,8 @@ OPERATIONS = ['bits', 'distribution', 'bit_by_bit', 'mask_tests', 'shifts', 'rot
               'negations', 'mixed', 'carries', 'order', 'cancellations', 'counts', 'exact']
 OF_LAWS = [*(['BitVector', it] for it in OPERATIONS), ['RightRotations', 'right_rotations'], ['MovedProducts', 'moved_products'],
            ['Truncations', 'truncations'], ['Extensions', 'extensions'], ['LowestPlace', 'lowest_place']]
+# Not among these: by the two ways to distribute `&` and `|` at once terms come without end, and what they tell is told bit by bit.
+NOT_OF_LAWS = {'and-distributes_or', 'or-distributes_and', 'and-distributes_xor'}
 LAWS = re.compile(r'^(pub ruleset laws = ).*$', re.M)
 
 
@@ -63,7 +65,7 @@ def text():
         alias[origin, part] = part if part not in alias.values() else f'{part}_of_{origin.split(".")[-1]}'
     old = ALL_FILE.read_text()
     head = re.match(r'(?:--.*\n)*', old)[0]
-    of_all, of_laws = (', '.join(alias[law] for law in once(chosen)) for chosen in (names, OF_LAWS))
+    of_all, of_laws = (', '.join(alias[law] for law in chosen) for chosen in (once(names), [law for law in once(OF_LAWS) if law[1] not in NOT_OF_LAWS]))
     rest = LAWS.sub(lambda found: f'{found[1]}({of_laws})', old[old.index('\n', old.index(LINE)):])
     words = WORDS.search(rest)[1].split(', ')
     used = {}

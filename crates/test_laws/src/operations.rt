@@ -155,3 +155,15 @@ pub fn leading_ones_of_complement(x: i12) -> bool
 {
     (!x).leading_ones() == x.leading_zeros()
 }
+
+pub fn number_of_its_unions(x: u12, y: u12) -> bool
+    ensures { IsTrue result }
+{
+    (x | y) & (x | !y) == x
+}
+
+pub fn signed_number_of_its_unions(x: i12, y: i12) -> bool
+    ensures { IsTrue result }
+{
+    (x | y) & (x | !y) == x
+}
