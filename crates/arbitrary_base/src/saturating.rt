@@ -6,10 +6,11 @@ ghost use Rattle.arbitrary_base.specs.Saturation.{clamp};
 
 use crate::ends::{end, highest, is_below_zero, zero};
 use crate::storage::Storage;
-use crate::{checked, raised, small};
+use crate::{checked, overflowing, raised, small};
 
 /// The sum, or the end of the range that is nearest to it.
-#[tactic(auto, using(crate::proofs::storages::Clamp::clamps))]
+// A signed sum that overflows comes out on the other side of 0.
+#[tactic(auto, using(crate::proofs::storages::Clamp::clamped_sums))]
 pub fn add<T: Storage>(x: T, y: T, bits: usize) -> T
     requires width { 1 ≤ bits }
     requires storage { bits ≤ T.WIDTH }
@@ -20,6 +21,13 @@ pub fn add<T: Storage>(x: T, y: T, bits: usize) -> T
 {
     if T::SIGNED && T::WIDTH <= 16 {
         raised::saturating_add(x, y, bits)
+    } else if T::SIGNED {
+        let (sum, overflow) = overflowing::add(x, y, bits);
+        if overflow {
+            end(!is_below_zero(&sum), bits)
+        } else {
+            sum
+        }
     } else {
         match checked::add(x, y, bits) {
             Some(sum) => sum,
@@ -29,7 +37,8 @@ pub fn add<T: Storage>(x: T, y: T, bits: usize) -> T
 }
 
 /// The difference, or the end of the range that is nearest to it.
-#[tactic(auto, using(crate::proofs::storages::Clamp::clamps))]
+// So does a signed difference.
+#[tactic(auto, using(crate::proofs::storages::Clamp::clamped_differences))]
 pub fn sub<T: Storage>(x: T, y: T, bits: usize) -> T
     requires width { 1 ≤ bits }
     requires storage { bits ≤ T.WIDTH }
@@ -38,9 +47,18 @@ pub fn sub<T: Storage>(x: T, y: T, bits: usize) -> T
     ensures value { T.number result ≡ clamp T.SIGNED bits (T.number x -ℤ T.number y) }
     ensures range { InRange T.SIGNED bits (T.number result) }
 {
-    match checked::sub(x, y, bits) {
-        Some(difference) => difference,
-        None => end(!is_below_zero(&y), bits),
+    if T::SIGNED {
+        let (difference, overflow) = overflowing::sub(x, y, bits);
+        if overflow {
+            end(!is_below_zero(&difference), bits)
+        } else {
+            difference
+        }
+    } else {
+        match checked::sub(x, y, bits) {
+            Some(difference) => difference,
+            None => end(!is_below_zero(&y), bits),
+        }
     }
 }
 
