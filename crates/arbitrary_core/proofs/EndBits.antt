@@ -1,11 +1,11 @@
 -- Why the bits of 0, of the least and of the greatest number are those that the constants of `Int` are made of.
-use Rattle.std.specs.Prelude.{◌≡◌, ◌≢◌, ℕ, ℤ, Bool, true, false, pos, neg_ℤ, ◌+ℤ◌, ◌-ℤ◌, ◌-◌, ◌^◌, ◌≤◌}
+use Rattle.std.specs.Prelude.{◌≡◌, ◌≢◌, ℕ, ℤ, Bool, true, false, pos, neg_ℤ, ◌+ℤ◌, ◌-ℤ◌, ◌-◌, ◌+◌, ◌^◌, ◌≤◌, ◌<◌}
 use Rattle.std.proofs.Common.{arith, sym, subst, ◌∙◌}
 use Rattle.std.proofs.lemmas.Int.{ints}
 use Rattle.std.proofs.lemmas.Nat.{pow_pos}
 use Rattle.arbitrary_base.specs.Range.{lo, hi, InRange}
 use Rattle.arbitrary_base.specs.Residue.{wrap, Congruent}
-use Rattle.arbitrary_base.proofs.modular.Congruence.{pow_half, Congruent-from_apart}
+use Rattle.arbitrary_base.proofs.modular.Congruence.{pow_half, pow_le, Congruent-from_apart}
 use Rattle.arbitrary_base.proofs.modular.Residue.{wrap-unique, wrap-of_in_range}
 
 at_false : (u : Bool) (B : ℕ) (p : ℤ) → u ≡ false → InRange false B p → InRange u B p
@@ -51,3 +51,7 @@ least-number s B p e h d = at_true s B p _ e (wrap-unique true B p (neg_ℤ (pos
 
 pub greatest-number : (s : Bool) (B : ℕ) (p : ℤ) → s ≡ true → 1 ≤ B → p +ℤ pos 1 ≡ pos (2 ^ (B - 1)) → wrap s B p ≡ hi true B
 greatest-number s B p e h d = at_true s B p _ e (wrap-of_in_range true B p h (greatest-in B p d)) ∙ greatest-same B p d
+
+-- the bits of a width below the storage's do not reach its sign
+pub below_sign : (B m : ℕ) → B ≤ 128 → B ≢ 128 → m + 1 ≡ 2 ^ B → m < 2 ^ 127
+below_sign B m h n e = let p = pow_le B 127 (omega (arith, n)) in omega arith

@@ -1,6 +1,6 @@
 //! The constants of an integer type under their names in the Rust crate: `u7::MAX` is what `u7::max_value()` gives.
 
-ghost use Rattle.std.specs.Prelude.{◌≡◌, pos};
+ghost use Rattle.std.specs.Prelude.{◌≡◌, ◌-ℤ◌, ◌^◌, false, pos};
 ghost use Rattle.arbitrary_base.specs.Range.{lo, hi};
 
 use crate::widths::valid::ValidWidth;
@@ -18,6 +18,8 @@ pub trait Constants: ValidWidth {
 
     ghost MAX: { Self };
 
+    ghost MASK: { Self.UnderlyingType };
+
     /// The number 0.
     const ZERO: Self;
 
@@ -27,9 +29,16 @@ pub trait Constants: ValidWidth {
     /// The greatest number.
     const MAX: Self;
 
+    /// The storage's value whose low `BITS` bits are one, and whose others are zero: -1 where a signed storage has no
+    /// other bits.
+    const MASK: Self::UnderlyingType;
+
     ghost zero_law: { Self.number ZERO ≡ pos 0 };
 
     ghost min_law: { Self.number MIN ≡ lo Self.IS_SIGNED Self.BITS };
 
     ghost max_law: { Self.number MAX ≡ hi Self.IS_SIGNED Self.BITS };
+
+    ghost mask_law: { Self.IS_SIGNED ≡ false
+        → Self.underlying MASK ≡ pos (2 ^ Self.BITS) -ℤ pos 1 };
 }

@@ -1,6 +1,7 @@
 //! The constants of `Int`, in each storage; `unsigned` beside this file has those of `UInt`.
 
-ghost use Rattle.std.specs.Prelude.{◌≡◌, ◌+ℤ◌, ◌-◌, ◌^◌, pos, true, refl};
+ghost use Rattle.std.specs.Prelude.{◌≡◌, ◌+ℤ◌, ◌-ℤ◌, ◌-◌, ◌^◌, neg_ℤ, nat_eq, if◌then◌else◌, pos, true, refl};
+ghost use Rattle.std.proofs.Common.{true≢false};
 ghost use Rattle.std.specs.Int.{IsInRange};
 ghost use Rattle.arbitrary_base.specs.Range.{lo, hi};
 
@@ -59,17 +60,23 @@ where
 
     ghost MAX = { hi true BITS };
 
+    ghost MASK = { if nat_eq BITS 8 then neg_ℤ (pos 1) else pos (2 ^ BITS) -ℤ pos 1 };
+
     const ZERO: Int<i8, BITS> = zero::<i8, BITS>(0);
 
     const MIN: Int<i8, BITS> = least::<i8, BITS>(low_mask(BITS - 1) as u8 + 1);
 
     const MAX: Int<i8, BITS> = greatest::<i8, BITS>(low_mask(BITS - 1) as u8);
 
+    const MASK: i8 = if BITS == 8 { -1 } else { low_mask(BITS) as i8 };
+
     ghost zero_law = { refl };
 
     ghost min_law = { refl };
 
     ghost max_law = { refl };
+
+    ghost mask_law = { λ h. absurd (true≢false h) };
 }
 
 impl<const BITS: usize> Constants for Int<i16, BITS>
@@ -82,17 +89,27 @@ where
 
     ghost MAX = { hi true BITS };
 
+    ghost MASK = { if nat_eq BITS 16 then neg_ℤ (pos 1) else pos (2 ^ BITS) -ℤ pos 1 };
+
     const ZERO: Int<i16, BITS> = zero::<i16, BITS>(0);
 
     const MIN: Int<i16, BITS> = least::<i16, BITS>(low_mask(BITS - 1) as u16 + 1);
 
     const MAX: Int<i16, BITS> = greatest::<i16, BITS>(low_mask(BITS - 1) as u16);
 
+    const MASK: i16 = if BITS == 16 {
+        -1
+    } else {
+        low_mask(BITS) as i16
+    };
+
     ghost zero_law = { refl };
 
     ghost min_law = { refl };
 
     ghost max_law = { refl };
+
+    ghost mask_law = { λ h. absurd (true≢false h) };
 }
 
 impl<const BITS: usize> Constants for Int<i32, BITS>
@@ -105,17 +122,27 @@ where
 
     ghost MAX = { hi true BITS };
 
+    ghost MASK = { if nat_eq BITS 32 then neg_ℤ (pos 1) else pos (2 ^ BITS) -ℤ pos 1 };
+
     const ZERO: Int<i32, BITS> = zero::<i32, BITS>(0);
 
     const MIN: Int<i32, BITS> = least::<i32, BITS>(low_mask(BITS - 1) as u32 + 1);
 
     const MAX: Int<i32, BITS> = greatest::<i32, BITS>(low_mask(BITS - 1) as u32);
 
+    const MASK: i32 = if BITS == 32 {
+        -1
+    } else {
+        low_mask(BITS) as i32
+    };
+
     ghost zero_law = { refl };
 
     ghost min_law = { refl };
 
     ghost max_law = { refl };
+
+    ghost mask_law = { λ h. absurd (true≢false h) };
 }
 
 impl<const BITS: usize> Constants for Int<i64, BITS>
@@ -128,17 +155,27 @@ where
 
     ghost MAX = { hi true BITS };
 
+    ghost MASK = { if nat_eq BITS 64 then neg_ℤ (pos 1) else pos (2 ^ BITS) -ℤ pos 1 };
+
     const ZERO: Int<i64, BITS> = zero::<i64, BITS>(0);
 
     const MIN: Int<i64, BITS> = least::<i64, BITS>(low_mask(BITS - 1) as u64 + 1);
 
     const MAX: Int<i64, BITS> = greatest::<i64, BITS>(low_mask(BITS - 1) as u64);
 
+    const MASK: i64 = if BITS == 64 {
+        -1
+    } else {
+        low_mask(BITS) as i64
+    };
+
     ghost zero_law = { refl };
 
     ghost min_law = { refl };
 
     ghost max_law = { refl };
+
+    ghost mask_law = { λ h. absurd (true≢false h) };
 }
 
 impl<const BITS: usize> Constants for Int<i128, BITS>
@@ -151,15 +188,25 @@ where
 
     ghost MAX = { hi true BITS };
 
+    ghost MASK = { if nat_eq BITS 128 then neg_ℤ (pos 1) else pos (2 ^ BITS) -ℤ pos 1 };
+
     const ZERO: Int<i128, BITS> = zero::<i128, BITS>(0);
 
     const MIN: Int<i128, BITS> = least::<i128, BITS>(1 << (BITS - 1));
 
     const MAX: Int<i128, BITS> = greatest::<i128, BITS>(low_mask(BITS - 1));
 
+    const MASK: i128 = if BITS == 128 {
+        -1
+    } else {
+        low_mask(BITS) as i128
+    };
+
     ghost zero_law = { refl };
 
     ghost min_law = { refl };
 
     ghost max_law = { refl };
+
+    ghost mask_law = { λ h. absurd (true≢false h) };
 }
