@@ -1,0 +1,57 @@
+//! Exact sums and products of many values, under std's `Sum` and `Product`: the precondition is that each total on the way
+//! is in range. The impls of `UInt` stand in `unsigned`, those of `Int` in `signed`; here is the loop of each.
+
+ghost use Rattle.std.specs.Prelude.{◌≡◌, List};
+ghost use Rattle.std.specs.Iterator.{Drains, HoldsAlong, IsFinite};
+ghost use Rattle.std.specs.List.{fold};
+
+pub mod signed;
+pub mod unsigned;
+
+/// A number to which another is added, and by which it is multiplied.
+pub(crate) trait Total: Sized {
+    ghost sum: { Self → Self → Self };
+
+    ghost product: { Self → Self → Self };
+
+    ghost is_number: { Self → Type 0 };
+
+    fn plus(self, item: Self) -> Self
+        requires { is_number (sum self item) }
+        ensures { result ≡ sum self item };
+
+    fn times(self, item: Self) -> Self
+        requires { is_number (product self item) }
+        ensures { result ≡ product self item };
+}
+
+/// The first number and the items, added up from the left.
+pub(crate) fn sum_from<S: Total, I: Iterator<Item = S>>(first: S, iter: I) -> S
+    requires can { I.can_next iter }
+    requires ends { IsFinite (I.remaining iter) }
+    requires fits { HoldsAlong I.next_gives iter (λ items. S.is_number (fold S.sum first items)) }
+    ensures { (items : List S) × Drains I.next_gives iter items
+        × (result ≡ fold S.sum first items) }
+{
+    let mut total = first;
+    for item in iter {
+        total = total.plus(item);
+    }
+    total
+}
+
+/// The first number and the items, multiplied from the left.
+pub(crate) fn product_from<S: Total, I: Iterator<Item = S>>(first: S, iter: I) -> S
+    requires can { I.can_next iter }
+    requires ends { IsFinite (I.remaining iter) }
+    requires fits { HoldsAlong I.next_gives iter
+        (λ items. S.is_number (fold S.product first items)) }
+    ensures { (items : List S) × Drains I.next_gives iter items
+        × (result ≡ fold S.product first items) }
+{
+    let mut total = first;
+    for item in iter {
+        total = total.times(item);
+    }
+    total
+}

@@ -1,0 +1,69 @@
+//! Sums and products of `Int`; `unsigned` beside this file has those of `UInt`.
+
+ghost use Rattle.std.specs.Prelude.{◌≡◌, ◌+ℤ◌, ◌*ℤ◌, pos};
+ghost use Rattle.std.specs.List.{fold};
+ghost use Rattle.arbitrary_base.specs.Range.{InRange};
+
+use crate::signed::Int;
+use crate::totals::{Total, product_from, sum_from};
+use crate::widths::HasWidth;
+use arbitrary_base::storage::{BuiltinInteger, SignedStorage, UnsignedOf};
+use arbitrary_base::truncation::from_low_bits;
+use std::iter::{Product, Sum};
+
+impl<T: BuiltinInteger + SignedStorage, const BITS: usize> Total for Int<T, BITS>
+where
+    T::Unsigned: UnsignedOf<T>,
+{
+    ghost sum = { ◌+ℤ◌ };
+
+    ghost product = { ◌*ℤ◌ };
+
+    ghost is_number = { λ a. InRange T.SIGNED BITS a };
+
+    fn plus(self, item: Int<T, BITS>) -> Int<T, BITS> {
+        self + item
+    }
+
+    fn times(self, item: Int<T, BITS>) -> Int<T, BITS> {
+        self * item
+    }
+}
+
+/// The number 1, from which a product begins. The type of one bit has none.
+fn one<T: BuiltinInteger + SignedStorage + HasWidth<BITS>, const BITS: usize>() -> Int<T, BITS>
+where
+    T::Unsigned: UnsignedOf<T>,
+    requires { InRange T.SIGNED BITS (pos 1) }
+    ensures { result ≡ pos 1 }
+{
+    Int::<T, BITS>::new(from_low_bits(1, BITS))
+}
+
+impl<T: BuiltinInteger + SignedStorage + HasWidth<BITS>, const BITS: usize> Sum<Int<T, BITS>>
+    for Int<T, BITS>
+where
+    T::Unsigned: UnsignedOf<T>,
+{
+    ghost can_sum = { λ items. InRange T.SIGNED BITS (fold ◌+ℤ◌ (pos 0) items) };
+
+    ghost sum_gives = { λ items sum. sum ≡ fold ◌+ℤ◌ (pos 0) items };
+
+    fn sum<I: Iterator<Item = Int<T, BITS>>>(iter: I) -> Int<T, BITS> {
+        sum_from(Int::<T, BITS>::default(), iter)
+    }
+}
+
+impl<T: BuiltinInteger + SignedStorage + HasWidth<BITS>, const BITS: usize> Product<Int<T, BITS>>
+    for Int<T, BITS>
+where
+    T::Unsigned: UnsignedOf<T>,
+{
+    ghost can_product = { λ items. InRange T.SIGNED BITS (fold ◌*ℤ◌ (pos 1) items) };
+
+    ghost product_gives = { λ items product. product ≡ fold ◌*ℤ◌ (pos 1) items };
+
+    fn product<I: Iterator<Item = Int<T, BITS>>>(iter: I) -> Int<T, BITS> {
+        product_from(one::<T, BITS>(), iter)
+    }
+}
