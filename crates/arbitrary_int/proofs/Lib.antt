@@ -58,6 +58,7 @@ pub mod MaskDigits
 pub mod SignWord
 pub mod TurnedSigns
 pub mod ZigZag
+pub mod RangeRuns
 pub mod Sets
 pub mod BitVector
 pub mod Conversions

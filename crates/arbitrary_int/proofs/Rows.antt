@@ -1,5 +1,5 @@
 -- Steps within a range, and numbers in a row.
-use Rattle.std.specs.Prelude.{◌≡◌, ℕ, zero, suc, ℤ, pos, negsuc, ◌+ℤ◌, ◌-ℤ◌, ◌≤ℤ◌, ◌<ℤ◌, ◌≤◌, Bool, true, false, List, [], ◌∷◌, ◌++◌, map, length, ◌+◌}
+use Rattle.std.specs.Prelude.{◌≡◌, ℕ, zero, suc, ℤ, pos, negsuc, ◌+ℤ◌, ◌-ℤ◌, ◌≤ℤ◌, ◌<ℤ◌, ◌≤◌, Bool, true, false, List, [], ◌∷◌, ◌++◌, map, length, ◌+◌, ◌<◌, Option, Some, None, IfSome, slice_get}
 use Rattle.std.proofs.Common.{refl, ap, sym, subst, ◌∙◌, arith, lit≤}
 use Rattle.std.proofs.lemmas.Int.{ints}
 use Rattle.std.specs.Int.{int_gap}
@@ -116,6 +116,22 @@ numbers-one a b e = numbers-first a b (a +ℤ pos 1) (omega (arith, ints)) refl 
 
 pub numbers-one_back : (a b : ℤ) → a ≡ b → numbers a b ≡ b ∷ []
 numbers-one_back a b e = numbers-one a b e ∙ ap (λ (z : ℤ). z ∷ []) e
+
+-- what stands at a place of a row's front
+module _ {A : Type 0} (number : A → ℤ) where
+  moved : (a : ℤ) (n k : ℕ) (o : Option A) → IfSome o (λ x. (number x ≡ a +ℤ pos 1 +ℤ pos k) × (k < n)) → IfSome o (λ x. (number x ≡ a +ℤ pos (suc k)) × (suc k < suc n))
+  moved a n k None h = tt
+  moved a n k (Some x) h = (omega (arith, ints, h.0), omega (arith, h.1))
+
+  placed : (l : List A) (more : List ℤ) (a : ℤ) (n : ℕ) → map number l ++ more ≡ row a n → (k : ℕ) → IfSome (slice_get l k) (λ x. (number x ≡ a +ℤ pos k) × (k < n))
+  unfolding row
+  placed [] more a n e k = tt
+  placed (x ∷ l) more a zero e k = absurd (cc)
+  placed (x ∷ l) more a (suc n) e zero = (let f : number x ≡ a = cc in omega (arith, ints, f), omega arith)
+  placed (x ∷ l) more a (suc n) e (suc k) = moved a n k (slice_get l k) (placed l more (a +ℤ pos 1) n (cc) k)
+
+  pub numbers-placed : (l : List A) (more : List ℤ) (a b : ℤ) → map number l ++ more ≡ numbers a b → (k : ℕ) → IfSome (slice_get l k) (λ x. (number x ≡ a +ℤ pos k) × (k < int_gap a (b +ℤ pos 1)))
+  numbers-placed l more a b e = placed l more a (int_gap a (b +ℤ pos 1)) (e ∙ numbers-row a b)
 
 pub in_up : (s : Bool) (B : ℕ) (a b : ℤ) → InRange s B a → InRange s B b → a <ℤ b → InRange s B (a +ℤ pos 1)
 in_up s B a b f g h = record { low = let e = f.low in omega (arith, ints); high = let e = g.high in omega (arith, ints) }

@@ -1,15 +1,16 @@
 //! The values from one to another.
 
-ghost use Rattle.std.specs.Prelude.{◌≡◌, ⊤, length};
+ghost use Rattle.std.specs.Prelude.{◌≡◌, ◌≤◌, ◌^◌, ⊤, length};
 ghost use Rattle.std.specs.Iterator.{YieldsFirstBy, YieldsLastBy, at_most};
-ghost use Rattle.arbitrary_int.specs.Row.{left, numbers};
+ghost use Rattle.std.specs.Iterator.Runs.{EachRunFrom};
+ghost use Rattle.arbitrary_int.specs.Row.{left, numbers, CountsUp};
 
 use crate::stepping::{after, before};
 use arbitrary_calls::fixed_width::FixedWidth;
 use std::cmp::Ordering;
 
 /// The values that are left, each in turn.
-#[derive(Drop)]
+#[derive(Clone, Drop)]
 pub struct ValueRange<V: FixedWidth> {
     start: V,
     end: V,
@@ -18,10 +19,17 @@ pub struct ValueRange<V: FixedWidth> {
 
 /// The values from `start` to `end`, none where `start` is greater.
 pub fn range_inclusive<V: FixedWidth>(start: V, end: V) -> ValueRange<V>
-    ensures { let number = V.number in
+    ensures values { let number = V.number in
         left result.done (number result.start) (number result.end)
         ≡ numbers (number start) (number end) }
+    ensures runs { let number = V.number in
+        EachRunFrom (YieldsFirstBy number (λ r. left r.done (number r.start) (number r.end)))
+        result (λ run. CountsUp run number (number start) (number end)) }
+    ensures bound { let number = V.number in
+        length (left result.done (number result.start) (number result.end)) ≤ 2 ^ V.BITS }
 {
+    // a call tells the range of each end, for `bound`
+    let _known = (start.to_u128_bits(), end.to_u128_bits());
     ValueRange {
         start,
         end,

@@ -22,6 +22,7 @@ pub mod numbers;
 pub mod other_bits;
 pub mod products;
 pub mod quotients;
+pub mod range_iterators;
 pub mod ranges;
 pub mod rotations;
 pub mod rust_lines;

@@ -59,5 +59,5 @@ pub fn numbers_between(low: u7, high: u7) -> usize
     requires { low ≤ℤ high }
     ensures { pos result ≡ high -ℤ low +ℤ pos 1 }
 {
-    usize::from((high - low).value()) + 1
+    range_inclusive(low, high).count()
 }

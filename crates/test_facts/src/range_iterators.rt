@@ -1,0 +1,105 @@
+//! What std's calls on an iterator give of a range's values: its clauses carry them, with no set of laws.
+
+ghost use Rattle.std.specs.Prelude.{◌≡◌, ◌≤◌, ◌≤ℤ◌, ◌<ℤ◌, ◌-ℤ◌, ◌+ℤ◌, pos, Some, IfSome, IsTrue};
+
+use arbitrary_int::prelude::*;
+
+pub fn count(low: u7, high: u7) -> usize
+    requires { low ≤ℤ high }
+    ensures { pos result ≡ high -ℤ low +ℤ pos 1 }
+{
+    range_inclusive(low, high).count()
+}
+
+pub fn count_of_signed(low: i12, high: i12) -> usize
+    requires { low ≤ℤ high }
+    ensures { pos result ≡ high -ℤ low +ℤ pos 1 }
+{
+    range_inclusive(low, high).count()
+}
+
+pub fn count_of_none(low: u7, high: u7) -> usize
+    requires { high <ℤ low }
+    ensures { result ≡ 0 }
+{
+    range_inclusive(low, high).count()
+}
+
+pub fn count_of_any(low: u7, high: u7) -> usize
+    ensures { result ≤ 128 }
+{
+    range_inclusive(low, high).count()
+}
+
+pub fn count_of_some(low: u7, high: u7) -> usize {
+    range_inclusive(low, high)
+        .filter(|x| x.value() % 2 == 0)
+        .count()
+}
+
+pub fn last(low: u7, high: u7) -> Option<u7>
+    requires { low ≤ℤ high }
+    ensures { result ≡ Some high }
+{
+    range_inclusive(low, high).last()
+}
+
+pub fn fourth(low: u7, high: u7) -> Option<u7>
+    ensures { IfSome result (λ x. x ≡ low +ℤ pos 3) }
+{
+    range_inclusive(low, high).nth(3)
+}
+
+pub fn place(low: u7, high: u7) -> Option<usize> {
+    range_inclusive(low, high).position(|x| x == u7::new(3))
+}
+
+pub fn none_above(low: u7, high: u7) -> bool
+    ensures { IsTrue result }
+{
+    range_inclusive(low, high).all(|x| x <= high)
+}
+
+pub fn none_below(low: u7, high: u7) -> bool
+    ensures { IsTrue result }
+{
+    range_inclusive(low, high).all(|x| x >= low)
+}
+
+pub fn greatest(low: u7, high: u7) -> Option<u7>
+    ensures { IfSome result (λ x. x ≤ℤ high) }
+{
+    range_inclusive(low, high).max()
+}
+
+pub fn with_three_ones(low: u7, high: u7) -> Option<u7>
+    ensures { IfSome result (λ x. x ≤ℤ high) }
+{
+    range_inclusive(low, high).find(|x| x.count_ones() == 3)
+}
+
+pub fn fewest_ones(low: u7, high: u7) -> Option<u7> {
+    range_inclusive(low, high).min_by_key(|x| x.count_ones())
+}
+
+pub fn folded(low: u7, high: u7) -> u32 {
+    range_inclusive(low, high)
+        .map(|x| x.as_u32())
+        .fold(0, |sum, x| sum.wrapping_add(x))
+}
+
+pub fn looked_up(table: &[u8; 16], low: u4, high: u4) -> u8 {
+    let mut bits = 0;
+    for place in range_inclusive(low, high) {
+        bits ^= table[place.as_usize()];
+    }
+    bits
+}
+
+pub fn downwards(low: u7, high: u7) -> u7 {
+    let mut bits = u7::ZERO;
+    for x in range_inclusive(low, high).rev() {
+        bits ^= x;
+    }
+    bits
+}
