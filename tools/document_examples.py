@@ -78,7 +78,7 @@ def from_rust():
     ]
     lines = [
         '//! The table "In Rust you wrote" of docs/DIFFERENCES.md.', '', 'use crate::constants::{LIMIT, TOP, WIDTH, limit};',
-        'use arbitrary_int::prelude::*;', 'use arbitrary_int::try_sum;',
+        'use arbitrary_int::prelude::*;',
     ]
     return '\n'.join(lines + tests('lines_from', known, examples, 'assert_eq!(rt; {}, {});')) + '\n'
 

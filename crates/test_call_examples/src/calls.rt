@@ -13,12 +13,13 @@ fn making_a_value_and_reading_it_1(rt: HostRuntime) {
     same(&rt, i7::MIN, i7::new(-64));
     same(&rt, u14::MAX, u14::new(16383));
     same(&rt, i7::ZERO, i7::new(0));
+    same(&rt, u7::MASK, 0x7F);
     same(&rt, u7::BITS, 7);
-    same(&rt, i7::IS_SIGNED, true);
 }
 
 #[test]
 fn making_a_value_and_reading_it_9(rt: HostRuntime) {
+    same(&rt, i7::IS_SIGNED, true);
     same(&rt, UInt::<u8, 9>::is_valid_width(), false);
     same(&rt, u7::mask(), 0x7F);
     same(&rt, u7::new(100).value(), 100);
@@ -26,11 +27,11 @@ fn making_a_value_and_reading_it_9(rt: HostRuntime) {
     same(&rt, u7::try_new(128), Err(TryNewError));
     same(&rt, u14::from_u16(300), u14::new(300));
     same(&rt, i7::new(-3).value(), -3);
-    same(&rt, u8::from_(u7::new(0x40)), 0x40);
 }
 
 #[test]
 fn making_a_value_and_reading_it_17(rt: HostRuntime) {
+    same(&rt, u8::from_(u7::new(0x40)), 0x40);
     same(&rt, u14::from(u7::new(100)), u14::new(100));
     same(&rt, i17::from(-300i16), i17::new(-300));
     same(&rt, u8::from(u7::new(0x40)), 0x40);
@@ -38,11 +39,11 @@ fn making_a_value_and_reading_it_17(rt: HostRuntime) {
     same(&rt, u14::new(200).as_::<i7>(), i7::new(-56));
     same(&rt, i7::new(-1).as_u8(), 255);
     same(&rt, i4::new(-1).to_unsigned(), u4::new(15));
-    same(&rt, i4::from_unsigned(u4::new(15)), i4::new(-1));
 }
 
 #[test]
 fn making_a_value_and_reading_it_25(rt: HostRuntime) {
+    same(&rt, i4::from_unsigned(u4::new(15)), i4::new(-1));
     same(&rt, i7::new(-1).to_u128_bits(), u128::MAX);
     same(&rt, u7::from_u128_bits(300), u7::new(44));
     same(&rt, u5::new(0b11011).widen::<6>(), u6::new(0b11011));
@@ -50,11 +51,11 @@ fn making_a_value_and_reading_it_25(rt: HostRuntime) {
     same(&rt, i3::from_bits(0b111), i3::new(-1));
     same(&rt, i3::from_bits_unchecked(0b111), i3::new(-1));
     same(&rt, i3::try_from_bits(0b1111), Err(TryNewError));
-    same(&rt, i7::new(0).is_positive(), false);
 }
 
 #[test]
 fn making_a_value_and_reading_it_33(rt: HostRuntime) {
+    same(&rt, i7::new(0).is_positive(), false);
     same(&rt, i7::new(-1).is_negative(), true);
     same(&rt, u7::new(3) == u7::new(3), true);
     same(&rt, i7::new(-1) < i7::new(0), true);
@@ -308,6 +309,16 @@ fn bytes_9(rt: HostRuntime) {
 
 #[test]
 fn many_values(rt: HostRuntime) {
+    same(
+        &rt,
+        [u7::new(63), u7::new(64)].iter().copied().sum::<u7>(),
+        u7::new(127),
+    );
+    same(
+        &rt,
+        [u7::new(4), u7::new(24)].iter().copied().product::<u7>(),
+        u7::new(96),
+    );
     same(
         &rt,
         try_sum([i7::new(63), i7::new(1), i7::new(-1)].iter().copied()),

@@ -29,4 +29,5 @@ pub mod rust_lines;
 pub mod sign_masks;
 pub mod signed_orders;
 pub mod single_bits;
+pub mod totals;
 pub mod undone;

@@ -36,6 +36,28 @@ pub fn greatest_of_any<V: Constants>() -> V
     V::MAX
 }
 
+pub fn mask() -> u8
+    ensures { result ≡ 15 }
+{
+    u4::MASK
+}
+
+pub fn mask_of_signed() -> i16
+    ensures { result ≡ pos 4095 }
+{
+    i12::MASK
+}
+
+pub fn mask_of_full_signed() -> i8
+    ensures { result ≡ neg_ℤ (pos 1) }
+{
+    Int::<i8, 8>::MASK
+}
+
+pub fn masked(byte: u8) -> u4 {
+    u4::new(byte & u4::MASK)
+}
+
 pub fn at_most_greatest(x: u4) -> bool
     ensures { IsTrue result }
 {

@@ -2,11 +2,9 @@
 
 use crate::constants::{LIMIT, TOP, WIDTH, limit};
 use arbitrary_int::prelude::*;
-use arbitrary_int::try_sum;
 
 #[test]
 fn lines_from_1(rt: HostRuntime) {
-    assert_eq!(rt; u4::mask(), 0b1111);
     assert_eq!(rt; <u8 as Constants>::ZERO, 0);
     assert_eq!(rt; u64::MAX, 18_446_744_073_709_551_615);
     assert_eq!(rt; <i8 as Integer>::min_value(), -128);
@@ -14,14 +12,15 @@ fn lines_from_1(rt: HostRuntime) {
     assert_eq!(rt; limit(), u4::new(3));
     assert_eq!(rt; WIDTH, u4::BITS);
     assert_eq!(rt; [0u8; 4].len(), u4::BITS);
+    assert_eq!(rt; u4::new(TOP), u4::MAX);
 }
 
 #[test]
 fn lines_from_9(rt: HostRuntime) {
     let n = u4::new(9);
     let a = u12::new(1000);
+    let b = u12::new(7);
     let byte = 200u8;
-    assert_eq!(rt; u4::new(TOP), u4::MAX);
     assert_eq!(rt;
         match n {
             m if m == u4::MAX => 1,
@@ -35,6 +34,7 @@ fn lines_from_9(rt: HostRuntime) {
     assert_eq!(rt; u4::masked_new(byte), u4::new(8));
     assert_eq!(rt; n == u4::new(9), true);
     assert_eq!(rt; n.wrapping_add(u4::new(1)), u4::new(10));
+    assert_eq!(rt; a & b, u12::new(0));
 }
 
 #[test]
@@ -44,7 +44,6 @@ fn lines_from_17(rt: HostRuntime) {
     let b = u12::new(7);
     let s = i12::new(-300);
     let list = [u12::new(1000), u12::new(7)];
-    assert_eq!(rt; a & b, u12::new(0));
     assert_eq!(rt; u12::new(a.value() % b.value()), u12::new(6));
     assert_eq!(rt; n << u4::new(3).value(), u4::new(8));
     assert_eq!(rt; range_inclusive(n, u4::MAX).next(), Some(n));
@@ -60,5 +59,5 @@ fn lines_from_17(rt: HostRuntime) {
         i13::new(300)
     );
     assert_eq!(rt; b.saturating_pow(2), u12::new(49));
-    assert_eq!(rt; try_sum(list.iter().copied()), Some(u12::new(1007)));
+    assert_eq!(rt; list.iter().copied().sum::<u12>(), u12::new(1007));
 }
