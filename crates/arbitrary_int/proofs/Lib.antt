@@ -56,6 +56,7 @@ pub mod SignMasks
 pub mod SignTests
 pub mod MaskDigits
 pub mod SignWord
+pub mod SignedField
 pub mod TurnedSigns
 pub mod ZigZag
 pub mod RangeRuns

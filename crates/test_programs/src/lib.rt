@@ -22,6 +22,7 @@ pub mod records;
 pub mod replaced_fields;
 pub mod sensors;
 pub mod side_by_side;
+pub mod signed_fields;
 pub mod steps;
 pub mod streams;
 pub mod structs;
