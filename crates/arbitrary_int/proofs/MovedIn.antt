@@ -6,7 +6,7 @@ use Rattle.std.proofs.Common.{sym, ap, subst, ◌∙◌, arith, div-add-mod', mo
 use Rattle.std.proofs.Math.Arith.{mod-mul}
 use Rattle.std.proofs.Math.Nat.{mod-mod, mul-add-mod_self_right, mul-mod_left}
 use Rattle.std.proofs.lemmas.Grind.{low_zeros, numeral_or, or_after_shift}
-use Rattle.std.proofs.lemmas.Nat.{or_shifted}
+use Rattle.std.proofs.lemmas.Nat.{or_comm, or_shifted}
 use Rattle.arbitrary_int.proofs.Everyday.{or_three}
 use Rattle.arbitrary_int.proofs.SideBySide.{beside}
 
@@ -20,6 +20,9 @@ pub or_moved_in : (x c w b : ℕ) → c ≡ 2 ^ low_zeros 128 c → 0 < w / c �
 or_moved_in x c w b p q e g =
     let s : x * c % w % 2 ^ low_zeros 128 c ≡ 0 = subst (λ (n : ℕ). x * c % w % n ≡ 0) p (none_below x c w (omega arith) q e) in
     beside (x * c % w) (low_zeros 128 c) b s (omega arith)
+
+pub or_moved_above : (b x c w : ℕ) → c ≡ 2 ^ low_zeros 128 c → 0 < w / c → w ≡ w / c * c → b < c → bit_or b (x * c % w) ≡ x * c % w + b
+or_moved_above b x c w p q e g = or_comm b (x * c % w) ∙ or_moved_in x c w b p q e g
 
 regroup : (x m d y : ℕ) → x * (m * d) + y * d ≡ (x * m + y) * d
 regroup x m d y = grind arith

@@ -12,8 +12,9 @@ use Rattle.arbitrary_base.proofs.storages.Clamp.{clamp-above, clamp-below, clamp
 use Rattle.arbitrary_int.proofs.EmptyWord.{with_field-of_nothing}
 use Rattle.arbitrary_int.proofs.Everyday.{or_three}
 use Rattle.arbitrary_int.proofs.JoinedFields.{joined-five, joined-four, joined-three}
+use Rattle.arbitrary_int.proofs.JoinedWords.{words_read_back}
 use Rattle.arbitrary_int.proofs.KnownNumbers.{and-of_negative, and-of_positive, and-with_negative, left-of_negative, left-of_positive, not-of_negative, not-of_positive, or-of_negative, or-of_positive, or-with_negative, reversed-of_negative, reversed-of_positive, right-of_negative, right-of_positive, rotated_left-of_negative, rotated_left-of_positive, rotated_right-of_negative, rotated_right-of_positive, signed_wrap-of_negative, signed_wrap-of_positive, wrap-of_negative, wrap-of_positive, xor-of_negative, xor-of_positive, xor-with_negative}
-use Rattle.arbitrary_int.proofs.MovedIn.{numeral_three, numeral_two, or_moved_in, or_two_moved_in}
+use Rattle.arbitrary_int.proofs.MovedIn.{numeral_three, numeral_two, or_moved_above, or_moved_in, or_two_moved_in}
 use Rattle.arbitrary_int.proofs.OtherBits.{gone-cleared, other_bit-cleared, other_bit-set, other_bit-turned, same_bit-set, same_bit-turned}
 use Rattle.arbitrary_int.proofs.PrimitiveBit.{bit_cleared, bit_cleared-other, bit_set, bit_set-other, bit_tested, bit_turned, bit_turned-other, set_then_cleared}
 use Rattle.arbitrary_int.proofs.PrimitiveFlags.{and_beside, or_flags, xor_flags}
@@ -59,6 +60,9 @@ pub ruleset primitive_bits = (one_shifted, and_numeral, pos-unsigned_abs, bit_te
 
 -- flags of a primitive under a written mask: set, cleared, turned over and tested, also beside a field that is written
 pub ruleset primitive_flags = (and_beside, and_around, or_flags, xor_flags, or_into_hole, or_below_mask)
+
+-- words of a primitive in any of these ways: fields put together, written in place, moved and read back, and flags under a written mask
+pub ruleset registers = (words_read_back, and_beside, and_around, or_into_hole, or_flags, or_moved_in, or_moved_above)
 
 -- the bytes of a value in a stream: how many they are, and what is read back
 pub ruleset streams = (Borsh-told, number-of_Borsh, number-of_Borsh_signed, first-of_Borsh, first-of_Borsh_signed, reverse-reverse)

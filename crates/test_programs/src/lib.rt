@@ -19,6 +19,7 @@ pub mod primitive_flags;
 pub mod read_back;
 pub mod readers;
 pub mod records;
+pub mod registers;
 pub mod replaced_fields;
 pub mod sensors;
 pub mod side_by_side;
