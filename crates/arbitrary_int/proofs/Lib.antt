@@ -40,6 +40,7 @@ pub mod Truncations
 pub mod CountBounds
 pub mod Population
 pub mod ConvertedCounts
+pub mod LowMask
 pub mod LowestBit
 pub mod LowestBitCounts
 pub mod NormalShifts

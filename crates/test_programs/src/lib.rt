@@ -10,6 +10,7 @@ pub mod headers;
 pub mod indices;
 pub mod instructions;
 pub mod lists;
+pub mod low_masks;
 pub mod machine;
 pub mod moved_in;
 pub mod packing;
