@@ -37,6 +37,10 @@ module _ (n k m : ℕ) (wide : suc m ≡ 2 ^ low_zeros 128 (suc m)) (place : k <
   pub bit_set-other : (i : ℕ) → i ≢ k → bit_or n (1 * 2 ^ k % suc m) / 2 ^ i % 2 ≡ n / 2 ^ i % 2
   bit_set-other i d = set-at i ∙ omega (arith, bit_at-pow_other k i d)
 
+  -- a bit that is set already stays, be its place k or another
+  pub bit_set-kept : (i : ℕ) → n / 2 ^ i % 2 ≡ 1 → bit_or n (1 * 2 ^ k % suc m) / 2 ^ i % 2 ≡ 1
+  bit_set-kept i e = set-at i ∙ omega (arith, e, bit_at-lt (2 ^ k) i)
+
   turned-at : (i : ℕ) → bit_at (bit_xor n one) i ≡ (bit_at n i + bit_at (2 ^ k) i) % 2
   turned-at i = ap (λ (a : ℕ). bit_at (bit_xor n a) i) power ∙ bit_at_xor n (2 ^ k) i
 

@@ -16,7 +16,7 @@ use Rattle.arbitrary_int.proofs.JoinedWords.{words_read_back}
 use Rattle.arbitrary_int.proofs.KnownNumbers.{and-of_negative, and-of_positive, and-with_negative, left-of_negative, left-of_positive, not-of_negative, not-of_positive, or-of_negative, or-of_positive, or-with_negative, reversed-of_negative, reversed-of_positive, right-of_negative, right-of_positive, rotated_left-of_negative, rotated_left-of_positive, rotated_right-of_negative, rotated_right-of_positive, signed_wrap-of_negative, signed_wrap-of_positive, wrap-of_negative, wrap-of_positive, xor-of_negative, xor-of_positive, xor-with_negative}
 use Rattle.arbitrary_int.proofs.MovedIn.{numeral_three, numeral_two, or_moved_above, or_moved_in, or_two_moved_in}
 use Rattle.arbitrary_int.proofs.OtherBits.{gone-cleared, other_bit-cleared, other_bit-set, other_bit-turned, same_bit-set, same_bit-turned}
-use Rattle.arbitrary_int.proofs.PrimitiveBit.{bit_cleared, bit_cleared-other, bit_set, bit_set-other, bit_tested, bit_turned, bit_turned-other, set_then_cleared}
+use Rattle.arbitrary_int.proofs.PrimitiveBit.{bit_cleared, bit_cleared-other, bit_set, bit_set-kept, bit_set-other, bit_tested, bit_turned, bit_turned-other, set_then_cleared}
 use Rattle.arbitrary_int.proofs.PrimitiveFlags.{and_beside, or_flags, xor_flags}
 use Rattle.arbitrary_int.proofs.RangeNumbers.{last_of-joined, numbers-count, numbers-end, numbers-head}
 use Rattle.arbitrary_int.proofs.ReadBack.{low_of_three, middle_of_three}
@@ -57,6 +57,9 @@ pub ruleset other_bits = (Decides-int_eq, same_bit-set, other_bit-set, gone-clea
 
 -- one bit of a primitive by its place, as `1 << place` makes it: set, cleared, turned over and tested, and the others, which stay
 pub ruleset primitive_bits = (one_shifted, and_numeral, pos-unsigned_abs, bit_tested, bit_set, bit_set-other, bit_turned, bit_turned-other, bit_cleared, bit_cleared-other, set_then_cleared)
+
+-- several bits of a primitive by their places, set one after another, be the places apart or not
+pub ruleset several_bits = (primitive_bits, bit_set-kept)
 
 -- flags of a primitive under a written mask: set, cleared, turned over and tested, also beside a field that is written
 pub ruleset primitive_flags = (and_beside, and_around, or_flags, xor_flags, or_into_hole, or_below_mask)

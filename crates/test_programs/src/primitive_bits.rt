@@ -47,3 +47,11 @@ pub fn set_then_cleared(word: u16, place: u4) -> bool
     let mask = 1u16 << place.value();
     (word | mask) & !mask == word & !mask
 }
+
+#[tactic(auto, using(arbitrary_int::proofs::Sets::several_bits))]
+pub fn two_set(word: u16, first: u4, second: u4) -> bool
+    ensures { IsTrue result }
+{
+    let written = word | (1 << first.value()) | (1 << second.value());
+    (written >> first.value()) & 1 == 1 && (written >> second.value()) & 1 == 1
+}
