@@ -74,3 +74,23 @@ pub fn address_in_a_table(base: u24, index: i12, offset: i7) -> u24
     base.wrapping_add(index.as_::<u24>())
         .wrapping_add(u24::masked_new(offset))
 }
+
+// ---- a converted product that is added
+
+pub fn counted_by_a_product(counter: u24, steps: u12, size: u8) -> u24
+    ensures { Congruent 24 result (counter +ℤ steps *ℤ pos size) }
+{
+    counter.wrapping_add((steps.as_u32() * u32::from(size)).as_::<u24>())
+}
+
+pub fn moved_by_a_signed_product(position: i24, speed: i8, time: i12) -> i24
+    ensures { Congruent 24 result (position +ℤ speed *ℤ time) }
+{
+    position.wrapping_add(i24::from_(speed) * i24::from_(time))
+}
+
+pub fn address_of_a_cell(base: u20, row: u6, column: u6) -> u20
+    ensures { Congruent 20 result (base +ℤ row *ℤ pos 64 +ℤ column) }
+{
+    base.wrapping_add(u20::from_(row) * u20::new(64) + u20::from_(column))
+}
