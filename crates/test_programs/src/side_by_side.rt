@@ -3,6 +3,7 @@
 #![tactic(auto, using(arbitrary_int::proofs::Sets::fields))]
 
 ghost use Rattle.std.specs.Prelude.{◌≡◌, ◌*◌, ◌+◌, ◌/◌, ◌+ℤ◌, ◌*ℤ◌, pos};
+ghost use Rattle.arbitrary_int.specs.Residue.{Congruent};
 
 use arbitrary_int::prelude::*;
 
@@ -10,6 +11,19 @@ pub fn from_three_bytes(high: u8, middle: u8, low: u8) -> u24
     ensures { result ≡ pos 65536 *ℤ pos high +ℤ pos 256 *ℤ pos middle +ℤ pos low }
 {
     u24::new((u32::from(high) << 16) | (u32::from(middle) << 8) | u32::from(low))
+}
+
+pub fn signed_from_three_bytes(high: u8, middle: u8, low: u8) -> i24
+    ensures { Congruent 24 result (pos (65536 * high + 256 * middle + low)) }
+{
+    i24::from_bits((u32::from(high) << 16) | (u32::from(middle) << 8) | u32::from(low))
+}
+
+/// A sample of 20 bits that stands at the high end of three bytes.
+pub fn signed_at_the_high_end(high: u8, middle: u8, low: u8) -> i20
+    ensures { Congruent 20 result (pos (4096 * high + 16 * middle + low / 16)) }
+{
+    i20::from_bits((u32::from(high) << 12) | (u32::from(middle) << 4) | (u32::from(low) >> 4))
 }
 
 pub fn colour(red: u5, green: u6, blue: u5) -> u16
