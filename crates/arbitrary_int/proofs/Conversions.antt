@@ -1,35 +1,71 @@
 -- For callers: a conversion before a sum, a difference or a product, of which the low bits are what counts.
 -- You name the set at the end by `#[tactic(auto, using(arbitrary_int::proofs::Conversions::conversions))]`; only a lemma that is in it is found.
 -- Beside it stand the sets of Everyday.antt, on words of clauses, and of BitVector.antt, on bits.
-use Rattle.std.specs.Prelude.{◌≡◌, ℕ, ℤ, suc, Bool, false, pos, negsuc, unsigned_abs, ◌+ℤ◌, ◌-ℤ◌, ◌*ℤ◌, ◌+◌, ◌*◌, ◌/◌, ◌%◌, ◌^◌, ◌≤◌}
+use Rattle.std.specs.Prelude.{◌≡◌, ℕ, ℤ, zero, suc, Bool, false, pos, negsuc, unsigned_abs, ◌+ℤ◌, ◌-ℤ◌, ◌*ℤ◌, ◌+◌, ◌*◌, ◌/◌, ◌%◌, ◌^◌, ◌≤◌}
 use Rattle.std.proofs.Common.{arith, refl, ap, sym, subst, ◌∙◌, div-add-mod'}
 use Rattle.std.proofs.lemmas.Int.{ints}
+use Rattle.arbitrary_base.specs.Range.{lo}
 use Rattle.arbitrary_base.specs.Residue.{Congruent, wrap}
 use Rattle.arbitrary_base.proofs.modular.Congruence.{Congruent-refl, Congruent-sym, Congruent-add, Congruent-sub, Congruent-mul, Congruent-narrower}
 use Rattle.arbitrary_base.proofs.storages.Primitive.{wrap-pos}
-use Rattle.arbitrary_base.proofs.modular.Residue.{wrap-congruent, wrap-same}
+use Rattle.arbitrary_base.proofs.modular.Residue.{residue-lt, wrap-congruent, wrap-same}
 
-module _ (s t : Bool) (A B : ℕ) (x y : ℤ) (some : 1 ≤ A) (wider : A ≤ B) where
+-- as `wrap-same`, at no bits too: where the width is not known, nothing says that it is 1 or more
+alike : (s : Bool) (B : ℕ) (x y : ℤ) → Congruent B x y → wrap s B x ≡ wrap s B y
+unfolding wrap
+alike s zero x y c =
+    let f = residue-lt 0 (x -ℤ lo s 0) in
+    let g = residue-lt 0 (y -ℤ lo s 0) in
+    omega (arith, ints)
+alike s (suc n) x y c = wrap-same s (suc n) x y (omega arith) c
+
+module _ (s t : Bool) (A B : ℕ) (x y : ℤ) (wider : A ≤ B) where
   low : Congruent A (wrap t B y) y
   low = Congruent-narrower A B (wrap t B y) y wider (wrap-congruent t B y)
 
   pub sum-right : wrap s A (x +ℤ wrap t B y) ≡ wrap s A (x +ℤ y)
-  sum-right = wrap-same s A (x +ℤ wrap t B y) (x +ℤ y) some (Congruent-add A x x (wrap t B y) y (Congruent-refl A x) low)
+  sum-right = alike s A _ _ (Congruent-add A x x (wrap t B y) y (Congruent-refl A x) low)
 
   pub sum-left : wrap s A (wrap t B y +ℤ x) ≡ wrap s A (y +ℤ x)
-  sum-left = wrap-same s A (wrap t B y +ℤ x) (y +ℤ x) some (Congruent-add A (wrap t B y) y x x low (Congruent-refl A x))
+  sum-left = alike s A _ _ (Congruent-add A (wrap t B y) y x x low (Congruent-refl A x))
 
   pub difference-right : wrap s A (x -ℤ wrap t B y) ≡ wrap s A (x -ℤ y)
-  difference-right = wrap-same s A (x -ℤ wrap t B y) (x -ℤ y) some (Congruent-sub A x x (wrap t B y) y (Congruent-refl A x) low)
+  difference-right = alike s A _ _ (Congruent-sub A x x (wrap t B y) y (Congruent-refl A x) low)
 
   pub difference-left : wrap s A (wrap t B y -ℤ x) ≡ wrap s A (y -ℤ x)
-  difference-left = wrap-same s A (wrap t B y -ℤ x) (y -ℤ x) some (Congruent-sub A (wrap t B y) y x x low (Congruent-refl A x))
+  difference-left = alike s A _ _ (Congruent-sub A (wrap t B y) y x x low (Congruent-refl A x))
 
   pub product-right : wrap s A (x *ℤ wrap t B y) ≡ wrap s A (x *ℤ y)
-  product-right = wrap-same s A (x *ℤ wrap t B y) (x *ℤ y) some (Congruent-mul A x x (wrap t B y) y (Congruent-refl A x) low)
+  product-right = alike s A _ _ (Congruent-mul A x x (wrap t B y) y (Congruent-refl A x) low)
 
   pub product-left : wrap s A (wrap t B y *ℤ x) ≡ wrap s A (y *ℤ x)
-  product-left = wrap-same s A (wrap t B y *ℤ x) (y *ℤ x) some (Congruent-mul A (wrap t B y) y x x low (Congruent-refl A x))
+  product-left = alike s A _ _ (Congruent-mul A (wrap t B y) y x x low (Congruent-refl A x))
+
+-- a sum or a difference on the right, as the steps one after another give it
+module _ (s t : Bool) (A B : ℕ) (x y z : ℤ) (wider : A ≤ B) where
+  pub sum-with_sum : wrap s A (x +ℤ wrap t B (y +ℤ z)) ≡ wrap s A (x +ℤ y +ℤ z)
+  sum-with_sum =
+      let e : x +ℤ (y +ℤ z) ≡ x +ℤ y +ℤ z = omega (arith, ints) in
+      sum-right s t A B x (y +ℤ z) wider ∙ ap (wrap s A) e
+
+  pub sum-with_difference : wrap s A (x +ℤ wrap t B (y -ℤ z)) ≡ wrap s A (x +ℤ y -ℤ z)
+  sum-with_difference =
+      let e : x +ℤ (y -ℤ z) ≡ x +ℤ y -ℤ z = omega (arith, ints) in
+      sum-right s t A B x (y -ℤ z) wider ∙ ap (wrap s A) e
+
+  pub difference-with_sum : wrap s A (x -ℤ wrap t B (y +ℤ z)) ≡ wrap s A (x -ℤ y -ℤ z)
+  difference-with_sum =
+      let e : x -ℤ (y +ℤ z) ≡ x -ℤ y -ℤ z = omega (arith, ints) in
+      difference-right s t A B x (y +ℤ z) wider ∙ ap (wrap s A) e
+
+  pub difference-with_difference : wrap s A (x -ℤ wrap t B (y -ℤ z)) ≡ wrap s A (x -ℤ y +ℤ z)
+  difference-with_difference =
+      let e : x -ℤ (y -ℤ z) ≡ x -ℤ y +ℤ z = omega (arith, ints) in
+      difference-right s t A B x (y -ℤ z) wider ∙ ap (wrap s A) e
+
+-- for each way to write the exact result
+pub wrap-told : (s : Bool) (B : ℕ) (x k : ℤ) → x ≡ k → Congruent B (wrap s B x) k
+wrap-told s B x k e = subst (Congruent B (wrap s B x)) e (wrap-congruent s B x)
 
 -- the same of a primitive that wraps, at its own width
 pub word_sum-right : (B a b m : ℕ) (y : ℤ) → m ≡ 2 ^ B → 1 ≤ B → pos b ≡ wrap false B y → Congruent B (pos ((a + b) % m)) (pos a +ℤ y)
@@ -37,7 +73,7 @@ word_sum-right B a b m y e h f =
     let total : pos (a + b) ≡ pos a +ℤ pos b = omega (arith, ints) in
     let w : pos ((a + b) % m) ≡ wrap false B (pos a +ℤ y) =
     ap (λ (n : ℕ). pos ((a + b) % n)) e ∙ sym (wrap-pos B (a + b) h) ∙ ap (wrap false B) (total ∙ ap (λ (z : ℤ). pos a +ℤ z) f)
-    ∙ sum-right false false B B (pos a) y h (omega arith) in
+    ∙ sum-right false false B B (pos a) y (omega arith) in
     subst (λ (z : ℤ). Congruent B z (pos a +ℤ y)) (sym w) (wrap-congruent false B (pos a +ℤ y))
 
 -- two numbers whose difference leaves no remainder: what is said of each step is added up
@@ -56,3 +92,6 @@ pub ruleset conversions = (wrap-congruent, sum-right, sum-left, difference-right
 
 -- steps that wrap, one after another, up to a multiple of the numbers of the type
 pub ruleset congruences = (congruent-by_remainder, ints)
+
+-- the same at any width, also one that is not known, and with products
+pub ruleset congruent_chains = (wrap-told, sum-right, sum-left, difference-right, difference-left, product-right, product-left, sum-with_sum, sum-with_difference, difference-with_sum, difference-with_difference)

@@ -4,6 +4,7 @@
 
 pub mod any_width;
 pub mod congruences;
+pub mod congruent_chains;
 pub mod converted_counts;
 pub mod count_bounds;
 pub mod differences_or_zero;

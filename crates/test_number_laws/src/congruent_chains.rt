@@ -1,0 +1,73 @@
+//! What steps that wrap, one after another, are congruent to where the type is not known, and where a product is among them.
+#![tactic(auto, using(arbitrary_int::proofs::Conversions::congruent_chains))]
+
+ghost use Rattle.std.specs.Prelude.{◌+ℤ◌, ◌-ℤ◌, ◌*ℤ◌, pos};
+ghost use Rattle.arbitrary_int.specs.Residue.{Congruent};
+
+use arbitrary_int::prelude::*;
+
+pub fn sum_of_three<V: FixedWidth>(a: V, b: V, c: V) -> V
+    ensures { Congruent V.BITS (V.number result) (V.number a +ℤ V.number b +ℤ V.number c) }
+{
+    a.wrapping_add(b).wrapping_add(c)
+}
+
+pub fn sums_and_a_difference<V: FixedWidth>(a: V, b: V, c: V, d: V) -> V
+    ensures { Congruent V.BITS (V.number result) (V.number a +ℤ V.number b +ℤ V.number c -ℤ V.number d) }
+{
+    a.wrapping_add(b).wrapping_add(c).wrapping_sub(d)
+}
+
+pub fn moved_by_a_difference<V: FixedWidth>(position: V, to: V, from: V) -> V
+    ensures { Congruent V.BITS (V.number result) (V.number position +ℤ V.number to -ℤ V.number from) }
+{
+    position.wrapping_add(to.wrapping_sub(from))
+}
+
+pub fn less_a_sum<V: FixedWidth>(a: V, b: V, c: V) -> V
+    ensures { Congruent V.BITS (V.number result) (V.number a -ℤ V.number b -ℤ V.number c) }
+{
+    a.wrapping_sub(b.wrapping_add(c))
+}
+
+pub fn product_and_sum<V: FixedWidth>(a: V, b: V, c: V) -> V
+    ensures { Congruent V.BITS (V.number result) (V.number a *ℤ V.number b +ℤ V.number c) }
+{
+    a.wrapping_mul(b).wrapping_add(c)
+}
+
+pub fn sum_times<V: FixedWidth>(a: V, b: V, c: V) -> V
+    ensures { Congruent V.BITS (V.number result) ((V.number a +ℤ V.number b) *ℤ V.number c) }
+{
+    a.wrapping_add(b).wrapping_mul(c)
+}
+
+pub fn product_of_three(a: u24, b: u24, c: u24) -> u24
+    ensures { Congruent 24 result (a *ℤ b *ℤ c) }
+{
+    a.wrapping_mul(b).wrapping_mul(c)
+}
+
+pub fn product_of_converted(a: u12, b: i7) -> u12
+    ensures { Congruent 12 result (a *ℤ b) }
+{
+    a.wrapping_mul(b.as_::<u12>())
+}
+
+/// The line through a point, at any width of the numbers on it.
+pub fn line(slope: i33, x: i33, offset: i33, scale: i33) -> i33
+    ensures { Congruent 33 result ((slope *ℤ x +ℤ offset) *ℤ scale) }
+{
+    slope
+        .wrapping_mul(x)
+        .wrapping_add(offset)
+        .wrapping_mul(scale)
+}
+
+pub fn next_random(state: u48) -> u48
+    ensures { Congruent 48 result (state *ℤ pos 25214903917 +ℤ pos 11) }
+{
+    state
+        .wrapping_mul(u48::new(25214903917))
+        .wrapping_add(u48::new(11))
+}
