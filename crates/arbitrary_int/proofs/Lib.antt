@@ -70,6 +70,7 @@ pub mod MaskedResults
 pub mod Extensions
 pub mod Saturations
 pub mod ExactSums
+pub mod SerialNumbers
 pub mod ComplementParts
 pub mod NegatedParts
 pub mod LowestMasks

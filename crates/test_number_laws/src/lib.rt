@@ -23,6 +23,7 @@ pub mod quotient_order;
 pub mod runs_of_two;
 pub mod saturations;
 pub mod scaled_numbers;
+pub mod serial_numbers;
 pub mod small_numbers;
 pub mod trailing_zeros;
 pub mod truncations;
