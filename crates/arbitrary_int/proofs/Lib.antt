@@ -71,6 +71,7 @@ pub mod Extensions
 pub mod Saturations
 pub mod ExactSums
 pub mod SerialNumbers
+pub mod WiderRanges
 pub mod ComplementParts
 pub mod NegatedParts
 pub mod LowestMasks

@@ -27,4 +27,5 @@ pub mod serial_numbers;
 pub mod small_numbers;
 pub mod trailing_zeros;
 pub mod truncations;
+pub mod wider_ranges;
 pub mod zigzag_codes;
