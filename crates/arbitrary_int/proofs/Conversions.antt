@@ -11,7 +11,7 @@ use Rattle.arbitrary_base.proofs.storages.Primitive.{wrap-pos}
 use Rattle.arbitrary_base.proofs.modular.Residue.{residue-lt, wrap-congruent, wrap-same}
 
 -- as `wrap-same`, at no bits too: where the width is not known, nothing says that it is 1 or more
-alike : (s : Bool) (B : ℕ) (x y : ℤ) → Congruent B x y → wrap s B x ≡ wrap s B y
+pub alike : (s : Bool) (B : ℕ) (x y : ℤ) → Congruent B x y → wrap s B x ≡ wrap s B y
 unfolding wrap
 alike s zero x y c =
     let f = residue-lt 0 (x -ℤ lo s 0) in
@@ -41,32 +41,6 @@ module _ (s t : Bool) (A B : ℕ) (x y : ℤ) (wider : A ≤ B) where
   pub product-left : wrap s A (wrap t B y *ℤ x) ≡ wrap s A (y *ℤ x)
   product-left = alike s A _ _ (Congruent-mul A (wrap t B y) y x x low (Congruent-refl A x))
 
--- a sum or a difference on the right, as the steps one after another give it
-module _ (s t : Bool) (A B : ℕ) (x y z : ℤ) (wider : A ≤ B) where
-  pub sum-with_sum : wrap s A (x +ℤ wrap t B (y +ℤ z)) ≡ wrap s A (x +ℤ y +ℤ z)
-  sum-with_sum =
-      let e : x +ℤ (y +ℤ z) ≡ x +ℤ y +ℤ z = omega (arith, ints) in
-      sum-right s t A B x (y +ℤ z) wider ∙ ap (wrap s A) e
-
-  pub sum-with_difference : wrap s A (x +ℤ wrap t B (y -ℤ z)) ≡ wrap s A (x +ℤ y -ℤ z)
-  sum-with_difference =
-      let e : x +ℤ (y -ℤ z) ≡ x +ℤ y -ℤ z = omega (arith, ints) in
-      sum-right s t A B x (y -ℤ z) wider ∙ ap (wrap s A) e
-
-  pub difference-with_sum : wrap s A (x -ℤ wrap t B (y +ℤ z)) ≡ wrap s A (x -ℤ y -ℤ z)
-  difference-with_sum =
-      let e : x -ℤ (y +ℤ z) ≡ x -ℤ y -ℤ z = omega (arith, ints) in
-      difference-right s t A B x (y +ℤ z) wider ∙ ap (wrap s A) e
-
-  pub difference-with_difference : wrap s A (x -ℤ wrap t B (y -ℤ z)) ≡ wrap s A (x -ℤ y +ℤ z)
-  difference-with_difference =
-      let e : x -ℤ (y -ℤ z) ≡ x -ℤ y +ℤ z = omega (arith, ints) in
-      difference-right s t A B x (y -ℤ z) wider ∙ ap (wrap s A) e
-
--- for each way to write the exact result
-pub wrap-told : (s : Bool) (B : ℕ) (x k : ℤ) → x ≡ k → Congruent B (wrap s B x) k
-wrap-told s B x k e = subst (Congruent B (wrap s B x)) e (wrap-congruent s B x)
-
 -- the same of a primitive that wraps, at its own width
 pub word_sum-right : (B a b m : ℕ) (y : ℤ) → m ≡ 2 ^ B → 1 ≤ B → pos b ≡ wrap false B y → Congruent B (pos ((a + b) % m)) (pos a +ℤ y)
 word_sum-right B a b m y e h f =
@@ -92,6 +66,3 @@ pub ruleset conversions = (wrap-congruent, sum-right, sum-left, difference-right
 
 -- steps that wrap, one after another, up to a multiple of the numbers of the type
 pub ruleset congruences = (congruent-by_remainder, ints)
-
--- the same at any width, also one that is not known, and with products
-pub ruleset congruent_chains = (wrap-told, sum-right, sum-left, difference-right, difference-left, product-right, product-left, sum-with_sum, sum-with_difference, difference-with_sum, difference-with_difference)

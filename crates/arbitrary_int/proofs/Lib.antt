@@ -70,6 +70,7 @@ pub mod MaskedResults
 pub mod Extensions
 pub mod Saturations
 pub mod ExactSums
+pub mod CongruentChains
 pub mod SerialNumbers
 pub mod WiderRanges
 pub mod ComplementParts

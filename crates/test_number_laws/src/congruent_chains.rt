@@ -1,5 +1,5 @@
 //! What steps that wrap, one after another, are congruent to where the type is not known, and where a product is among them.
-#![tactic(auto, using(arbitrary_int::proofs::Conversions::congruent_chains))]
+#![tactic(auto, using(arbitrary_int::proofs::CongruentChains::congruent_chains))]
 
 ghost use Rattle.std.specs.Prelude.{◌+ℤ◌, ◌-ℤ◌, ◌*ℤ◌, pos};
 ghost use Rattle.arbitrary_int.specs.Residue.{Congruent};
@@ -54,14 +54,32 @@ pub fn product_of_converted(a: u12, b: i7) -> u12
     a.wrapping_mul(b.as_::<u12>())
 }
 
-/// The line through a point, at any width of the numbers on it.
-pub fn line(slope: i33, x: i33, offset: i33, scale: i33) -> i33
-    ensures { Congruent 33 result ((slope *ℤ x +ℤ offset) *ℤ scale) }
+/// The polynomial `a * x * x + b * x + c`, as Horner's rule has it.
+pub fn polynomial(a: i33, b: i33, c: i33, x: i33) -> i33
+    ensures { Congruent 33 result ((a *ℤ x +ℤ b) *ℤ x +ℤ c) }
 {
-    slope
+    a.wrapping_mul(x)
+        .wrapping_add(b)
         .wrapping_mul(x)
-        .wrapping_add(offset)
-        .wrapping_mul(scale)
+        .wrapping_add(c)
+}
+
+pub fn polynomial_of_any_type<V: FixedWidth>(a: V, b: V, c: V, x: V) -> V
+    ensures { Congruent V.BITS (V.number result) ((V.number a *ℤ V.number x +ℤ V.number b) *ℤ V.number x +ℤ V.number c) }
+{
+    a.wrapping_mul(x)
+        .wrapping_add(b)
+        .wrapping_mul(x)
+        .wrapping_add(c)
+}
+
+pub fn checksum_of_five<V: FixedWidth>(a: V, b: V, c: V, d: V, e: V) -> V
+    ensures { Congruent V.BITS (V.number result) (V.number a +ℤ V.number b +ℤ V.number c +ℤ V.number d +ℤ V.number e) }
+{
+    a.wrapping_add(b)
+        .wrapping_add(c)
+        .wrapping_add(d)
+        .wrapping_add(e)
 }
 
 pub fn next_random(state: u48) -> u48
