@@ -73,6 +73,7 @@ pub mod ExactSums
 pub mod CongruentChains
 pub mod SerialNumbers
 pub mod WiderRanges
+pub mod Distances
 pub mod ComplementParts
 pub mod NegatedParts
 pub mod LowestMasks

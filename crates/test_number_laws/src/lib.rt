@@ -8,6 +8,7 @@ pub mod congruent_chains;
 pub mod converted_counts;
 pub mod count_bounds;
 pub mod differences_or_zero;
+pub mod distances;
 pub mod ends;
 pub mod exact_sums;
 pub mod extensions;

@@ -1,0 +1,31 @@
+//! How far two numbers with a sign are apart, read without one: it is exact also where the difference itself would be out of range.
+#![tactic(auto, using(arbitrary_int::proofs::Distances::distances))]
+
+ghost use Rattle.std.specs.Prelude.{◌≡◌, ◌-ℤ◌, ◌≤ℤ◌};
+
+use arbitrary_int::prelude::*;
+
+pub fn up_to(low: i48, high: i48) -> u48
+    requires { low ≤ℤ high }
+    ensures { result ≡ high -ℤ low }
+{
+    high.wrapping_sub(low).to_unsigned()
+}
+
+pub fn up_to_by_conversion(low: i100, high: i100) -> u100
+    requires { low ≤ℤ high }
+    ensures { result ≡ high -ℤ low }
+{
+    high.wrapping_sub(low).as_::<u100>()
+}
+
+pub fn apart(x: i33, y: i33) -> u33
+    ensures up { x ≤ℤ y → result ≡ y -ℤ x }
+    ensures down { y ≤ℤ x → result ≡ x -ℤ y }
+{
+    if x < y {
+        y.wrapping_sub(x).to_unsigned()
+    } else {
+        x.wrapping_sub(y).to_unsigned()
+    }
+}
