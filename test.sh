@@ -42,6 +42,7 @@ python3 tools/wrong_bodies.py --some 4 \
     arbitrary_base/{reversed_pattern_stays_at_the_high_end,rotates_right_by_an_arithmetic_shift,saturated_sum_wraps} \
     arbitrary_base/{extends_the_sign_by_a_logical_shift,flag_of_a_product_in_32_bits_is_turned,high_halves_are_compared_one_place_off} \
     arbitrary_base/{keeps_16_bits_of_a_number_in_32,saturated_small_sum_is_twice_the_first_number,small_sum_is_clamped_one_place_off} \
+    arbitrary_base/saturated_signed_sum_ends_at_its_own_side \
     arbitrary_base/{small_product_of_a_flagged_one_is_a_square,xors_where_it_should_or} \
     arbitrary_traits/{conversion_drops_the_bits_from_64_up,masking_clamps_a_negative_source} \
     arbitrary_calls/{counts_the_ones_of_the_storage,right_shift_fills_with_zeros} \
@@ -50,6 +51,7 @@ python3 tools/wrong_bodies.py --some 4 \
     arbitrary_core/{greatest_number_by_the_trait_is_one_too_small_at_full_widths,greater_number_is_that_of_the_bits} \
     arbitrary_core/{greatest_constant_is_half_as_great,least_constant_is_the_greatest,zero_test_is_negated} \
     arbitrary_core/{wider_number_is_its_negation,wider_number_loses_its_highest_bit} \
+    arbitrary_core/{mask_constant_lacks_the_highest_bit,sum_of_many_leaves_out_the_first} \
     arbitrary_int/{every_list_is_well_formed,no_list_is_well_formed,negation_step_saturates,tells_the_place_after} \
     arbitrary_int/undoes_an_earlier_step_at_a_stop \
     arbitrary_int/{no_bytes_are_canonical,reader_masks_excess_bits,reader_always_passes_a_fault_on,reader_takes_one_byte_too_many} \
