@@ -1,36 +1,22 @@
--- A line that is written in the fast form names the step that was read from it.
+-- A line names the step whose name it begins with, and whose operands follow a blank after the name (`line_named`, `loose_named`).
 --
--- A word is taken off a text in two cases: the name that the text begins with (`name_left`), and a space with a number after it
--- (`number_left`). Each tells the rest of a text by what remains after the word. So `one_named`, `two_named` and `by_named` take
--- the words of a line one by one, in the order in which `step_named` asks for them, and end where no word is left.
---
--- That a digit is a whole word is known from the text after it alone, which begins with a space or an LF (`Ends`).
-use Rattle.std.proofs.Common.{◌≡◌, ℕ, zero, suc, one-add, ◌+◌, ◌^◌, ◌<◌, ◌≤◌, true, false, List, [], ◌∷◌, ◌++◌, length, take, drop, get_or, Some, refl, sym, ap, ◌∙◌, inl, inr, arith}
+-- That the name is a whole word is known from the text after it alone, which begins with a blank (`Ends`).
+use Rattle.std.proofs.Common.{◌≡◌, ℕ, zero, suc, one-add, ◌<◌, ◌≤◌, true, List, [], ◌∷◌, ◌++◌, length, take, drop, get_or, Some, refl, sym, ap, ◌∙◌, inl, inr, arith}
 use Rattle.std.specs.Int.{w32, from_be_bytes, to_be_bytes}
 use Rattle.std.specs.List.{position_or_len, before_first}
-use Rattle.std.specs.Char.{is_ascii_digit}
 use Rattle.std.proofs.Math.Seq.{take-append_seam, drop-append_seam}
 use Rattle.std.proofs.lemmas.Nat.{be_bytes_4}
 use Rattle.std.proofs.lemmas.List.{take-append-drop}
 use Rattle.std.proofs.lemmas.Bool.{cases_Bool, cases_lt}
 use Rattle.std.proofs.lemmas.Bool.Decides.{nat_tests}
 use Rattle.arbitrary_int.specs.declared.steps.Step.{Step}
-use Rattle.arbitrary_int.specs.declared.steps.Step.TheVariants as steps
-use Rattle.arbitrary_int.specs.declared.steps.TwoOp.{TwoOp}
-use Rattle.arbitrary_int.specs.declared.steps.OneOp.{OneOp}
-use Rattle.arbitrary_int.specs.declared.steps.ByOp.{ByOp}
-use Rattle.bitrun_text.specs.Text.{is_blank, is_solid, ends_word, words_of, Left, left_of}
-use Rattle.bitrun_text.specs.Numeral.{first_number}
+use Rattle.bitrun_text.specs.Text.{is_blank, is_solid, ends_word, words_of, word_lines, Left, left_of}
 use Rattle.bitrun_text.specs.Operation.{operation_named, step_named, step_with}
 use Rattle.bitrun_text.specs.declared.operation.Operation.{Operation}
-use Rattle.bitrun_text.specs.declared.operation.Operation.TheVariants as operations
-use Rattle.bitrun_text.specs.Fast.{is_whole, IsName, BeginsWithName, BeginsWithNumber, NamesStep}
-use Rattle.std.specs.Str.Parse.{digits_value}
-use Rattle.bitrun_text.proofs.Digits.{digit_is, is_number}
+use Rattle.bitrun_text.specs.Fast.{is_whole, IsName, BeginsWithName, EndsLine, NamesLine, NamesStep}
 use Rattle.bitrun_text.proofs.Families.{no_letter}
 use Rattle.bitrun_text.proofs.Lines.{left-blank, left-blanks, left-word, word_taken, no_word_taken, ends-there}
-use Rattle.bitrun_text.proofs.Operands.{take-take, number-first}
-use Rattle.bitrun_text.proofs.StepWords.{one_taken, two_taken, by_taken}
+use Rattle.bitrun_text.proofs.Operands.{take-take}
 
 -- ---- the name
 
@@ -120,34 +106,8 @@ name_left text rest operation begins ends =
     let some : 0 < length begins.name = named_some begins.name operation begins.is_name.names in
     ap left_of begins.split ∙ word_left begins.name rest begins.is_name.whole some ends
 
--- the rest of a text that begins with a space and a number
-pub number_left : (limit : ℕ) (text : List ℕ) (n : ℕ) (rest : List ℕ) → BeginsWithNumber limit text n rest
-    → (first_number limit (left_of text).words ≡ Some (n, (left_of rest).words)) × ((left_of text).later ≡ (left_of rest).later)
-number_left limit text n rest begins =
-    let same : left_of text ≡ left_of begins.more = ap left_of begins.space ∙ left-blank 32 begins.more refl in
-    let taken = number-first begins.more rest limit n begins.value begins.left in
-    (rw same taken.0, rw same (sym taken.1))
-
-pub space_ends : (text more : List ℕ) → text ≡ 32 ∷ more → Ends text
-space_ends text more e = rw e refl
-
 pub blank_ends : (blank : ℕ) (more : List ℕ) → is_blank blank ≡ true → Ends (blank ∷ more)
 blank_ends blank more e = let end : ends_word blank ≡ true = grind (arith, nat_tests) in rw end refl
-
-pub digit_begins : (limit : ℕ) (text : List ℕ) (n : ℕ) (rest : List ℕ) → text ≡ 32 ∷ (48 + n) ∷ rest → n < 10 → n < limit → Ends rest
-    → BeginsWithNumber limit text n rest
-digit_begins limit text n rest e digit below ends =
-    let solid : ends_word (48 + n) ≡ false = grind (arith, nat_tests) in
-    let is_digit : is_ascii_digit (48 + n) ≡ true = grind (arith, nat_tests) in
-    let whole : is_whole ((48 + n) ∷ []) ≡ true = rw solid refl in
-    let size = word_size ((48 + n) ∷ []) rest whole ends in
-    let value : digits_value 10 ((48 + n) ∷ []) ≡ n = omega (arith, digit_is (48 + n) is_digit) in
-    record {
-      more = (48 + n) ∷ rest;
-      space = e;
-      value = rw size (is_number limit ((48 + n) ∷ []) (omega arith) (rw is_digit refl) (omega (arith, value, below)) ∙ ap Some value);
-      left = rw size refl;
-    }
 
 pub line_end : (text more : List ℕ) → text ≡ 10 ∷ more → Ends text × ((left_of text).words ≡ [])
 unfolding left_of words_of
@@ -157,58 +117,29 @@ pub cr_line_end : (text more : List ℕ) → text ≡ 13 ∷ 10 ∷ more → End
 unfolding left_of words_of
 cr_line_end text more e = (rw e refl, rw e refl)
 
--- ---- the step
+pub lf_ends : (text more : List ℕ) → text ≡ 10 ∷ more → EndsLine text more
+unfolding left_of
+lf_ends text more e = let end = line_end text more e in record { ends = end.0; last = end.1; later = rw e refl }
 
--- after the name two digits stand, and then what ends a word
-module _ (count : ℕ) (text after next third : List ℕ) (to src : ℕ)
-    (to_is : after ≡ 32 ∷ (48 + to) ∷ next) (to_digit : to < 10) (to_within : to < count)
-    (src_is : next ≡ 32 ∷ (48 + src) ∷ third) (src_digit : src < 10) (src_within : src < count) (ends : Ends third) where
-  after_ends : Ends after
-  after_ends = space_ends after ((48 + to) ∷ next) to_is
+pub cr_lf_ends : (text more : List ℕ) → text ≡ 13 ∷ 10 ∷ more → EndsLine text more
+unfolding left_of
+cr_lf_ends text more e = let end = cr_line_end text more e in record { ends = end.0; last = end.1; later = rw e refl }
 
-  to_left : (first_number count (left_of after).words ≡ Some (to, (left_of next).words)) × ((left_of after).later ≡ (left_of next).later)
-  to_left = number_left count after to next (digit_begins count after to next to_is to_digit to_within (space_ends next ((48 + src) ∷ third) src_is))
+-- ---- a step that is written in the fast form
 
-  src_left : (first_number count (left_of next).words ≡ Some (src, (left_of third).words)) × ((left_of next).later ≡ (left_of third).later)
-  src_left = number_left count next src third (digit_begins count next src third src_is src_digit src_within ends)
-
-  later_left : (operation : Operation) → BeginsWithName text operation after → (left_of third).later ≡ (left_of text).later
-  later_left operation begins = sym (ap (λ (l : Left). l.later) (name_left text after operation begins after_ends) ∙ to_left.1 ∙ src_left.1)
-
-  pub one_named : (op : OneOp) (more : List ℕ) → BeginsWithName text (operations.One op) after → third ≡ 10 ∷ more → NamesStep count text (steps.One op to src) third
-  unfolding step_named
-  one_named op more begins lf =
-      let words = (line_end third more lf).1 in
-      record {
-        names = rw (ap (λ (l : Left). l.words) (name_left text after (operations.One op) begins after_ends), begins.is_name.names, one_taken count op (left_of after).words, to_left.0, src_left.0, words) refl;
-        at_end = words;
-        later = later_left (operations.One op) begins;
-      }
-
-  module _ (last more : List ℕ) (lf : last ≡ 10 ∷ more) where
-    pub two_named : (op : TwoOp) (right : ℕ) → BeginsWithName text (operations.Two op) after → third ≡ 32 ∷ (48 + right) ∷ last → right < 10 → right < count
-        → NamesStep count text (steps.Two op to src right) last
-    unfolding step_named
-    two_named op right begins right_is digit within =
-        let words = (line_end last more lf).1 in
-        let taken = number_left count third right last (digit_begins count third right last right_is digit within (line_end last more lf).0) in
-        record {
-          names = rw (ap (λ (l : Left). l.words) (name_left text after (operations.Two op) begins after_ends), begins.is_name.names, two_taken count op (left_of after).words, to_left.0, src_left.0, taken.0, words) refl;
-          at_end = words;
-          later = sym taken.1 ∙ later_left (operations.Two op) begins;
-        }
-
-    pub by_named : (op : ByOp) (amount : ℕ) → BeginsWithName text (operations.By op) after → BeginsWithNumber (2 ^ 32) third amount last
-        → NamesStep count text (steps.By op to src amount) last
-    unfolding step_named
-    by_named op amount begins number =
-        let words = (line_end last more lf).1 in
-        let taken = number_left (2 ^ 32) third amount last number in
-        record {
-          names = rw (ap (λ (l : Left). l.words) (name_left text after (operations.By op) begins after_ends), begins.is_name.names, by_taken count op (left_of after).words, to_left.0, src_left.0, taken.0, words) refl;
-          at_end = words;
-          later = sym taken.1 ∙ later_left (operations.By op) begins;
-        }
+-- after the name one blank stands, and then operands of the step
+pub line_named : (count : ℕ) (text rest : List ℕ) (operation : Operation) (blank : ℕ) (operands : List ℕ) (step : Step) (after : List ℕ)
+    → BeginsWithName text operation rest → rest ≡ blank ∷ operands → is_blank blank ≡ true → step_with count operation (left_of operands).words ≡ Some step
+    → word_lines after ≡ (left_of operands).later → NamesLine count text step after
+unfolding step_named
+line_named count text rest operation blank operands step after begins split blanks named later =
+    let ends : Ends rest = ap (position_or_len ends_word) split ∙ blank_ends blank operands blanks in
+    let taken = name_left text rest operation begins ends in
+    let passed : left_of rest ≡ left_of operands = ap left_of split ∙ left-blank blank operands blanks in
+    record {
+      names = rw (taken, begins.is_name.names, passed, named) refl;
+      later = later ∙ sym (ap (λ (l : Left). l.later) taken ∙ ap (λ (l : Left). l.later) passed);
+    }
 
 -- ---- a step that is written in the loose form
 

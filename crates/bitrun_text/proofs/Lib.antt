@@ -9,3 +9,4 @@ pub mod Families
 pub mod FastLines
 pub mod LongNumbers
 pub mod Names
+pub mod ShortNumbers

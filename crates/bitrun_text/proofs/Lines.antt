@@ -252,7 +252,7 @@ pub left-line : (text : List ℕ) → 0 < length text → word_lines text ≡ (l
 unfolding left_of
 left-line text some = ap (map words_of) (lines-first text some)
 
-left-later : (text : List ℕ) → (left_of text).later ≡ word_lines (after_first ends_line text)
+pub left-later : (text : List ℕ) → (left_of text).later ≡ word_lines (after_first ends_line text)
 unfolding left_of
 left-later text = refl
 

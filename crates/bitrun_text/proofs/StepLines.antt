@@ -1,21 +1,14 @@
 -- One more of the lines after the second.
-use Rattle.std.proofs.Common.{◌≡◌, ◌≤◌, ◌+◌, ◌-◌, ℕ, suc, List, [], ◌∷◌, ◌++◌, length, filter, Some, None, is_some, true, sym, refl, ap, arith, append_assoc}
-use Rattle.std.specs.Prelude.{All}
-use Rattle.std.specs.List.{AllZip}
+use Rattle.std.proofs.Common.{◌≡◌, ◌<◌, ◌+◌, ◌-◌, ℕ, suc, List, [], ◌∷◌, ◌++◌, length, filter, Some, None, is_some, true, sym, refl, ap, ◌∙◌, arith, append_assoc}
+use Rattle.std.specs.List.{AllZip, after_first}
 use Rattle.std.proofs.lemmas.List.Elements.{All-push}
 use Rattle.arbitrary_int.specs.declared.steps.Step.{Step}
 use Rattle.arbitrary_int.specs.Step.{StepWithin}
-use Rattle.bitrun_text.specs.Text.{has_items}
+use Rattle.bitrun_text.specs.Text.{ends_line, has_items, word_lines, Left, left_of}
 use Rattle.bitrun_text.specs.Operation.{step_named}
-use Rattle.bitrun_text.specs.Form.{IsStep, HasStepForm, FirstBad}
-
--- some of all the lines after the second are read: the steps they name, the number of the line before the next one, and the lines left
-pub record ReadSoFar (count : ℕ) (all : List (List (List ℕ))) (steps : List Step) (number : ℕ) (left : List (List (List ℕ))) : Type 0 where
-  pub found : (others : List Step) → AllZip (IsStep count) (filter has_items left) others → AllZip (IsStep count) (filter has_items all) (steps ++ others)
-  pub fault : (i : ℕ) → FirstBad (HasStepForm count) left i → FirstBad (HasStepForm count) all (number - 2 + i)
-  pub within : All (StepWithin count) steps
-  pub counted : number + length left ≡ 2 + length all
-  pub start : 2 ≤ number
+use Rattle.bitrun_text.specs.Fast.{EndsLine, NamesLine}
+use Rattle.bitrun_text.specs.Form.{IsStep, HasStepForm, FirstBad, ReadSoFar}
+use Rattle.bitrun_text.proofs.Lines.{left-line, left-later}
 
 -- the words of a line name the step, and the later lines are left
 pub record LineRead (count : ℕ) (words : List (List ℕ)) (rest : List (List (List ℕ))) (step : Step) (after : List (List (List ℕ))) : Type 0 where
@@ -80,3 +73,27 @@ module _ (count : ℕ) (lines rest after : List (List (List ℕ))) (words : List
           counted = counted-later;
           start = omega (arith, so_far.start);
         }
+
+-- ---- the first line of a text is read
+
+module _ (count : ℕ) (text after : List ℕ) (some : 0 < length text) (all : List (List (List ℕ))) (steps : List Step) (number : ℕ)
+    (so_far : ReadSoFar count all steps number (word_lines text)) where
+  pub blank_passed : EndsLine text after → ReadSoFar count all steps (number + 1) (word_lines after)
+  blank_passed line =
+      let left = left_of text in
+      after_blank count (word_lines text) left.later (word_lines after) left.words (left-line text some) line.later all steps number so_far line.last
+
+  pub step_passed : (step : Step) → NamesLine count text step after → StepWithin count step → ReadSoFar count all (steps ++ step ∷ []) (number + 1) (word_lines after)
+  step_passed step line within =
+      let left = left_of text in
+      after_step count (word_lines text) left.later (word_lines after) left.words (left-line text some) line.later all steps number so_far step line.names within
+
+pub one_line : (text after : List ℕ) → 0 < length text → word_lines after ≡ (left_of text).later → length (word_lines text) ≡ length (word_lines after) + 1
+one_line text after some later = omega (arith, ap length (left-line text some), ap length later)
+
+-- the lines after the one that a text begins within
+pub lines_after : (count : ℕ) (all : List (List (List ℕ))) (steps : List Step) (number : ℕ) (text after : List ℕ) (line : Left) → left_of text ≡ line
+    → after ≡ after_first ends_line text → ReadSoFar count all steps number line.later → ReadSoFar count all steps number (word_lines after)
+lines_after count all steps number text after line same follows so_far =
+    let lines : word_lines after ≡ line.later = ap word_lines follows ∙ sym (left-later text) ∙ ap (λ (l : Left). l.later) same in
+    rw lines so_far

@@ -1,9 +1,8 @@
 -- Lines that are written in the fast form.
-use Rattle.std.specs.Prelude.{◌≡◌, ℕ, ◌&&◌, Bool, true, List, [], ◌∷◌, ◌++◌, take, drop, codes, not, Some, None}
+use Rattle.std.specs.Prelude.{◌≡◌, ℕ, ◌&&◌, Bool, true, List, [], ◌∷◌, ◌++◌, take, codes, not, Some, None}
 use Rattle.std.specs.Int.{w32, to_be_bytes}
-use Rattle.std.specs.List.{position_or_len, before_first}
-use Rattle.bitrun_text.specs.Text.{ends_word, left_of}
-use Rattle.bitrun_text.specs.Numeral.{number_below}
+use Rattle.std.specs.List.{position_or_len}
+use Rattle.bitrun_text.specs.Text.{ends_word, word_lines, left_of}
 use Rattle.bitrun_text.specs.Operation.{operation_named, step_named}
 use Rattle.arbitrary_int.specs.declared.steps.Step.{Step}
 use Rattle.bitrun_text.specs.declared.operation.Operation.{Operation}
@@ -28,15 +27,19 @@ pub record BeginsWithName (text : List ℕ) (operation : Operation) (rest : List
   pub split : text ≡ name ++ rest
   pub is_name : IsName name operation
 
--- the text begins with a space and a number below the limit
-pub record BeginsWithNumber (limit : ℕ) (text : List ℕ) (number : ℕ) (rest : List ℕ) : Type 0 where
-  pub more : List ℕ
-  pub space : text ≡ 32 ∷ more
-  pub value : number_below limit (before_first ends_word more) ≡ Some number
-  pub left : rest ≡ drop (position_or_len ends_word more) more
-
 -- the words of the line with which the text begins name the step, and the rest begins after the last of them
 pub record NamesStep (count : ℕ) (text : List ℕ) (step : Step) (rest : List ℕ) : Type 0 where
   pub names : Some step ≡ step_named count (left_of text).words
   pub at_end : (left_of rest).words ≡ []
   pub later : (left_of rest).later ≡ (left_of text).later
+
+-- a line ends where the text begins, and the rest is the lines after it
+pub record EndsLine (text rest : List ℕ) : Type 0 where
+  pub ends : position_or_len ends_word text ≡ 0
+  pub last : (left_of text).words ≡ []
+  pub later : word_lines rest ≡ (left_of text).later
+
+-- the words of the line with which the text begins name the step, and the rest is the lines after it
+pub record NamesLine (count : ℕ) (text : List ℕ) (step : Step) (rest : List ℕ) : Type 0 where
+  pub names : Some step ≡ step_named count (left_of text).words
+  pub later : word_lines rest ≡ (left_of text).later

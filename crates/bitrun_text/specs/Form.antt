@@ -1,7 +1,8 @@
 -- Which inputs are of the form, and which line of another is the first that isn't.
-use Rattle.std.specs.Prelude.{◌≡◌, ℕ, zero, suc, ◌+◌, ◌<◌, ◌⊎◌, Bool, List, [], ◌∷◌, length, filter, Some, IsSome, IfSome, ℤ, slice_get}
+use Rattle.std.specs.Prelude.{◌≡◌, ℕ, zero, suc, ◌+◌, ◌-◌, ◌<◌, ◌≤◌, ◌⊎◌, Bool, List, [], ◌∷◌, ◌++◌, length, filter, Some, IsSome, IfSome, ℤ, slice_get, All}
 use Rattle.std.specs.List.{AllZip, AllByRecursion}
 use Rattle.arbitrary_int.specs.declared.steps.Step.{Step}
+use Rattle.arbitrary_int.specs.Step.{StepWithin}
 use Rattle.bitrun_text.specs.Text.{has_items, word_lines}
 use Rattle.bitrun_text.specs.Numeral.{value_named}
 use Rattle.bitrun_text.specs.Kind.{kind_named, type_row, type_of}
@@ -61,6 +62,14 @@ abbrev pub FirstBad : {X : Type 0} → (X → Type 0) → List X → ℕ → Typ
 FirstBad P [] i = ⊥
 FirstBad P (x ∷ xs) zero = P x → ⊥
 FirstBad P (x ∷ xs) (suc i) = P x × FirstBad P xs i
+
+-- some of all the lines after the second are read: the steps they name, the number of the line before the next one, and the lines left
+pub record ReadSoFar (count : ℕ) (all : List (List (List ℕ))) (steps : List Step) (number : ℕ) (left : List (List (List ℕ))) : Type 0 where
+  pub found : (others : List Step) → AllZip (IsStep count) (filter has_items left) others → AllZip (IsStep count) (filter has_items all) (steps ++ others)
+  pub fault : (i : ℕ) → FirstBad (HasStepForm count) left i → FirstBad (HasStepForm count) all (number - 2 + i)
+  pub within : All (StepWithin count) steps
+  pub counted : number + length left ≡ 2 + length all
+  pub start : 2 ≤ number
 
 -- what the lines after the second may give in place of steps
 abbrev pub StepsFault : ℕ → List (List (List ℕ)) → Fault → Type 0

@@ -1,67 +1,169 @@
-//! Lines of steps that are written in the fast form: a name, one space before each operand, a register
-//! number of one digit, and nothing else before the LF. Such a line is read at once. A result of
-//! `None` says nothing of a line, so whoever asks goes on with its words.
+//! Lines of steps that are written in the fast form: a name, one blank before each operand, the same each time, register numbers of one
+//! to three digits, and nothing else before the LF, or before a CR and the LF. Such a line is read at once. A result of `None` says
+//! nothing of a line, so whoever asks goes on with its words.
 
-ghost use Rattle.std.specs.Prelude.{◌≡◌, ◌≤◌, ◌<◌, ◌+◌, ◌^◌, ◌∷◌, drop, take, Some, IfSome, MatchOption, ⊤};
+ghost use Rattle.std.specs.Prelude.{◌≡◌, ◌≤◌, ◌<◌, ◌+◌, ◌^◌, [], true, length, drop, take, Some, IfSome, MatchOption, ⊤};
 ghost use Rattle.std.specs.Int.{w32, to_be_bytes};
 ghost use Rattle.arbitrary_int.specs.Step.{StepWithin};
-ghost use Rattle.std.specs.List.{position_or_len, before_first};
-ghost use Rattle.bitrun_text.specs.Text.{ends_word};
-ghost use Rattle.bitrun_text.specs.Numeral.{number_below};
-ghost use Rattle.bitrun_text.specs.Fast.{IsName, BeginsNoName, BeginsWithName, BeginsWithNumber, NamesStep};
+ghost use Rattle.bitrun_text.specs.Text.{is_blank, left_of, word_lines};
+ghost use Rattle.bitrun_text.specs.Numeral.{first_number};
+ghost use Rattle.bitrun_text.specs.Operation.{step_with};
+ghost use Rattle.bitrun_text.specs.Fast.{IsName, BeginsNoName, BeginsWithName, EndsLine, NamesLine};
 
 use crate::fast_value::digits_from;
-use crate::loose::digit;
 use crate::operation::Operation;
-use crate::text::begins_with_lf;
+use crate::short_number::{few_digits, last_digits};
+use crate::text::is_blank;
 use arbitrary_int::{ByOp, OneOp, Step, TwoOp};
 
-/// The step on so many registers of the line with which the text begins, and what follows its last
-/// word, or nothing where the line isn't a fast one or names no step.
+/// The most bytes that the operands take: three of up to three digits, with the blank after each, and a CR and an LF after the last.
+const OPERANDS: usize = 13;
+
+/// With its name and a blank, a line has so many.
+const LINE: usize = OPERANDS + 5;
+
+/// The step on so many registers of the line with which the text begins, and what follows the line, or nothing where the line isn't a
+/// fast one or names no step.
 #[inline(always)]
-pub fn fast_step(text: &[u8], count: usize) -> Option<(Step, &[u8])>
-    ensures step { IfSome result (λ p. NamesStep count text.now p.0 p.1.now) }
+pub fn fast_line(text: &[u8], count: usize) -> Option<(Step, &[u8])>
+    ensures step { IfSome result (λ p. NamesLine count text.now p.0 p.1.now) }
     ensures within { IfSome result (λ p. StepWithin count p.0) }
+    ensures some { IfSome result (λ p. 0 < length text.now) }
 {
-    // With this one test the compiler leaves out those of the parts. The longest line with three registers has so many bytes.
-    if text.len() < 11 {
+    // With this one test no part has one of its own.
+    if text.len() < LINE {
         return None;
     }
-    let (operation, rest) = fast_name(text)?;
-    let (to, rest) = fast_register(rest, count)?;
-    let (src, rest) = fast_register(rest, count)?;
-    let (step, rest) = match operation {
+    let (operation, size) = name_there(text)?;
+    let blank = text[size];
+    if !is_blank(blank) {
+        return None;
+    }
+    let (step, end) = fast_operands(operation, text, size + 1, count, blank)?;
+    let (_, rest) = text.split_at(end);
+    Some((step, rest))
+}
+
+/// The step of an operation on so many registers with the operands at the place, and the place after the line.
+#[tactic(auto, using(crate::proofs::StepWords::taken))]
+#[inline(always)]
+fn fast_operands(
+    operation: Operation,
+    text: &[u8],
+    at: usize,
+    count: usize,
+    blank: u8,
+) -> Option<(Step, usize)>
+    requires blank { is_blank blank ≡ true }
+    requires room { at + 13 ≤ length text.now }
+    ensures step { IfSome result (λ p. step_with count operation (left_of (drop at text.now)).words ≡ Some p.0) }
+    ensures within { IfSome result (λ p. StepWithin count p.0) }
+    ensures later { IfSome result (λ p. word_lines (drop p.1 text.now) ≡ (left_of (drop at text.now)).later) }
+    ensures room { IfSome result (λ p. p.1 ≤ length text.now) }
+{
+    let (to, at) = fast_register(text, at, count, blank)?;
+    match operation {
         Operation::Two(op) => {
-            let (right, rest) = fast_register(rest, count)?;
-            (
+            let (left, at) = fast_register(text, at, count, blank)?;
+            let (right, end) = last_register(text, at, count)?;
+            Some((
                 Step::Two {
                     op,
                     to,
-                    left: src,
+                    left,
                     right,
                 },
-                rest,
-            )
+                end,
+            ))
         }
-        Operation::One(op) => (Step::One { op, to, src }, rest),
+        Operation::One(op) => {
+            let (src, end) = last_register(text, at, count)?;
+            Some((Step::One { op, to, src }, end))
+        }
         Operation::By(op) => {
-            let (amount, rest) = fast_amount(rest)?;
-            (
+            let (src, at) = fast_register(text, at, count, blank)?;
+            let (amount, end) = fast_amount(text, at)?;
+            Some((
                 Step::By {
                     op,
                     to,
                     src,
                     amount,
                 },
-                rest,
-            )
+                end,
+            ))
         }
-    };
-    if begins_with_lf(rest) {
-        Some((step, rest))
+    }
+}
+
+/// The number at the place of one of so many registers, if it has one to three digits and the blank follows it, and the place after the
+/// blank.
+#[inline(always)]
+fn fast_register(text: &[u8], at: usize, count: usize, blank: u8) -> Option<(usize, usize)>
+    requires blank { is_blank blank ≡ true }
+    requires room { at + 4 ≤ length text.now }
+    ensures number { IfSome result (λ p. first_number count (left_of (drop at text.now)).words ≡ Some (p.0, (left_of (drop p.1 text.now)).words)) }
+    ensures below { IfSome result (λ p. p.0 < count) }
+    ensures later { IfSome result (λ p. (left_of (drop p.1 text.now)).later ≡ (left_of (drop at text.now)).later) }
+    ensures room { IfSome result (λ p. p.1 ≤ at + 4) }
+{
+    let (number, end) = few_digits(text, at, blank)?;
+    let number = number as usize;
+    if number < count {
+        Some((number, end))
     } else {
         None
     }
+}
+
+/// The number at the place of one of so many registers, if it has one to three digits and the line ends right after it, and the place
+/// after the line.
+#[inline(always)]
+fn last_register(text: &[u8], at: usize, count: usize) -> Option<(usize, usize)>
+    requires { at + 5 ≤ length text.now }
+    ensures number { IfSome result (λ p. first_number count (left_of (drop at text.now)).words ≡ Some (p.0, [])) }
+    ensures below { IfSome result (λ p. p.0 < count) }
+    ensures later { IfSome result (λ p. word_lines (drop p.1 text.now) ≡ (left_of (drop at text.now)).later) }
+    ensures room { IfSome result (λ p. p.1 ≤ length text.now) }
+{
+    let (number, last) = last_digits(text, at)?;
+    let number = number as usize;
+    if number >= count {
+        return None;
+    }
+    Some((number, after_line_end(text, last)?))
+}
+
+/// The amount of any count of digits at the place, if the line ends right after it, and the place after the line.
+#[inline(always)]
+fn fast_amount(text: &[u8], at: usize) -> Option<(u32, usize)>
+    requires { at ≤ length text.now }
+    ensures number { IfSome result (λ p. first_number (2 ^ 32) (left_of (drop at text.now)).words ≡ Some (p.0, [])) }
+    ensures later { IfSome result (λ p. word_lines (drop p.1 text.now) ≡ (left_of (drop at text.now)).later) }
+    ensures room { IfSome result (λ p. p.1 ≤ length text.now) }
+{
+    let (_, word) = text.split_at(at);
+    let (number, size) = digits_from(word, 0);
+    if size == 0 || number >= 1 << 32 || word.len() < size + 2 {
+        return None;
+    }
+    Some((number as u32, after_line_end(text, at + size)?))
+}
+
+/// The place after the line, where it ends at the place: with an LF, or a CR and an LF.
+#[inline(always)]
+fn after_line_end(text: &[u8], at: usize) -> Option<usize>
+    requires { at + 2 ≤ length text.now }
+    ensures line { IfSome result (λ end. EndsLine (drop at text.now) (drop end text.now)) }
+    ensures room { IfSome result (λ end. end ≤ at + 2) }
+{
+    if text[at] == b'\n' {
+        return Some(at + 1);
+    }
+    if text[at] == b'\r' && text[at + 1] == b'\n' {
+        return Some(at + 2);
+    }
+    None
 }
 
 /// The operation of three or four letters with whose name the text begins, and what follows it.
@@ -69,62 +171,23 @@ pub fn fast_step(text: &[u8], count: usize) -> Option<(Step, &[u8])>
 pub fn fast_name(text: &[u8]) -> Option<(Operation, &[u8])>
     ensures { IfSome result (λ p. BeginsWithName text.now p.0 p.1.now) }
 {
-    let [a, b, c, d, ..] = text else {
-        return None;
-    };
-    let (operation, length) = short_name(u32::from_be_bytes([*a, *b, *c, *d]))?;
-    let (_, rest) = text.split_at(length);
+    let (operation, size) = name_there(text)?;
+    let (_, rest) = text.split_at(size);
     Some((operation, rest))
 }
 
-/// The number of one of so many registers, if it is a digit after a space, and what follows it.
+/// The operation of three or four letters with whose name the text begins, and how many bytes the name has.
 #[inline(always)]
-fn fast_register(text: &[u8], count: usize) -> Option<(usize, &[u8])>
-    ensures digit { IfSome result (λ p. text.now ≡ 32 ∷ (48 + p.0) ∷ p.1.now) }
-    ensures one { IfSome result (λ p. p.0 < 10) }
-    ensures within { IfSome result (λ p. p.0 < count) }
+fn name_there(text: &[u8]) -> Option<(Operation, usize)>
+    ensures name { IfSome result (λ p. BeginsWithName text.now p.0 (drop p.1 text.now)) }
+    ensures short { IfSome result (λ p. p.1 ≤ 4) }
+    ensures room { IfSome result (λ p. p.1 ≤ length text.now) }
 {
-    match text {
-        [b' ', byte, rest @ ..] => {
-            let number = usize::from(digit(*byte));
-            // One limit, which the compiler finds once for all lines, in place of two tests.
-            let limit = if count < 10 { count } else { 10 };
-            if number < limit {
-                Some((number, rest))
-            } else {
-                None
-            }
-        }
-        _ => None,
-    }
-}
-
-/// The amount after a space, and what follows it.
-#[inline(always)]
-fn fast_amount(text: &[u8]) -> Option<(u32, &[u8])>
-    ensures { IfSome result (λ p. BeginsWithNumber (2 ^ 32) text.now p.0 p.1.now) }
-{
-    let [b' ', more @ ..] = text else {
+    let [a, b, c, d, ..] = text else {
         return None;
     };
-    last_amount(more)
-}
-
-/// The amount with which the text begins, where the line ends after it, and what follows it.
-#[inline(always)]
-fn last_amount(text: &[u8]) -> Option<(u32, &[u8])>
-    ensures value { IfSome result (λ p. number_below (2 ^ 32) (before_first ends_word text.now) ≡ Some p.0) }
-    ensures rest { IfSome result (λ p. p.1.now ≡ drop (position_or_len ends_word text.now) text.now) }
-{
-    let (number, at) = digits_from(text, 0);
-    if at == 0 || number >= 1 << 32 {
-        return None;
-    }
-    let (_, rest) = text.split_at(at);
-    if !begins_with_lf(rest) {
-        return None;
-    }
-    Some((number as u32, rest))
+    let (operation, size) = short_name(u32::from_be_bytes([*a, *b, *c, *d]))?;
+    Some((operation, size))
 }
 
 /// The operation that the first letters of four bytes name, and how many letters it has. The first

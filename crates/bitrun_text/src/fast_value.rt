@@ -57,7 +57,7 @@ fn fast_integer(text: &[u8]) -> Option<(i128, &[u8])>
 
 /// What follows the byte, where the text begins with it.
 #[inline(always)]
-fn after(text: &[u8], byte: u8) -> Option<&[u8]>
+pub(crate) fn after(text: &[u8], byte: u8) -> Option<&[u8]>
     ensures { IfSome result (λ rest. text.now ≡ byte ∷ rest.now) }
 {
     match text {

@@ -13,4 +13,5 @@ mod loose;
 mod numeral;
 mod operation;
 pub mod parsing;
+mod short_number;
 pub mod text;

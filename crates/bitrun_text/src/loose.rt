@@ -1,17 +1,18 @@
-//! Lines of steps that aren't fast: with numbers of two or three digits, tabs, more blanks, or blanks before the LF. Any right line is
-//! read here, and these at once; more digits take a call. A result of `None` says nothing of a line, so whoever asks goes on with its
-//! words.
+//! Lines of steps that aren't fast: with more blanks, or blanks before the LF, or numbers of more digits, which take a call. Any right
+//! line is read here but for the last one or two of a text, where fewer bytes are left than three operands of three digits take. A result
+//! of `None` says nothing of a line, so whoever asks goes on with its words.
 
-ghost use Rattle.std.specs.Prelude.{◌≡◌, ◌≤◌, ◌<◌, ◌+◌, ◌*◌, ◌^◌, ◌∷◌, ℕ, [], true, length, drop, Some, IfSome};
+ghost use Rattle.std.specs.Prelude.{◌≡◌, ◌≤◌, ◌<◌, ◌+◌, ◌∷◌, ℕ, [], true, length, drop, Some, IfSome};
 ghost use Rattle.std.specs.List.{position_or_len};
 ghost use Rattle.arbitrary_int.specs.Step.{StepWithin};
 ghost use Rattle.bitrun_text.specs.Text.{is_blank, is_solid, left_of};
-ghost use Rattle.bitrun_text.specs.Numeral.{first_number, BeginsWithDigits};
+ghost use Rattle.bitrun_text.specs.Numeral.{first_number};
 ghost use Rattle.bitrun_text.specs.Operation.{step_named, step_with};
 ghost use Rattle.bitrun_text.specs.Fast.{NamesStep};
 
 use crate::fast::fast_name;
 use crate::operation::{Operation, operation_named};
+use crate::short_number::{few_digits, last_digits};
 use crate::text::{is_blank, is_line_end, split_number, split_word, without_blanks};
 use arbitrary_int::Step;
 
@@ -151,9 +152,10 @@ fn next_number(text: &[u8], limit: u64, blank: u8, room: usize) -> Option<(u64, 
     ensures room { IfSome result (λ p. room ≤ length p.1.now + 4) }
 {
     let word = from_digit(text, room)?;
-    match few_digits(word, blank) {
-        Some((number, rest)) => {
+    match few_digits(word, 0, blank) {
+        Some((number, end)) => {
             if number < limit {
+                let (_, rest) = word.split_at(end);
                 Some((number, rest))
             } else {
                 None
@@ -174,9 +176,14 @@ fn last_number(text: &[u8], limit: u64) -> Option<(u64, &[u8])>
     ensures later { IfSome result (λ p. (left_of p.1.now).later ≡ (left_of text.now).later) }
 {
     let word = from_digit(text, 4)?;
-    match last_digits(word) {
-        Some((number, rest)) if number < limit && is_line_end(rest) => Some((number, rest)),
-        _ => any_last_number(word, limit),
+    let Some((number, end)) = last_digits(word, 0) else {
+        return any_last_number(word, limit);
+    };
+    let (_, rest) = word.split_at(end);
+    if number < limit && is_line_end(rest) {
+        Some((number, rest))
+    } else {
+        any_last_number(word, limit)
     }
 }
 
@@ -228,89 +235,4 @@ fn any_last_number(text: &[u8], limit: u64) -> Option<(u64, &[u8])>
     } else {
         None
     }
-}
-
-/// The number of one to three digits with which the text begins, where the byte follows them, and what follows the byte.
-#[inline(always)]
-fn few_digits(text: &[u8], byte: u8) -> Option<(u64, &[u8])>
-    requires { 4 ≤ length text.now }
-    ensures digits { IfSome result (λ p. BeginsWithDigits text.now p.0 (byte ∷ p.1.now)) }
-    ensures room { IfSome result (λ p. length text.now ≤ length p.1.now + 4) }
-{
-    let [a, b, c, d, ..] = text else {
-        unreachable!();
-    };
-    let first = digit(*a);
-    if first >= 10 {
-        return None;
-    }
-    let one = u64::from(first);
-    if *b == byte {
-        let (_, rest) = text.split_at(2);
-        return Some((one, rest));
-    }
-    let second = digit(*b);
-    if second >= 10 {
-        return None;
-    }
-    let two = with_digit(one, second);
-    if *c == byte {
-        let (_, rest) = text.split_at(3);
-        return Some((two, rest));
-    }
-    let third = digit(*c);
-    if third >= 10 || *d != byte {
-        return None;
-    }
-    let (_, rest) = text.split_at(4);
-    Some((with_digit(two, third), rest))
-}
-
-/// The number of one to three digits with which the text begins, where no further digit follows, and what follows them.
-#[inline(always)]
-fn last_digits(text: &[u8]) -> Option<(u64, &[u8])>
-    requires { 4 ≤ length text.now }
-    ensures { IfSome result (λ p. BeginsWithDigits text.now p.0 p.1.now) }
-{
-    let [a, b, c, d, ..] = text else {
-        unreachable!();
-    };
-    let first = digit(*a);
-    if first >= 10 {
-        return None;
-    }
-    let one = u64::from(first);
-    let second = digit(*b);
-    if second >= 10 {
-        let (_, rest) = text.split_at(1);
-        return Some((one, rest));
-    }
-    let two = with_digit(one, second);
-    let third = digit(*c);
-    if third >= 10 {
-        let (_, rest) = text.split_at(2);
-        return Some((two, rest));
-    }
-    if digit(*d) < 10 {
-        return None;
-    }
-    let (_, rest) = text.split_at(3);
-    Some((with_digit(two, third), rest))
-}
-
-/// The number with one digit more.
-#[inline(always)]
-fn with_digit(number: u64, digit: u8) -> u64
-    requires { number < 2 ^ 32 }
-    ensures { result ≡ 10 * number + digit }
-{
-    10 * number + u64::from(digit)
-}
-
-/// What the byte is worth as a digit, which is below ten for digits alone.
-#[inline(always)]
-pub(crate) fn digit(byte: u8) -> u8
-    ensures { result < 10 → byte ≡ 48 + result }
-{
-    byte.wrapping_sub(b'0')
 }

@@ -1,14 +1,13 @@
 //! The registers and the steps from their lines.
 
-ghost use Rattle.std.specs.Prelude.{◌≡◌, ◌≤◌, length, map, filter, IfOk, IfErr, IfSome, MatchOption, All};
+ghost use Rattle.std.specs.Prelude.{◌≡◌, ◌≤◌, ◌+◌, ℕ, List, length, map, filter, IfOk, IfErr, IfSome, MatchOption, All};
 ghost use Rattle.arbitrary_int.specs.Step.{StepWithin};
 ghost use Rattle.std.specs.List.{AllZip};
-ghost use Rattle.bitrun_text.specs.Text.{Left, has_items};
-ghost use Rattle.bitrun_text.specs.Form.{IsValue, IsStep, HasRegistersForm, StepsFault};
-ghost use Rattle.bitrun_text.specs.Fast.{NamesStep};
+ghost use Rattle.bitrun_text.specs.Text.{Left, has_items, word_lines};
+ghost use Rattle.bitrun_text.specs.Form.{IsValue, IsStep, HasRegistersForm, StepsFault, ReadSoFar};
 
-use crate::fast::fast_step;
-use crate::fast_value::fast_value;
+use crate::fast::fast_line;
+use crate::fast_value::{after, fast_value};
 use crate::fault::Fault;
 use crate::loose::loose_step;
 use crate::numeral::value_named;
@@ -70,7 +69,7 @@ pub fn steps<'a, A: Allocator>(
     }
 }
 
-/// The same by a loop for loose lines, or by one for fast lines. In one loop for both, a fast line took 10 to 40 instructions more.
+/// The same by a loop for loose lines, or by one that reads as many fast lines as stand next to each other at once.
 fn steps_of_form<'a, const LOOSE: bool, A: Allocator>(
     alloc: &'a A,
     count: usize,
@@ -86,12 +85,24 @@ fn steps_of_form<'a, const LOOSE: bool, A: Allocator>(
     // A line of a step has 11 bytes or so: room for most of them, and not too much for other lines.
     let mut steps = Vec::with_capacity(alloc, line.text().len() / 16)?;
     let mut number = 2;
-    while line.next_line() {
+    loop {
+        let (read, rest, last) = steps_at_once::<LOOSE, A>(
+            count,
+            after_line(line.text()),
+            steps,
+            number,
+        );
+        steps = read;
+        number = last;
+        let Some(next) = Cursor::new(rest) else {
+            return Ok(steps);
+        };
+        line = next;
         number += 1;
         if line.is_at_lf() {
             continue;
         }
-        let step = match step_of_form::<LOOSE>(line.text(), count) {
+        let step = match loose_step(line.text(), count) {
             Some((step, rest)) => {
                 line.go_to(rest);
                 step
@@ -110,26 +121,64 @@ fn steps_of_form<'a, const LOOSE: bool, A: Allocator>(
         };
         steps.push(step)?;
     }
-    Ok(steps)
 }
 
-/// The step of the line with which the text begins, and what follows its last word, or nothing where the line isn't of the form.
+/// The steps with those of the fast lines with which the text begins, as far as there is room for them, what follows these lines, and the
+/// number of the last of them. Nothing in this loop takes a call, so that what it goes on with need not be stored in memory.
+#[inline(never)]
+fn fast_steps<'a, 't, A: Allocator>(
+    count: usize,
+    text: &'t [u8],
+    steps: Vec<Step, &'a A>,
+    number: usize,
+) -> (Vec<Step, &'a A>, &'t [u8], usize)
+    requires { number + length (word_lines text.now) ≤ 65538 }
+    ensures read { (all : List (List (List ℕ))) → ReadSoFar count all steps.entry.items number (word_lines text.now) → ReadSoFar count all result.0.items result.2 (word_lines result.1.now) }
+    ensures order { number ≤ result.2 }
+{
+    let mut steps = steps;
+    let mut rest = text;
+    let mut line = number;
+    while steps.len() < steps.capacity() {
+        match fast_line(rest, count) {
+            Some((step, next)) => {
+                steps.push_reserved(step);
+                rest = next;
+            }
+            None => {
+                let Some(next) = after(rest, b'\n') else {
+                    break;
+                };
+                rest = next;
+            }
+        }
+        line += 1;
+    }
+    (steps, rest, line)
+}
+
+/// The same, or the steps as they are where the lines are loose.
 #[inline(always)]
-fn step_of_form<const LOOSE: bool>(text: &[u8], count: usize) -> Option<(Step, &[u8])>
-    ensures step { IfSome result (λ p. NamesStep count text.now p.0 p.1.now) }
-    ensures within { IfSome result (λ p. StepWithin count p.0) }
+fn steps_at_once<'a, 't, const LOOSE: bool, A: Allocator>(
+    count: usize,
+    text: &'t [u8],
+    steps: Vec<Step, &'a A>,
+    number: usize,
+) -> (Vec<Step, &'a A>, &'t [u8], usize)
+    requires { number + length (word_lines text.now) ≤ 65538 }
+    ensures read { (all : List (List (List ℕ))) → ReadSoFar count all steps.entry.items number (word_lines text.now) → ReadSoFar count all result.0.items result.2 (word_lines result.1.now) }
+    ensures order { number ≤ result.2 }
 {
     if LOOSE {
-        loose_step(text, count)
+        (steps, text, number)
     } else {
-        fast_step(text, count)
+        fast_steps::<A>(count, text, steps, number)
     }
 }
 
-/// Whether the lines after the first of the text are loose, as the count of the registers and the first of these lines tell. A wrong
-/// guess costs time alone.
+/// Whether the lines after the first of the text are loose, as the first of these lines tells. A wrong guess costs time alone.
 #[inline(never)]
 fn is_loose(text: &[u8], count: usize) -> bool {
     let first = after_line(text);
-    count > 10 || !begins_with_lf(first) && fast_step(first, count).is_none()
+    !begins_with_lf(first) && fast_line(first, count).is_none()
 }
