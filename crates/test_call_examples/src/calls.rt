@@ -316,11 +316,6 @@ fn many_values(rt: HostRuntime) {
     );
     same(
         &rt,
-        [u7::new(4), u7::new(24)].iter().copied().product::<u7>(),
-        u7::new(96),
-    );
-    same(
-        &rt,
         try_sum([i7::new(63), i7::new(1), i7::new(-1)].iter().copied()),
         None,
     );
