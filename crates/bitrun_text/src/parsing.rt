@@ -124,7 +124,7 @@ fn steps_of_form<'a, const LOOSE: bool, A: Allocator>(
 }
 
 /// The steps with those of the fast lines with which the text begins, as far as there is room for them, what follows these lines, and the
-/// number of the last of them. Nothing in this loop takes a call, so that what it goes on with need not be stored in memory.
+/// number of the last of them. Nothing that reads a line here takes a call, so that what goes on need not be stored in memory.
 #[inline(never)]
 fn fast_steps<'a, 't, A: Allocator>(
     count: usize,
@@ -144,15 +144,17 @@ fn fast_steps<'a, 't, A: Allocator>(
             Some((step, next)) => {
                 steps.push_reserved(step);
                 rest = next;
+                line += 1;
             }
             None => {
-                let Some(next) = after(rest, b'\n') else {
+                let (next, last) = after_empty_lines(rest, line);
+                if last == line {
                     break;
-                };
+                }
                 rest = next;
+                line = last;
             }
         }
-        line += 1;
     }
     (steps, rest, line)
 }
@@ -174,6 +176,24 @@ fn steps_at_once<'a, 't, const LOOSE: bool, A: Allocator>(
     } else {
         fast_steps::<A>(count, text, steps, number)
     }
+}
+
+/// What follows the lines with which the text begins that have an LF alone, and the number of the last of them. In line, this loop would
+/// take processor registers from that of the fast lines.
+#[inline(never)]
+fn after_empty_lines(text: &[u8], number: usize) -> (&[u8], usize)
+    requires { number + length (word_lines text.now) ≤ 65538 }
+    ensures read { (count : ℕ) → (all : List (List (List ℕ))) → (steps : List Step) → ReadSoFar count all steps number (word_lines text.now) → ReadSoFar count all steps result.1 (word_lines result.0.now) }
+    ensures counted { result.1 + length (word_lines result.0.now) ≡ number + length (word_lines text.now) }
+    ensures order { number ≤ result.1 }
+{
+    let mut rest = text;
+    let mut line = number;
+    while let Some(next) = after(rest, b'\n') {
+        rest = next;
+        line += 1;
+    }
+    (rest, line)
 }
 
 /// Whether the lines after the first of the text are loose, as the first of these lines tells. A wrong guess costs time alone.
