@@ -109,11 +109,10 @@ fn fast_register(text: &[u8], at: usize, count: usize, blank: u8) -> Option<(usi
 {
     let (number, end) = few_digits(text, at, blank)?;
     let number = number as usize;
-    if number < count {
-        Some((number, end))
-    } else {
-        None
+    if number >= count {
+        return None;
     }
+    Some((number, end))
 }
 
 /// The number at the place of one of so many registers, if it has one to three digits and the line ends right after it, and the place
@@ -160,7 +159,7 @@ fn after_line_end(text: &[u8], at: usize) -> Option<usize>
     if text[at] == b'\n' {
         return Some(at + 1);
     }
-    if text[at] == b'\r' && text[at + 1] == b'\n' {
+    if text[at + 1] == b'\n' && text[at] == b'\r' {
         return Some(at + 2);
     }
     None

@@ -62,31 +62,15 @@ pub fn steps<'a, A: Allocator>(
     ensures within { IfOk result (λ steps. All (StepWithin count) steps.items) }
     ensures fault { IfErr result (StepsFault count lines.old.later) }
 {
-    if is_loose(lines.text(), count) {
-        steps_of_form::<true, A>(alloc, count, lines)
-    } else {
-        steps_of_form::<false, A>(alloc, count, lines)
-    }
-}
-
-/// The same by a loop for loose lines, or by one that reads as many fast lines as stand next to each other at once.
-fn steps_of_form<'a, const LOOSE: bool, A: Allocator>(
-    alloc: &'a A,
-    count: usize,
-    lines: &mut Cursor,
-) -> Result<Vec<Step, &'a A>, Fault>
-    requires { length lines.old.later ≤ 65536 }
-    ensures found { IfOk result (λ steps. AllZip (IsStep count) (filter has_items lines.old.later) steps.items) }
-    ensures within { IfOk result (λ steps. All (StepWithin count) steps.items) }
-    ensures fault { IfErr result (StepsFault count lines.old.later) }
-{
+    let loose = is_loose(lines.text(), count);
     // A cursor of its own, so that the place need not be stored in memory: no call takes a reference to it.
     let mut line = lines.copy();
     // A line of a step has 11 bytes or so: room for most of them, and not too much for other lines.
     let mut steps = Vec::with_capacity(alloc, line.text().len() / 16)?;
     let mut number = 2;
     loop {
-        let (read, rest, last) = steps_at_once::<LOOSE, A>(
+        let (read, rest, last) = steps_at_once(
+            loose,
             count,
             after_line(line.text()),
             steps,
@@ -94,10 +78,10 @@ fn steps_of_form<'a, const LOOSE: bool, A: Allocator>(
         );
         steps = read;
         number = last;
-        let Some(next) = Cursor::new(rest) else {
+        if rest.is_empty() {
             return Ok(steps);
-        };
-        line = next;
+        }
+        line.go_to(rest);
         number += 1;
         if line.is_at_lf() {
             continue;
@@ -161,7 +145,8 @@ fn fast_steps<'a, 't, A: Allocator>(
 
 /// The same, or the steps as they are where the lines are loose.
 #[inline(always)]
-fn steps_at_once<'a, 't, const LOOSE: bool, A: Allocator>(
+fn steps_at_once<'a, 't, A: Allocator>(
+    loose: bool,
     count: usize,
     text: &'t [u8],
     steps: Vec<Step, &'a A>,
@@ -171,7 +156,7 @@ fn steps_at_once<'a, 't, const LOOSE: bool, A: Allocator>(
     ensures read { (all : List (List (List ℕ))) → ReadSoFar count all steps.entry.items number (word_lines text.now) → ReadSoFar count all result.0.items result.2 (word_lines result.1.now) }
     ensures order { number ≤ result.2 }
 {
-    if LOOSE {
+    if loose {
         (steps, text, number)
     } else {
         fast_steps::<A>(count, text, steps, number)

@@ -9,8 +9,8 @@ returns-then-text-at-eq10-clause-line c =
     let at = c.args.at in
     lf_ends (drop at text) (drop (at + 1) text) (rw c.if-text-at-eq10.true at (drop_more text at 0 (omega (arith, c.requires))))
 
-pub returns-then-text-at-eq10-2-clause-line : goal.returns-then-text-at-eq10-2-clause-line
-returns-then-text-at-eq10-2-clause-line c =
+pub returns-then-text-at-eq13-clause-line : goal.returns-then-text-at-eq13-clause-line
+returns-then-text-at-eq13-clause-line c =
     let text = c.args.text.now in
     let at = c.args.at in
     let two : at + 1 + 1 ≡ at + 2 = omega arith in

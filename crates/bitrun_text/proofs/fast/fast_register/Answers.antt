@@ -4,15 +4,15 @@ use Rattle.bitrun_text.proofs.Operands.{digits-later, digits-taken}
 use Rattle.bitrun_text.proofs.FastLines.{blank_ends}
 use Rattle.bitrun_text.proofs.fast.fast_register.Goals as goal
 
-pub returns-then-number-count-clause-number : goal.returns-then-number-count-clause-number
-returns-then-number-count-clause-number c =
+pub returns-clause-number : goal.returns-clause-number
+returns-clause-number c =
     let few = c.in_ok-number in
     let rest = drop few.end c.args.text.now in
     rw (← left-blank c.args.blank rest c.requires.blank)
-    (digits-taken (drop c.args.at c.args.text.now) (c.args.blank ∷ rest) few.number c.args.count few.ensures.digits (blank_ends c.args.blank rest c.requires.blank) (omega (arith, c.if-number-count.true)))
+    (digits-taken (drop c.args.at c.args.text.now) (c.args.blank ∷ rest) few.number c.args.count few.ensures.digits (blank_ends c.args.blank rest c.requires.blank) (omega (arith, c.if-number-count.false)))
 
-pub returns-then-number-count-clause-later : goal.returns-then-number-count-clause-later
-returns-then-number-count-clause-later c =
+pub returns-clause-later : goal.returns-clause-later
+returns-clause-later c =
     let few = c.in_ok-number in
     let rest = drop few.end c.args.text.now in
     rw (← left-blank c.args.blank rest c.requires.blank)
