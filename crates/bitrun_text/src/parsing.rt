@@ -69,15 +69,13 @@ pub fn steps<'a, A: Allocator>(
     let mut steps = Vec::with_capacity(alloc, line.text().len() / 16)?;
     let mut number = 2;
     loop {
-        let (read, rest, last) = steps_at_once(
+        let rest = steps_at_once(
             loose,
             count,
             after_line(line.text()),
-            steps,
-            number,
+            &mut steps,
+            &mut number,
         );
-        steps = read;
-        number = last;
         if rest.is_empty() {
             return Ok(steps);
         }
@@ -107,22 +105,21 @@ pub fn steps<'a, A: Allocator>(
     }
 }
 
-/// The steps with those of the fast lines with which the text begins, as far as there is room for them, what follows these lines, and the
-/// number of the last of them. Nothing that reads a line here takes a call, so that what goes on need not be stored in memory.
+/// Adds the steps of the fast lines with which the text begins, as far as there is room for them, and the number of these lines, and gives
+/// what follows them. Nothing that reads a line here takes a call, so that what goes on need not be stored in memory.
 #[inline(never)]
 fn fast_steps<'a, 't, A: Allocator>(
     count: usize,
     text: &'t [u8],
-    steps: Vec<Step, &'a A>,
-    number: usize,
-) -> (Vec<Step, &'a A>, &'t [u8], usize)
-    requires { number + length (word_lines text.now) ≤ 65538 }
-    ensures read { (all : List (List (List ℕ))) → ReadSoFar count all steps.entry.items number (word_lines text.now) → ReadSoFar count all result.0.items result.2 (word_lines result.1.now) }
-    ensures order { number ≤ result.2 }
+    steps: &mut Vec<Step, &'a A>,
+    number: &mut usize,
+) -> &'t [u8]
+    requires { number.old + length (word_lines text.now) ≤ 65538 }
+    ensures read { (all : List (List (List ℕ))) → ReadSoFar count all steps.old.items number.old (word_lines text.now) → ReadSoFar count all steps.new.items number.new (word_lines result.now) }
+    ensures order { number.old ≤ number.new }
 {
-    let mut steps = steps;
     let mut rest = text;
-    let mut line = number;
+    let mut line = *number;
     while steps.len() < steps.capacity() {
         match fast_line(rest, count) {
             Some((step, next)) => {
@@ -140,26 +137,27 @@ fn fast_steps<'a, 't, A: Allocator>(
             }
         }
     }
-    (steps, rest, line)
+    *number = line;
+    rest
 }
 
-/// The same, or the steps as they are where the lines are loose.
+/// The same, or nothing where the lines are loose.
 #[inline(always)]
 fn steps_at_once<'a, 't, A: Allocator>(
     loose: bool,
     count: usize,
     text: &'t [u8],
-    steps: Vec<Step, &'a A>,
-    number: usize,
-) -> (Vec<Step, &'a A>, &'t [u8], usize)
-    requires { number + length (word_lines text.now) ≤ 65538 }
-    ensures read { (all : List (List (List ℕ))) → ReadSoFar count all steps.entry.items number (word_lines text.now) → ReadSoFar count all result.0.items result.2 (word_lines result.1.now) }
-    ensures order { number ≤ result.2 }
+    steps: &mut Vec<Step, &'a A>,
+    number: &mut usize,
+) -> &'t [u8]
+    requires { number.old + length (word_lines text.now) ≤ 65538 }
+    ensures read { (all : List (List (List ℕ))) → ReadSoFar count all steps.old.items number.old (word_lines text.now) → ReadSoFar count all steps.new.items number.new (word_lines result.now) }
+    ensures order { number.old ≤ number.new }
 {
     if loose {
-        (steps, text, number)
+        text
     } else {
-        fast_steps::<A>(count, text, steps, number)
+        fast_steps(count, text, steps, number)
     }
 }
 

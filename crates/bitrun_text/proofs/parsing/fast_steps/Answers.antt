@@ -44,9 +44,3 @@ loop-rest-preserved g c =
       omega (arith, c.loop-rest.invariant.1, empty.counted),
       omega (arith, c.loop-rest.invariant.2, empty.order),
     )
-
-pub returns-clause-read : goal.returns-clause-read
-returns-clause-read g c = c.loop-rest.invariant.0
-
-pub returns-clause-order : goal.returns-clause-order
-returns-clause-order g c = c.loop-rest.invariant.2

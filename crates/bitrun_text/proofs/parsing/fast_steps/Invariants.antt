@@ -6,8 +6,8 @@ use Rattle.bitrun_text.proofs.parsing.fast_steps.Given as goal
 
 abbrev pub invariant-loop-rest : goal.invariant-loop-rest
 invariant-loop-rest g l =
-    ((all : List (List (List ℕ))) → ReadSoFar l.count all l.fn.steps.items l.number (word_lines l.text) → ReadSoFar l.count all l.steps.items l.line (word_lines l.rest))
-    × (l.line + length (word_lines l.rest) ≡ l.number + length (word_lines l.text)) × (l.number ≤ l.line)
+    ((all : List (List (List ℕ))) → ReadSoFar l.count all l.fn.steps.items l.fn.number (word_lines l.fn.text) → ReadSoFar l.count all l.steps.items l.line (word_lines l.rest))
+    × (l.line + length (word_lines l.rest) ≡ l.fn.number + length (word_lines l.fn.text)) × (l.fn.number ≤ l.line)
 
 abbrev pub decreases-loop-rest : goal.decreases-loop-rest
 decreases-loop-rest g l = length (word_lines l.rest)
