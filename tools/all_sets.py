@@ -71,7 +71,7 @@ def text():
     used = {}
     for (origin, part), name in alias.items():
         used.setdefault(origin, set()).add(part if part == name else f'{part} as {name}')
-    for file, chosen in names:
+    for file, chosen in (it.split('::') for it in sets() if not it.startswith(ALL)):
         if chosen in words:
             used.setdefault(HERE + file, set()).add(chosen)
     imports = ''.join(f'use {origin}.{{{", ".join(sorted(parts))}}}\n' for origin, parts in sorted(used.items()))

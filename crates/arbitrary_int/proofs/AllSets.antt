@@ -77,7 +77,7 @@ use Rattle.arbitrary_int.proofs.ReplacedField.{and_around, or-into_cleared, or_b
 use Rattle.arbitrary_int.proofs.RightRotations.{left_rotations-exchanged, right_rotations-exchanged, rotations-exchanged}
 use Rattle.arbitrary_int.proofs.RunsOfTwo.{ends-between, front-of_and, front-of_left, front-of_or, front-of_right, front-of_xor, front_ones-of_and, front_ones-of_or, highest-alone, highest-moved, tail-of_and, tail-of_left, tail-of_or, tail-of_right, tail-of_xor, tail_ones-of_and, tail_ones-of_or}
 use Rattle.arbitrary_int.proofs.Saturations.{clamped-difference_twice, clamped-differences_exchanged, difference-of_clamped_sum}
-use Rattle.arbitrary_int.proofs.Sets.{cleared_fields, empty_word, fields, joined_numbers, moved_in, primitive_bits, primitive_flags, ranges, read_back, replaced_fields, streams, texts, three_marked, two_marked}
+use Rattle.arbitrary_int.proofs.Sets.{cleared_fields, empty_word, primitive_bits, ranges, registers, streams, texts}
 use Rattle.arbitrary_int.proofs.ShiftPairs.{further-at_most, left_right-wraps, nearer-at_least}
 use Rattle.arbitrary_int.proofs.SideBySide.{below_numeral, numeral_next, or_five, or_four, or_next, or_six, or_three_up}
 use Rattle.arbitrary_int.proofs.SignWord.{and-by_sign, or-by_sign, sign-spread, xor-by_sign}
@@ -101,4 +101,4 @@ pub ruleset all_sets = (or_three, or_four, or_five, or_six, or_three_up, joined-
 pub ruleset laws = (Decides-int_eq, bitwise_and-commutes, bitwise_and-associates, bitwise_and-same, bitwise_and-zero, bitwise_and-highest, bitwise_and-minus_one, bitwise_and-not_zero, bitwise_and-complement, bitwise_or-commutes, bitwise_or-associates, bitwise_or-same, bitwise_or-zero, bitwise_or-highest, bitwise_or-minus_one, bitwise_or-not_zero, bitwise_or-complement, bitwise_xor-commutes, bitwise_xor-associates, bitwise_xor-same, bitwise_xor-zero, bitwise_xor-highest, bitwise_xor-minus_one, bitwise_xor-not_zero, bitwise_xor-undoes, bitwise_xor-equal, bitwise_not-twice, bitwise_not-zero, bitwise_not-zero_signed, and-absorbs, or-absorbs, not-and_parts, not-or_parts, not-xor_left, and-compared, or-compared, xor-compared, not-compared, compared-and, compared-or, compared-xor, compared-not, bit-and, bit-or, bit-xor, bit-not, bit-zero, bit-highest, bit-minus_one, and_not-none, or-unchanged, or-equal_xor, xor-equal_or, xor-unchanged, xor-none, or-none, and-minus_one, and-highest, shifted_left-none, shifted_left-zero, shifted_left-twice, shifted_left-past, shifted_left-sum, shifted_left-difference, shifted_left-and, shifted_left-or, shifted_left-xor, sum-twice, shifted_right-none, shifted_right-zero, shifted_right-twice, shifted_right-and, shifted_right-or, shifted_right-xor, right_left-mask, right_left-mask_signed, right_left-mask_not, left_right-mask, left_right-mask_not, shifted_right-not, right_left-numeral, right_left-numeral_signed, left_right-numeral, left_right-wraps, wrap-of_in_range, rotated_left-none, rotated_left-twice, rotated_left-round, rotated_left-zero, rotated_left-highest, rotated_left-minus_one, rotated_left-not_zero, rotated_left-and, rotated_left-or, rotated_left-xor, rotated_left-not, rotated_right-none, rotated_right-as_left, right-undoes_left, left-undoes_right, reversed-zero, reversed-highest, reversed-minus_one, reversed-not_zero, reversed-and, reversed-or, reversed-xor, reversed-not, reversed-twice, reversed-rotated_left, reversed-rotated_right, reversed-shifted_left, reversed-shifted_right, reversed-one, reversed-one_bit, wrapped_sum-commutes, wrapped_sum-associates, wrapped_sum-zero, wrapped_difference-self, wrapped_difference-zero, difference-of_sum, difference-of_sum_left, sum-of_difference, sum-to_difference, difference-to_difference, difference-twice, difference-turned, negated-twice, negated-sum, sum-of_difference_right, difference-of_difference_right, difference-of_sums, wrapped_product-commutes, wrapped_product-associates, wrapped_product-zero, wrapped_product-one, wrapped_product-two, products-of_sums, products-of_differences, product-of_sum, product-of_difference, product-of_negated, product-of_negated_both, shifted_left-is_product, difference-of_squares, wrapped_product-highest, negated-is_difference, or-of_parts, sum-of_parts, choice-is_xor, and-or_of_not, or-and_of_not, majority-is_xor, not-of_before, sum-with_not, difference-of_or, difference-of_and, negated-not, not-of_sum, not-of_difference, difference-of_nots, sum-of_or_and, sum-of_disjoint, sum-of_xor_and, difference-of_or_and, sum-with_carry, sum-less_xor, sum-less_or, sum-less_and, difference-of_parts, difference-with_borrow, difference-less_xor, or-less_xor, sum-with_highest, difference-with_highest, le-tested, lt-tested, ge-tested, gt-tested, or-above, and-below_or, xor-below_or, or-below_sum, or-below_clamped, difference-below_xor, shifted_right-keeps_order, and-negative, or-negative, xor-negative, further-at_most, nearer-at_least, sums-equal, differences-equal, differences_from-equal, xors-equal, nots-equal, reversals-equal, left_rotations-equal, right_rotations-equal, popcount-of_zero, popcount-of_highest, popcount-of_minus_one, popcount-of_not, popcount-of_reversed, popcount-of_left, popcount-of_right, zero-of_no_ones, no_ones-of_zero, front-of_zero, front-of_not_zero, front-of_highest, front_ones-of_not, front_zeros-of_not, tail-of_zero, tail-of_not_zero, tail-of_highest, tail_ones-of_not, tail_zeros-of_not, tail-of_reversed, front-of_reversed, popcount-of_and, popcount-of_and_or, popcount-of_or, power-zero, power-one, power-twice, quotient-self, to_u128_bits-back, clamp-fits, power-of_one, power-of_zero, rotated_right-twice, rotated_right-round, rotated_right-zero, rotated_right-highest, rotated_right-minus_one, rotated_right-not_zero, rotated_right-and, rotated_right-or, rotated_right-xor, rotated_right-not, right_rotations-exchanged, left_rotations-exchanged, rotations-exchanged, shifted_left-negated, shifted_left-exchanged, shifted_right-exchanged, product-of_shifted, product-shifted, wrap-wide, and-truncated, or-truncated, xor-truncated, not-truncated, sum-truncated, difference-truncated, product-truncated, left-truncated, left_rotation-converted, right_rotation-converted, reversal-converted, and-at_128, or-at_128, xor-at_128, shifted_right-is_shr, primitive_and, primitive_or, primitive_xor, low-of_sum, low-of_difference, low-of_product, or-less_and, either-alone, without-shared, xor-and_shared, alone-added, alone-summed, not-added, not-taken, negated-added, negated-less_one, not-and_one, next-negated, shifts-joined, shifts-under_xor, shifts-added, and-positive, or-positive, xor-positive, or-of_positive_parts, xor-of_positive_parts, and-of_positive_or)
 
 -- those on words of fields, streams, texts and conversions: on these it proves more than all of them do, and in less time
-pub ruleset words = (fields, read_back, joined_numbers, two_marked, three_marked, moved_in, replaced_fields, cleared_fields, primitive_bits, primitive_flags, streams, texts, ranges, empty_word, known_masks, conversions, congruences, everyday)
+pub ruleset words = (registers, xor_flags, cleared_fields, primitive_bits, streams, texts, ranges, empty_word, known_masks, conversions, congruences, everyday)

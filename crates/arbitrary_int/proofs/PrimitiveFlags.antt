@@ -4,6 +4,7 @@ use Rattle.std.specs.Int.Bits.{bit_and, bit_or, bit_xor, or_add_and, xor_add_and
 use Rattle.std.proofs.Common.{ap, ◌∙◌, arith}
 use Rattle.std.proofs.lemmas.Grind.{bit_length, low_zeros}
 use Rattle.std.proofs.lemmas.Nat.Bits.{and_high}
+use Rattle.arbitrary_int.proofs.JoinedWords.{lowest}
 
 -- the ones of the mask stand side by side; one flag alone is such a mask
 pub and_beside : (w m : ℕ) → low_zeros 128 (suc m) ≤ bit_length 128 (suc m) → suc m + 2 ^ low_zeros 128 (suc m) ≡ 2 ^ bit_length 128 (suc m)
@@ -15,8 +16,10 @@ and_beside w m l e =
     let run : suc m ≡ 2 ^ (j + k) - 2 ^ k = (let r : suc m ≡ 2 ^ bit_length 128 (suc m) - 2 ^ k = omega arith in r) ∙ ap (λ (i : ℕ). 2 ^ i - 2 ^ k) top in
     ap (bit_and w) run ∙ and_high w j k
 
-pub or_flags : (w m : ℕ) → bit_or w (suc m) + bit_and w (suc m) ≡ w + suc m
-or_flags w m = or_add_and w (suc m)
+-- The premise holds of each mask that is written out, and ends the attempt at a number that isn't: there the search would take it apart to find
+-- a `suc m`, and come to its limit in words of several fields.
+pub or_flags : (w m : ℕ) → 2 ^ 128 % lowest m ≡ 0 → bit_or w (suc m) + bit_and w (suc m) ≡ w + suc m
+or_flags w m e = or_add_and w (suc m)
 
-pub xor_flags : (w m : ℕ) → bit_xor w (suc m) + bit_and w (suc m) * 2 ≡ w + suc m
-xor_flags w m = xor_add_and w (suc m)
+pub xor_flags : (w m : ℕ) → 2 ^ 128 % lowest m ≡ 0 → bit_xor w (suc m) + bit_and w (suc m) * 2 ≡ w + suc m
+xor_flags w m e = xor_add_and w (suc m)
