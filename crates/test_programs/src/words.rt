@@ -2,7 +2,7 @@
 //! None has a proof of its own: the file names the sets on words as one.
 #![tactic(auto, using(arbitrary_int::proofs::AllSets::words))]
 
-ghost use Rattle.std.specs.Prelude.{◌≡◌, ◌*◌, ◌+◌, ◌+ℤ◌, ◌*ℤ◌, pos};
+ghost use Rattle.std.specs.Prelude.{◌≡◌, ◌*◌, ◌/◌, ◌%◌, ◌+◌, ◌+ℤ◌, ◌*ℤ◌, pos, unsigned_abs, if◌then◌else◌, IsTrue};
 
 use arbitrary_int::prelude::*;
 
@@ -39,4 +39,70 @@ pub fn four_bytes(a: u8, b: u8, c: u8, d: u8) -> u32
     ensures { result ≡ a * 16777216 + b * 65536 + c * 256 + d }
 {
     u32::from(a) << 24 | u32::from(b) << 16 | u32::from(c) << 8 | u32::from(d)
+}
+
+// ---- fields that `From` converts, at each storage
+
+pub fn date(year: u7, month: u4, day: u5) -> u16
+    ensures { pos result ≡ year *ℤ pos 512 +ℤ month *ℤ pos 32 +ℤ day }
+{
+    (u16::from(year) << 9) | (u16::from(month) << 5) | u16::from(day)
+}
+
+pub fn mode_byte(mode: u2, register: u3, memory: u3) -> u8
+    ensures { pos result ≡ mode *ℤ pos 64 +ℤ register *ℤ pos 8 +ℤ memory }
+{
+    u8::from(mode) << 6 | u8::from(register) << 3 | u8::from(memory)
+}
+
+pub fn single_precision(sign: u1, exponent: u8, mantissa: u23) -> u32
+    ensures { pos result ≡ sign *ℤ pos 2147483648 +ℤ pos (exponent * 8388608) +ℤ mantissa }
+{
+    (u32::from(sign) << 31) | (u32::from(exponent) << 23) | mantissa.value()
+}
+
+pub fn double_precision(sign: u1, exponent: u11, mantissa: u52) -> u64
+    ensures { pos result ≡ sign *ℤ pos 9223372036854775808 +ℤ exponent *ℤ pos 4503599627370496 +ℤ mantissa }
+{
+    (u64::from(sign) << 63) | (u64::from(exponent) << 52) | mantissa.value()
+}
+
+pub fn three_of_many(a: u41, b: u40, c: u40) -> u128
+    ensures { pos result ≡ a *ℤ pos 1208925819614629174706176 +ℤ b *ℤ pos 1099511627776 +ℤ c }
+{
+    (u128::from(a) << 80) | (u128::from(b) << 40) | u128::from(c)
+}
+
+pub fn tag(priority: u3, eligible: bool, network: u12) -> u16
+    ensures { pos result ≡ priority *ℤ pos 8192 +ℤ pos (if eligible then 4096 else 0) +ℤ network }
+{
+    u16::from(priority) << 13 | u16::from(eligible) << 12 | network.value()
+}
+
+pub fn pressure(high: u8, middle: u8, low: u8) -> u20
+    ensures { result ≡ pos (high * 4096 + middle * 16 + low / 16) }
+{
+    u20::new((u32::from(high) << 12) | (u32::from(middle) << 4) | (u32::from(low) >> 4))
+}
+
+// ---- below a number that is written out, and read back
+
+pub fn load_immediate(register: u4, byte: u8) -> u16
+    ensures { pos result ≡ pos 57344 +ℤ pos (byte / 16 * 256) +ℤ register *ℤ pos 16 +ℤ pos (byte % 16) }
+{
+    0xE000 | (u16::from(byte >> 4) << 8) | (u16::from(register) << 4) | u16::from(byte & 0x0F)
+}
+
+pub fn load_back(register: u4, byte: u8) -> bool
+    ensures { IsTrue result }
+{
+    let word = 0x6000 | (u16::from(register) << 8) | u16::from(byte);
+    u4::extract_u16(word, 8) == register && (word & 0xFF) as u8 == byte
+}
+
+pub fn with_green(word: u16, green: u6) -> u16
+    ensures green { result / 32 % 64 ≡ unsigned_abs green }
+    ensures blue { result % 32 ≡ word % 32 }
+{
+    (word & !0x07E0) | (u16::from(green) << 5)
 }
