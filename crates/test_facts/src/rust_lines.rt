@@ -1,6 +1,6 @@
 //! Lines that a user of the Rust crate has: its constants, its conversions, and a type of one's own.
 
-ghost use Rattle.std.specs.Prelude.{◌≡◌, ◌≢◌, ◌<◌, ◌≤◌, ◌+ℤ◌, ◌-ℤ◌, ◌≤ℤ◌, ◌<ℤ◌, pos, neg_ℤ, true, IsTrue};
+ghost use Rattle.std.specs.Prelude.{◌≡◌, ◌≢◌, ◌<◌, ◌≤◌, ◌+ℤ◌, ◌-ℤ◌, ◌*ℤ◌, ◌≤ℤ◌, ◌<ℤ◌, pos, neg_ℤ, true, IsTrue};
 ghost use Rattle.arbitrary_int.specs.Range.{lo, hi};
 
 use arbitrary_int::prelude::*;
@@ -170,4 +170,41 @@ pub fn version(header: Header) -> u8
     ensures { pos result ≡ header.version }
 {
     header.version.into()
+}
+
+// Behind a reference: that a number is in range is told by its conversion.
+
+pub struct Reading {
+    pub degrees: i14,
+    pub level: u7,
+}
+
+pub fn hundredths(reading: &Reading) -> i32
+    ensures { result ≡ reading.now.degrees *ℤ pos 25 }
+{
+    i32::from(reading.degrees) * 25
+}
+
+pub fn quarters(reading: &Reading) -> u32
+    ensures { pos result ≡ reading.now.level *ℤ pos 25 }
+{
+    u32::from(reading.level) * 25
+}
+
+pub fn two_levels(first: &u7, second: &u7) -> u16
+    ensures { pos result ≡ first.now *ℤ pos 128 +ℤ second.now }
+{
+    (u16::from(*first) << 7) | u16::from(*second)
+}
+
+pub fn next_level(reading: &Reading) -> u14
+    ensures { result ≡ reading.now.level +ℤ pos 1 }
+{
+    u14::from(reading.level) + u14::new(1)
+}
+
+pub fn next_degree(reading: &Reading) -> i17
+    ensures { result ≡ reading.now.degrees +ℤ pos 1 }
+{
+    i17::from(reading.degrees) + i17::new(1)
 }

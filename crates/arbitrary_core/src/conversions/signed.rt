@@ -2,7 +2,7 @@
 //! file has the same of `UInt`, so change both. Where a number may be out of range, `from_` has a condition, and `try_new`
 //! is the test.
 
-ghost use Rattle.std.specs.Prelude.{◌≡◌};
+ghost use Rattle.std.specs.Prelude.{◌≡◌, true};
 ghost use Rattle.arbitrary_base.specs.Range.{InRange};
 
 use crate::signed::Int;
@@ -16,7 +16,8 @@ fn stored<S: BuiltinInteger + SignedStorage, T: SignedStorage + HasWidth<BITS>, 
 ) -> T
 where
     S::Unsigned: UnsignedOf<S>,
-    ensures { T.number result ≡ value }
+    ensures value { T.number result ≡ value }
+    ensures range { InRange true BITS value }
 {
     cast(value.value(), T::WIDTH)
 }
@@ -45,7 +46,8 @@ fn widened<
 where
     S::Unsigned: UnsignedOf<S>,
     T::Unsigned: UnsignedOf<T>,
-    ensures { result ≡ value }
+    ensures value { result ≡ value }
+    ensures range { InRange true FROM value }
 {
     Int::<T, BITS>::new(cast(value.value(), BITS))
 }
@@ -57,7 +59,10 @@ where
 {
     ghost from_gives = { λ x r. r ≡ x };
 
-    fn from(value: Int<T, BITS>) -> i8 {
+    fn from(value: Int<T, BITS>) -> i8
+        ensures value { result ≡ value }
+        ensures range { InRange true BITS value }
+    {
         stored(value)
     }
 }
@@ -69,7 +74,10 @@ where
 {
     ghost from_gives = { λ x r. r ≡ x };
 
-    fn from(value: Int<T, BITS>) -> i16 {
+    fn from(value: Int<T, BITS>) -> i16
+        ensures value { result ≡ value }
+        ensures range { InRange true BITS value }
+    {
         stored(value)
     }
 }
@@ -81,7 +89,10 @@ where
 {
     ghost from_gives = { λ x r. r ≡ x };
 
-    fn from(value: Int<T, BITS>) -> i32 {
+    fn from(value: Int<T, BITS>) -> i32
+        ensures value { result ≡ value }
+        ensures range { InRange true BITS value }
+    {
         stored(value)
     }
 }
@@ -93,7 +104,10 @@ where
 {
     ghost from_gives = { λ x r. r ≡ x };
 
-    fn from(value: Int<T, BITS>) -> i64 {
+    fn from(value: Int<T, BITS>) -> i64
+        ensures value { result ≡ value }
+        ensures range { InRange true BITS value }
+    {
         stored(value)
     }
 }
@@ -105,7 +119,10 @@ where
 {
     ghost from_gives = { λ x r. r ≡ x };
 
-    fn from(value: Int<T, BITS>) -> i128 {
+    fn from(value: Int<T, BITS>) -> i128
+        ensures value { result ≡ value }
+        ensures range { InRange true BITS value }
+    {
         stored(value)
     }
 }
@@ -187,7 +204,10 @@ where
 {
     ghost from_gives = { λ x r. r ≡ x };
 
-    fn from(value: Int<i8, FROM>) -> Int<i16, BITS> {
+    fn from(value: Int<i8, FROM>) -> Int<i16, BITS>
+        ensures value { result ≡ value.entry }
+        ensures range { InRange true FROM value.entry }
+    {
         widened(value)
     }
 }
@@ -199,7 +219,10 @@ where
 {
     ghost from_gives = { λ x r. r ≡ x };
 
-    fn from(value: Int<i8, FROM>) -> Int<i32, BITS> {
+    fn from(value: Int<i8, FROM>) -> Int<i32, BITS>
+        ensures value { result ≡ value.entry }
+        ensures range { InRange true FROM value.entry }
+    {
         widened(value)
     }
 }
@@ -211,7 +234,10 @@ where
 {
     ghost from_gives = { λ x r. r ≡ x };
 
-    fn from(value: Int<i16, FROM>) -> Int<i32, BITS> {
+    fn from(value: Int<i16, FROM>) -> Int<i32, BITS>
+        ensures value { result ≡ value.entry }
+        ensures range { InRange true FROM value.entry }
+    {
         widened(value)
     }
 }
@@ -223,7 +249,10 @@ where
 {
     ghost from_gives = { λ x r. r ≡ x };
 
-    fn from(value: Int<i8, FROM>) -> Int<i64, BITS> {
+    fn from(value: Int<i8, FROM>) -> Int<i64, BITS>
+        ensures value { result ≡ value.entry }
+        ensures range { InRange true FROM value.entry }
+    {
         widened(value)
     }
 }
@@ -235,7 +264,10 @@ where
 {
     ghost from_gives = { λ x r. r ≡ x };
 
-    fn from(value: Int<i16, FROM>) -> Int<i64, BITS> {
+    fn from(value: Int<i16, FROM>) -> Int<i64, BITS>
+        ensures value { result ≡ value.entry }
+        ensures range { InRange true FROM value.entry }
+    {
         widened(value)
     }
 }
@@ -247,7 +279,10 @@ where
 {
     ghost from_gives = { λ x r. r ≡ x };
 
-    fn from(value: Int<i32, FROM>) -> Int<i64, BITS> {
+    fn from(value: Int<i32, FROM>) -> Int<i64, BITS>
+        ensures value { result ≡ value.entry }
+        ensures range { InRange true FROM value.entry }
+    {
         widened(value)
     }
 }
@@ -259,7 +294,10 @@ where
 {
     ghost from_gives = { λ x r. r ≡ x };
 
-    fn from(value: Int<i8, FROM>) -> Int<i128, BITS> {
+    fn from(value: Int<i8, FROM>) -> Int<i128, BITS>
+        ensures value { result ≡ value.entry }
+        ensures range { InRange true FROM value.entry }
+    {
         widened(value)
     }
 }
@@ -271,7 +309,10 @@ where
 {
     ghost from_gives = { λ x r. r ≡ x };
 
-    fn from(value: Int<i16, FROM>) -> Int<i128, BITS> {
+    fn from(value: Int<i16, FROM>) -> Int<i128, BITS>
+        ensures value { result ≡ value.entry }
+        ensures range { InRange true FROM value.entry }
+    {
         widened(value)
     }
 }
@@ -283,7 +324,10 @@ where
 {
     ghost from_gives = { λ x r. r ≡ x };
 
-    fn from(value: Int<i32, FROM>) -> Int<i128, BITS> {
+    fn from(value: Int<i32, FROM>) -> Int<i128, BITS>
+        ensures value { result ≡ value.entry }
+        ensures range { InRange true FROM value.entry }
+    {
         widened(value)
     }
 }
@@ -295,7 +339,10 @@ where
 {
     ghost from_gives = { λ x r. r ≡ x };
 
-    fn from(value: Int<i64, FROM>) -> Int<i128, BITS> {
+    fn from(value: Int<i64, FROM>) -> Int<i128, BITS>
+        ensures value { result ≡ value.entry }
+        ensures range { InRange true FROM value.entry }
+    {
         widened(value)
     }
 }

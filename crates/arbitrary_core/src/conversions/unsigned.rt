@@ -2,7 +2,7 @@
 //! file has the same of `Int`, so change both. Where a number may be out of range, `from_` has a condition, and `try_new`
 //! is the test.
 
-ghost use Rattle.std.specs.Prelude.{◌≡◌, pos};
+ghost use Rattle.std.specs.Prelude.{◌≡◌, pos, false};
 ghost use Rattle.arbitrary_base.specs.Range.{InRange};
 
 use crate::unsigned::UInt;
@@ -14,7 +14,8 @@ use arbitrary_base::truncation::cast;
 fn stored<S: UnsignedStorage, T: UnsignedStorage + HasWidth<BITS>, const BITS: usize>(
     value: UInt<S, BITS>,
 ) -> T
-    ensures { T.number result ≡ value }
+    ensures value { T.number result ≡ value }
+    ensures range { InRange false BITS value }
 {
     cast(value.value(), T::WIDTH)
 }
@@ -38,7 +39,8 @@ fn widened<
     const FROM: usize,
     const BITS: usize,
 >(value: UInt<S, FROM>) -> UInt<T, BITS>
-    ensures { result ≡ value }
+    ensures value { result ≡ value }
+    ensures range { InRange false FROM value }
 {
     UInt::<T, BITS>::new(cast(value.value(), BITS))
 }
@@ -49,7 +51,10 @@ where
 {
     ghost from_gives = { λ x r. pos r ≡ x };
 
-    fn from(value: UInt<T, BITS>) -> u8 {
+    fn from(value: UInt<T, BITS>) -> u8
+        ensures value { pos result ≡ value }
+        ensures range { InRange false BITS value }
+    {
         stored(value)
     }
 }
@@ -60,7 +65,10 @@ where
 {
     ghost from_gives = { λ x r. pos r ≡ x };
 
-    fn from(value: UInt<T, BITS>) -> u16 {
+    fn from(value: UInt<T, BITS>) -> u16
+        ensures value { pos result ≡ value }
+        ensures range { InRange false BITS value }
+    {
         stored(value)
     }
 }
@@ -71,7 +79,10 @@ where
 {
     ghost from_gives = { λ x r. pos r ≡ x };
 
-    fn from(value: UInt<T, BITS>) -> u32 {
+    fn from(value: UInt<T, BITS>) -> u32
+        ensures value { pos result ≡ value }
+        ensures range { InRange false BITS value }
+    {
         stored(value)
     }
 }
@@ -82,7 +93,10 @@ where
 {
     ghost from_gives = { λ x r. pos r ≡ x };
 
-    fn from(value: UInt<T, BITS>) -> u64 {
+    fn from(value: UInt<T, BITS>) -> u64
+        ensures value { pos result ≡ value }
+        ensures range { InRange false BITS value }
+    {
         stored(value)
     }
 }
@@ -93,7 +107,10 @@ where
 {
     ghost from_gives = { λ x r. pos r ≡ x };
 
-    fn from(value: UInt<T, BITS>) -> u128 {
+    fn from(value: UInt<T, BITS>) -> u128
+        ensures value { pos result ≡ value }
+        ensures range { InRange false BITS value }
+    {
         stored(value)
     }
 }
@@ -165,7 +182,10 @@ where
 {
     ghost from_gives = { λ x r. r ≡ x };
 
-    fn from(value: UInt<u8, FROM>) -> UInt<u16, BITS> {
+    fn from(value: UInt<u8, FROM>) -> UInt<u16, BITS>
+        ensures value { result ≡ value.entry }
+        ensures range { InRange false FROM value.entry }
+    {
         widened(value)
     }
 }
@@ -177,7 +197,10 @@ where
 {
     ghost from_gives = { λ x r. r ≡ x };
 
-    fn from(value: UInt<u8, FROM>) -> UInt<u32, BITS> {
+    fn from(value: UInt<u8, FROM>) -> UInt<u32, BITS>
+        ensures value { result ≡ value.entry }
+        ensures range { InRange false FROM value.entry }
+    {
         widened(value)
     }
 }
@@ -189,7 +212,10 @@ where
 {
     ghost from_gives = { λ x r. r ≡ x };
 
-    fn from(value: UInt<u16, FROM>) -> UInt<u32, BITS> {
+    fn from(value: UInt<u16, FROM>) -> UInt<u32, BITS>
+        ensures value { result ≡ value.entry }
+        ensures range { InRange false FROM value.entry }
+    {
         widened(value)
     }
 }
@@ -201,7 +227,10 @@ where
 {
     ghost from_gives = { λ x r. r ≡ x };
 
-    fn from(value: UInt<u8, FROM>) -> UInt<u64, BITS> {
+    fn from(value: UInt<u8, FROM>) -> UInt<u64, BITS>
+        ensures value { result ≡ value.entry }
+        ensures range { InRange false FROM value.entry }
+    {
         widened(value)
     }
 }
@@ -213,7 +242,10 @@ where
 {
     ghost from_gives = { λ x r. r ≡ x };
 
-    fn from(value: UInt<u16, FROM>) -> UInt<u64, BITS> {
+    fn from(value: UInt<u16, FROM>) -> UInt<u64, BITS>
+        ensures value { result ≡ value.entry }
+        ensures range { InRange false FROM value.entry }
+    {
         widened(value)
     }
 }
@@ -225,7 +257,10 @@ where
 {
     ghost from_gives = { λ x r. r ≡ x };
 
-    fn from(value: UInt<u32, FROM>) -> UInt<u64, BITS> {
+    fn from(value: UInt<u32, FROM>) -> UInt<u64, BITS>
+        ensures value { result ≡ value.entry }
+        ensures range { InRange false FROM value.entry }
+    {
         widened(value)
     }
 }
@@ -237,7 +272,10 @@ where
 {
     ghost from_gives = { λ x r. r ≡ x };
 
-    fn from(value: UInt<u8, FROM>) -> UInt<u128, BITS> {
+    fn from(value: UInt<u8, FROM>) -> UInt<u128, BITS>
+        ensures value { result ≡ value.entry }
+        ensures range { InRange false FROM value.entry }
+    {
         widened(value)
     }
 }
@@ -249,7 +287,10 @@ where
 {
     ghost from_gives = { λ x r. r ≡ x };
 
-    fn from(value: UInt<u16, FROM>) -> UInt<u128, BITS> {
+    fn from(value: UInt<u16, FROM>) -> UInt<u128, BITS>
+        ensures value { result ≡ value.entry }
+        ensures range { InRange false FROM value.entry }
+    {
         widened(value)
     }
 }
@@ -261,7 +302,10 @@ where
 {
     ghost from_gives = { λ x r. r ≡ x };
 
-    fn from(value: UInt<u32, FROM>) -> UInt<u128, BITS> {
+    fn from(value: UInt<u32, FROM>) -> UInt<u128, BITS>
+        ensures value { result ≡ value.entry }
+        ensures range { InRange false FROM value.entry }
+    {
         widened(value)
     }
 }
@@ -273,7 +317,10 @@ where
 {
     ghost from_gives = { λ x r. r ≡ x };
 
-    fn from(value: UInt<u64, FROM>) -> UInt<u128, BITS> {
+    fn from(value: UInt<u64, FROM>) -> UInt<u128, BITS>
+        ensures value { result ≡ value.entry }
+        ensures range { InRange false FROM value.entry }
+    {
         widened(value)
     }
 }

@@ -2,8 +2,8 @@ use Rattle.std.proofs.Common.{le_trans, sym, ◌∙◌}
 use Rattle.arbitrary_core.proofs.Widening.{kept}
 use Rattle.arbitrary_core.proofs.conversions.signed.widened.Goals as goal
 
-pub returns : goal.returns
-returns g c =
+pub returns-clause-value : goal.returns-clause-value
+returns-clause-value g c =
     let one_sign = g.met.S.SignedStorage.signed_law ∙ sym g.met.T.SignedStorage.signed_law in
     let width = c.value.ensures.width in
     let room = le_trans (width.1) g.met.S.FitsIn.fits_law in
