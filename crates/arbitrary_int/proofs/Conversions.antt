@@ -3,6 +3,7 @@
 -- Beside it stand the sets of Everyday.antt, on words of clauses, and of BitVector.antt, on bits.
 use Rattle.std.specs.Prelude.{◌≡◌, ℕ, ℤ, zero, suc, Bool, false, pos, negsuc, unsigned_abs, ◌+ℤ◌, ◌-ℤ◌, ◌*ℤ◌, ◌+◌, ◌*◌, ◌/◌, ◌%◌, ◌^◌, ◌≤◌}
 use Rattle.std.proofs.Common.{arith, refl, ap, sym, subst, ◌∙◌, div-add-mod'}
+use Rattle.std.proofs.lemmas.Grind.{and_numeral}
 use Rattle.std.proofs.lemmas.Int.{ints}
 use Rattle.arbitrary_base.specs.Range.{lo}
 use Rattle.arbitrary_base.specs.Residue.{Congruent, wrap}
@@ -64,5 +65,5 @@ congruent-by_remainder B x y e = by-sign (x -ℤ y) refl e
 
 pub ruleset conversions = (wrap-congruent, sum-right, sum-left, difference-right, difference-left, product-right, product-left, word_sum-right, congruent-by_remainder)
 
--- steps that wrap, one after another, up to a multiple of the numbers of the type
-pub ruleset congruences = (congruent-by_remainder, ints)
+-- steps that wrap, one after another, and the low bits under a written mask, up to a multiple of the numbers of the type
+pub ruleset congruences = (congruent-by_remainder, and_numeral, ints)

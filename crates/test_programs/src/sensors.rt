@@ -1,6 +1,7 @@
 //! Filters, distances, places in lists and counts of bits.
 
-ghost use Rattle.std.specs.Prelude.{◌≡◌, ◌<◌, ◌≤◌, ◌+ℤ◌, ◌-ℤ◌, ◌*ℤ◌, ◌≤ℤ◌, ◌<ℤ◌, pos, neg_ℤ, int_div, IsTrue, IfSome, length};
+ghost use Rattle.std.specs.Prelude.{◌≡◌, ◌<◌, ◌≤◌, ◌/◌, ◌+ℤ◌, ◌-ℤ◌, ◌*ℤ◌, ◌≤ℤ◌, ◌<ℤ◌, pos, neg_ℤ, int_div, IsTrue, IfSome, length};
+ghost use Rattle.arbitrary_int.specs.Residue.{Congruent};
 
 use arbitrary_int::prelude::*;
 
@@ -135,4 +136,34 @@ pub fn sign_extended_by_shifts(x: u9) -> i16
     ensures { x <ℤ pos 256 → result ≡ x }
 {
     ((x.value() << 7).cast_signed()) >> 7
+}
+
+// ---- signed samples in the bits of a wider word
+
+#[tactic(auto, using(arbitrary_int::proofs::Conversions::congruences))]
+pub fn low_sample(word: u32) -> i12
+    ensures { Congruent 12 result (pos word) }
+{
+    i12::from_bits((word & 0xFFF) as u16)
+}
+
+#[tactic(auto, using(arbitrary_int::proofs::Conversions::congruences))]
+pub fn high_sample(word: u32) -> i12
+    ensures { Congruent 12 result (pos (word / 16)) }
+{
+    i12::from_bits(((word >> 4) & 0xFFF) as u16)
+}
+
+#[tactic(auto, using(arbitrary_int::proofs::Conversions::congruences))]
+pub fn pressure(word: u32) -> i20
+    ensures { Congruent 20 result (pos (word / 256)) }
+{
+    i20::from_bits((word >> 8) & 0xF_FFFF)
+}
+
+#[tactic(auto, using(arbitrary_int::proofs::Conversions::congruences))]
+pub fn coordinate(word: u64) -> i40
+    ensures { Congruent 40 result (pos (word / 256)) }
+{
+    i40::from_bits((word >> 8) & 0xFF_FFFF_FFFF)
 }
