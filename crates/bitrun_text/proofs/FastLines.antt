@@ -1,4 +1,4 @@
--- A line names the step whose name it begins with, and whose operands follow a blank after the name (`line_named`, `loose_named`).
+-- A line names the step whose name it begins with, and whose operands follow a blank after the name (`line_named`).
 --
 -- That the name is a whole word is known from the text after it alone, which begins with a blank (`Ends`).
 use Rattle.std.proofs.Common.{◌≡◌, ℕ, zero, suc, one-add, ◌<◌, ◌≤◌, true, List, [], ◌∷◌, ◌++◌, length, take, drop, get_or, Some, refl, sym, ap, ◌∙◌, inl, inr, arith}
@@ -13,7 +13,7 @@ use Rattle.arbitrary_int.specs.declared.steps.Step.{Step}
 use Rattle.bitrun_text.specs.Text.{is_blank, is_solid, ends_word, words_of, word_lines, Left, left_of}
 use Rattle.bitrun_text.specs.Operation.{operation_named, step_named, step_with}
 use Rattle.bitrun_text.specs.declared.operation.Operation.{Operation}
-use Rattle.bitrun_text.specs.Fast.{is_whole, IsName, BeginsWithName, EndsLine, NamesLine, NamesStep}
+use Rattle.bitrun_text.specs.Fast.{is_whole, IsName, BeginsWithName, EndsLine, NamesLine}
 use Rattle.bitrun_text.proofs.Families.{no_letter}
 use Rattle.bitrun_text.proofs.Lines.{left-blank, left-blanks, left-word, word_taken, no_word_taken, ends-there}
 use Rattle.bitrun_text.proofs.Operands.{take-take}
@@ -113,17 +113,13 @@ pub line_end : (text more : List ℕ) → text ≡ 10 ∷ more → Ends text × 
 unfolding left_of words_of
 line_end text more e = (rw e refl, rw e refl)
 
-pub cr_line_end : (text more : List ℕ) → text ≡ 13 ∷ 10 ∷ more → Ends text × ((left_of text).words ≡ [])
-unfolding left_of words_of
-cr_line_end text more e = (rw e refl, rw e refl)
-
 pub lf_ends : (text more : List ℕ) → text ≡ 10 ∷ more → EndsLine text more
 unfolding left_of
 lf_ends text more e = let end = line_end text more e in record { ends = end.0; last = end.1; later = rw e refl }
 
 pub cr_lf_ends : (text more : List ℕ) → text ≡ 13 ∷ 10 ∷ more → EndsLine text more
-unfolding left_of
-cr_lf_ends text more e = let end = cr_line_end text more e in record { ends = end.0; last = end.1; later = rw e refl }
+unfolding left_of words_of
+cr_lf_ends text more e = record { ends = rw e refl; last = rw e refl; later = rw e refl }
 
 -- ---- a step that is written in the fast form
 
@@ -140,32 +136,3 @@ line_named count text rest operation blank operands step after begins split blan
       names = rw (taken, begins.is_name.names, passed, named) refl;
       later = later ∙ sym (ap (λ (l : Left). l.later) taken ∙ ap (λ (l : Left). l.later) passed);
     }
-
--- ---- a step that is written in the loose form
-
--- after the first word, which names the operation, one blank stands, and then operands of the step
-step_left : (count : ℕ) (text word rest : List ℕ) (operation : Operation) (blank : ℕ) (operands : List ℕ) (step : Step) (end : List ℕ)
-    → left_of text ≡ record { words = word ∷ (left_of rest).words; later = (left_of rest).later } → operation_named word ≡ Some operation
-    → rest ≡ blank ∷ operands → is_blank blank ≡ true → step_with count operation (left_of operands).words ≡ Some step
-    → (left_of end).words ≡ [] → (left_of end).later ≡ (left_of operands).later → NamesStep count text step end
-unfolding step_named
-step_left count text word rest operation blank operands step end taken is split blanks named last later =
-    let passed : left_of rest ≡ left_of operands = ap left_of split ∙ left-blank blank operands blanks in
-    record {
-      names = rw (taken, is, passed, named) refl;
-      at_end = last;
-      later = later ∙ sym (ap (λ (l : Left). l.later) taken ∙ ap (λ (l : Left). l.later) passed);
-    }
-
-module _ (count : ℕ) (text solid rest : List ℕ) (skipped : solid ≡ drop (position_or_len is_solid text) text) (operation : Operation) (blank : ℕ) (operands : List ℕ)
-    (step : Step) (end : List ℕ) (split : rest ≡ blank ∷ operands) (blanks : is_blank blank ≡ true) (named : step_with count operation (left_of operands).words ≡ Some step)
-    (last : (left_of end).words ≡ []) (later : (left_of end).later ≡ (left_of operands).later) where
-  pub loose_named : BeginsWithName solid operation rest → NamesStep count text step end
-  loose_named begins =
-      let ends : Ends rest = ap (position_or_len ends_word) split ∙ blank_ends blank operands blanks in
-      let taken = sym (left-blanks text) ∙ ap left_of (sym skipped) ∙ name_left solid rest operation begins ends in
-      step_left count text begins.name rest operation blank operands step end taken begins.is_name.names split blanks named last later
-
-  pub other_named : (word : List ℕ) → word ≡ before_first ends_word solid → rest ≡ drop (position_or_len ends_word solid) solid → operation_named word ≡ Some operation → NamesStep count text step end
-  other_named word first follows is =
-      step_left count text word rest operation blank operands step end (word_taken text solid word rest skipped first follows (named_some word operation is)) is split blanks named last later

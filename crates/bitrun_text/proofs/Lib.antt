@@ -10,3 +10,4 @@ pub mod FastLines
 pub mod LongNumbers
 pub mod Names
 pub mod ShortNumbers
+pub mod Places

@@ -1,11 +1,10 @@
 -- The first word and the first line of a text, and what remains.
-use Rattle.std.proofs.Common.{◌≡◌, ℕ, suc, ◌<◌, ◌≤◌, Bool, true, false, cond, not, List, [], ◌∷◌, length, drop, map, filter, position, ltb, ltb-true, ltb-false, eqb, eqb-true, false-eqb, Some, None, refl, sym, ap, ◌∙◌, inl, inr, arith, one-add, suc-add, drop_of_length-le, take_all, length-take}
+use Rattle.std.proofs.Common.{◌≡◌, ℕ, suc, ◌<◌, ◌≤◌, Bool, true, false, cond, not, List, [], ◌∷◌, length, drop, map, filter, position, ltb, ltb-true, ltb-false, eqb, eqb-true, false-eqb, Some, None, refl, sym, ap, ◌∙◌, inl, inr, arith, one-add, suc-add, drop_of_length-le, take_all}
 use Rattle.std.specs.List.{slice_split, onto_first, position_or_len, before_first, after_first}
 use Rattle.std.proofs.lemmas.Bool.{cases_Bool, cases_lt, ne_eqb}
 use Rattle.std.proofs.lemmas.Bool.Decides.{nat_tests}
 use Rattle.std.proofs.lemmas.List.Splits.{slice_split-cons_no, slice_split-cons_yes, slice_split_first}
 use Rattle.std.proofs.lemmas.List.{nil_from_length}
-use Rattle.std.proofs.lemmas.List.Sums.{prefix_len-le-length}
 use Rattle.bitrun_text.specs.Text.{ends_line, is_blank, is_solid, ends_word, has_items, without_empty_last, lines_of, words_of, word_lines, Left, left_of}
 
 -- ---- a part that ends before the first item that passes
@@ -195,14 +194,6 @@ module _ (text solid word rest : List ℕ) (skipped : solid ≡ drop (position_o
       let empty : (left_of text).words ≡ [] = ap (λ (left : Left). left.words) (sym last.0) ∙ last.1 in
       rw empty refl
   words-end false e = rw (word_taken (omega (arith, false-eqb (length word) 0 e))) (sym (ne_eqb (suc (length (left_of rest).words)) 0 (omega arith)))
-
--- and where no word is at the first byte past the blanks
-pub blanks-end : (text solid : List ℕ) → solid ≡ drop (position_or_len is_solid text) text → (none : Bool) → none ≡ eqb (position_or_len ends_word solid) 0 → none ≡ eqb (length (left_of text).words) 0
-blanks-end text solid skipped none e =
-    let end = position_or_len ends_word solid in
-    let fits : end ≤ length solid = prefix_len-le-length _ solid in
-    let long : length (before_first ends_word solid) ≡ end = omega (arith, length-take end solid, fits) in
-    words-end text solid (before_first ends_word solid) (drop end solid) skipped refl refl none (e ∙ ap (λ (n : ℕ). eqb n 0) (sym long))
 
 -- ---- lines
 

@@ -1,10 +1,13 @@
 -- Numbers that are read some digits at a time, with a minus sign or without one.
-use Rattle.std.proofs.Common.{◌≡◌, ℕ, ◌+◌, ◌-◌, ◌*◌, ◌^◌, ◌<◌, ◌≤◌, List, [], ◌∷◌, length, take, drop, take_all, length-drop, Some, ℤ, pos, neg_ℤ, refl, sym, ap, ◌∙◌, arith, add-one, one-add, mul_assoc}
+use Rattle.std.proofs.Common.{◌≡◌, ℕ, zero, suc, ◌+◌, ◌-◌, ◌*◌, ◌^◌, ◌<◌, ◌≤◌, List, [], ◌∷◌, length, take, drop, get_or, take_all, length-drop, Some, ℤ, pos, neg_ℤ, refl, sym, ap, ◌∙◌, arith, add-one, one-add, mul_assoc}
 use Rattle.std.proofs.Math.Nat.{pow-suc, pow-le-pow_right}
 use Rattle.std.specs.List.{before_first}
+use Rattle.std.specs.Str.Parse.{digits_value}
+use Rattle.std.proofs.lemmas.Bool.Decides.{nat_tests}
+use Rattle.std.proofs.lemmas.Int.Digits.{digits_value_more}
 use Rattle.bitrun_text.specs.Text.{ends_word}
 use Rattle.bitrun_text.specs.Numeral.{Reads, integer_in, number_below}
-use Rattle.bitrun_text.proofs.Digits.{not_digits}
+use Rattle.bitrun_text.proofs.Digits.{digit_is, not_digits}
 use Rattle.bitrun_text.proofs.Values.{near, plain, minus}
 
 -- one digit more
@@ -25,6 +28,16 @@ room k n few below =
 
 pub reads-none : (text : List ℕ) → Reads text 0 0
 reads-none text = record { digits = λ k lt. absurd (omega arith); value = refl; within = omega arith }
+
+pub reads-below : (text : List ℕ) (at number : ℕ) → Reads text at number → number < 10 ^ at
+reads-below text zero number r = omega (arith, r.value)
+reads-below text (suc at) number r =
+    let within : at < length text = omega (arith, r.within) in
+    let digit = r.digits at (omega arith) in
+    let small : get_or text at 0 - 48 < 10 = grind (arith, nat_tests) in
+    let less : Reads text at (digits_value 10 (take at text)) = record { digits = λ k lt. r.digits k (omega (arith, lt)); value = refl; within = omega (arith, within) } in
+    let value : number ≡ digits_value 10 (take (at + 1) text) = rw add-one r.value in
+    omega (arith, value, digits_value_more 10 text at within, digit_is (get_or text at 0) digit, small, reads-below text at (digits_value 10 (take at text)) less, pow-suc 10 at)
 
 pub slice_from : (text : List ℕ) (at : ℕ) → take (length text - at) (drop at text) ≡ drop at text
 slice_from text at = take_all (length text - at) (drop at text) (omega (arith, length-drop at text))

@@ -10,12 +10,6 @@ use Rattle.bitrun_text.specs.Fast.{EndsLine, NamesLine}
 use Rattle.bitrun_text.specs.Form.{IsStep, HasStepForm, FirstBad, ReadSoFar}
 use Rattle.bitrun_text.proofs.Lines.{left-line, left-later}
 
--- the words of a line name the step, and the later lines are left
-pub record LineRead (count : ℕ) (words : List (List ℕ)) (rest : List (List (List ℕ))) (step : Step) (after : List (List (List ℕ))) : Type 0 where
-  pub named : Some step ≡ step_named count words
-  pub same : after ≡ rest
-  pub within : StepWithin count step
-
 some_words : (count : ℕ) (words : List (List ℕ)) (step : Step) → Some step ≡ step_named count words → (word : List ℕ) × (operands : List (List ℕ)) × (words ≡ word ∷ operands)
 unfolding step_named
 some_words count [] step named = absurd cc

@@ -1,8 +1,9 @@
 -- Lines that are written in the fast form.
-use Rattle.std.specs.Prelude.{◌≡◌, ℕ, ◌&&◌, Bool, true, List, [], ◌∷◌, ◌++◌, take, codes, not, Some, None}
+use Rattle.std.specs.Prelude.{◌≡◌, ℕ, ◌<◌, ◌&&◌, Bool, true, List, [], ◌∷◌, ◌++◌, take, codes, not, Some, None}
 use Rattle.std.specs.Int.{w32, to_be_bytes}
 use Rattle.std.specs.List.{position_or_len}
 use Rattle.bitrun_text.specs.Text.{ends_word, word_lines, left_of}
+use Rattle.bitrun_text.specs.Numeral.{first_number}
 use Rattle.bitrun_text.specs.Operation.{operation_named, step_named}
 use Rattle.arbitrary_int.specs.declared.steps.Step.{Step}
 use Rattle.bitrun_text.specs.declared.operation.Operation.{Operation}
@@ -27,12 +28,6 @@ pub record BeginsWithName (text : List ℕ) (operation : Operation) (rest : List
   pub split : text ≡ name ++ rest
   pub is_name : IsName name operation
 
--- the words of the line with which the text begins name the step, and the rest begins after the last of them
-pub record NamesStep (count : ℕ) (text : List ℕ) (step : Step) (rest : List ℕ) : Type 0 where
-  pub names : Some step ≡ step_named count (left_of text).words
-  pub at_end : (left_of rest).words ≡ []
-  pub later : (left_of rest).later ≡ (left_of text).later
-
 -- a line ends where the text begins, and the rest is the lines after it
 pub record EndsLine (text rest : List ℕ) : Type 0 where
   pub ends : position_or_len ends_word text ≡ 0
@@ -42,4 +37,9 @@ pub record EndsLine (text rest : List ℕ) : Type 0 where
 -- the words of the line with which the text begins name the step, and the rest is the lines after it
 pub record NamesLine (count : ℕ) (text : List ℕ) (step : Step) (rest : List ℕ) : Type 0 where
   pub names : Some step ≡ step_named count (left_of text).words
+  pub later : word_lines rest ≡ (left_of text).later
+
+-- the next word of the line with which the text begins writes the number, the line ends after it, and the rest is the lines after it
+pub record EndsWithNumber (text : List ℕ) (number : ℕ) (rest : List ℕ) : Type 0 where
+  pub taken : (limit : ℕ) → number < limit → first_number limit (left_of text).words ≡ Some (number, [])
   pub later : word_lines rest ≡ (left_of text).later

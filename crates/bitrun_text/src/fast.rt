@@ -1,50 +1,52 @@
-//! Lines of steps that are written in the fast form: a name, one blank before each operand, the same each time, register numbers of one
-//! to three digits, and nothing else before the LF, or before a CR and the LF. Such a line is read at once. A result of `None` says
-//! nothing of a line, so whoever asks goes on with its words.
+//! Lines of steps, read by an index from the start of the text. Nothing here takes a call, so that no part of a line need be stored in
+//! memory. As a rule a line has a name, one blank before each operand, registers of one to three digits, and the LF: these are tried first.
+//! More blanks, more digits, and blanks at the end of the line have arms of their own.
+//!
+//! A result of `None` says nothing of a line, so whoever asks goes on with its words. It is given for a line that is bad, begins with a
+//! blank or is one of the last two of a text, and where a number has more than 18 digits, not counting five zeros in front, several blanks
+//! before an operand are not all of the kind that follows the name, or a CR follows a name of two or three letters.
 
-ghost use Rattle.std.specs.Prelude.{◌≡◌, ◌≤◌, ◌<◌, ◌+◌, ◌^◌, [], true, length, drop, take, Some, IfSome, MatchOption, ⊤};
+ghost use Rattle.std.specs.Prelude.{◌≡◌, ◌≤◌, ◌<◌, ◌+◌, ◌^◌, [], true, length, drop, get_or, take, Some, IfSome, MatchOption, ⊤};
 ghost use Rattle.std.specs.Int.{w32, to_be_bytes};
 ghost use Rattle.arbitrary_int.specs.Step.{StepWithin};
 ghost use Rattle.bitrun_text.specs.Text.{is_blank, left_of, word_lines};
 ghost use Rattle.bitrun_text.specs.Numeral.{first_number};
 ghost use Rattle.bitrun_text.specs.Operation.{step_with};
-ghost use Rattle.bitrun_text.specs.Fast.{IsName, BeginsNoName, BeginsWithName, EndsLine, NamesLine};
+ghost use Rattle.bitrun_text.specs.Fast.{IsName, BeginsNoName, BeginsWithName, NamesLine};
 
-use crate::fast_value::digits_from;
+use crate::operand::{below, last_number, next_register};
 use crate::operation::Operation;
-use crate::short_number::{few_digits, last_digits};
 use crate::text::is_blank;
 use arbitrary_int::{ByOp, OneOp, Step, TwoOp};
 
-/// The most bytes that the operands take: three of up to three digits, with the blank after each, and a CR and an LF after the last.
-const OPERANDS: usize = 13;
+/// The bytes that the operands take at most without a test of their own: three of up to three digits with a blank before each, and the
+/// blank after it, or a CR and an LF.
+const OPERANDS: usize = 16;
 
 /// With its name and a blank, a line has so many.
 const LINE: usize = OPERANDS + 5;
 
-/// The step on so many registers of the line with which the text begins, and what follows the line, or nothing where the line isn't a
-/// fast one or names no step.
+/// The step on so many registers of the line at the place, and the place after the line, or nothing where the line isn't a fast one or
+/// names no step.
 #[inline(always)]
-pub fn fast_line(text: &[u8], count: usize) -> Option<(Step, &[u8])>
-    ensures step { IfSome result (λ p. NamesLine count text.now p.0 p.1.now) }
+pub fn fast_line(text: &[u8], at: usize, count: usize) -> Option<(Step, usize)>
+    requires { at ≤ length text.now }
+    ensures step { IfSome result (λ p. NamesLine count (drop at text.now) p.0 (drop p.1 text.now)) }
     ensures within { IfSome result (λ p. StepWithin count p.0) }
-    ensures some { IfSome result (λ p. 0 < length text.now) }
+    ensures order { IfSome result (λ p. at < p.1) }
+    ensures room { IfSome result (λ p. p.1 ≤ length text.now) }
 {
     // With this one test no part has one of its own.
-    if text.len() < LINE {
+    if at + LINE > text.len() {
         return None;
     }
-    let (operation, size) = name_there(text)?;
-    let blank = text[size];
-    if !is_blank(blank) {
-        return None;
-    }
-    let (step, end) = fast_operands(operation, text, size + 1, count, blank)?;
-    let (_, rest) = text.split_at(end);
-    Some((step, rest))
+    let (operation, name_end) = name_at(text, at)?;
+    let (step, end) = fast_operands(operation, text, name_end, count)?;
+    Some((step, end))
 }
 
-/// The step of an operation on so many registers with the operands at the place, and the place after the line.
+/// The step of an operation on so many registers with the operands after the blank at the place, and the place after the line. The kind
+/// of the operation is told first, so that the compiler goes on to its operands from each name.
 #[tactic(auto, using(crate::proofs::StepWords::taken))]
 #[inline(always)]
 fn fast_operands(
@@ -52,20 +54,21 @@ fn fast_operands(
     text: &[u8],
     at: usize,
     count: usize,
-    blank: u8,
 ) -> Option<(Step, usize)>
-    requires blank { is_blank blank ≡ true }
-    requires room { at + 13 ≤ length text.now }
-    ensures step { IfSome result (λ p. step_with count operation (left_of (drop at text.now)).words ≡ Some p.0) }
+    requires { at + 17 ≤ length text.now }
+    ensures blank { IfSome result (λ p. is_blank (get_or text.now at 0) ≡ true) }
+    ensures step { IfSome result (λ p. step_with count operation (left_of (drop (at + 1) text.now)).words ≡ Some p.0) }
     ensures within { IfSome result (λ p. StepWithin count p.0) }
-    ensures later { IfSome result (λ p. word_lines (drop p.1 text.now) ≡ (left_of (drop at text.now)).later) }
+    ensures later { IfSome result (λ p. word_lines (drop p.1 text.now) ≡ (left_of (drop (at + 1) text.now)).later) }
+    ensures order { IfSome result (λ p. at < p.1) }
     ensures room { IfSome result (λ p. p.1 ≤ length text.now) }
 {
-    let (to, at) = fast_register(text, at, count, blank)?;
     match operation {
         Operation::Two(op) => {
-            let (left, at) = fast_register(text, at, count, blank)?;
-            let (right, end) = last_register(text, at, count)?;
+            let blank = blank_at(text, at)?;
+            let (to, at) = next_register(text, at + 1, count, blank, OPERANDS)?;
+            let (left, at) = next_register(text, at, count, blank, OPERANDS - 5)?;
+            let (right, end) = last_register(text, at, count, blank)?;
             Some((
                 Step::Two {
                     op,
@@ -77,12 +80,16 @@ fn fast_operands(
             ))
         }
         Operation::One(op) => {
-            let (src, end) = last_register(text, at, count)?;
+            let blank = blank_at(text, at)?;
+            let (to, at) = next_register(text, at + 1, count, blank, OPERANDS)?;
+            let (src, end) = last_register(text, at, count, blank)?;
             Some((Step::One { op, to, src }, end))
         }
         Operation::By(op) => {
-            let (src, at) = fast_register(text, at, count, blank)?;
-            let (amount, end) = fast_amount(text, at)?;
+            let blank = blank_at(text, at)?;
+            let (to, at) = next_register(text, at + 1, count, blank, OPERANDS)?;
+            let (src, at) = next_register(text, at, count, blank, OPERANDS - 5)?;
+            let (amount, end) = fast_amount(text, at, blank)?;
             Some((
                 Step::By {
                     op,
@@ -96,97 +103,60 @@ fn fast_operands(
     }
 }
 
-/// The number at the place of one of so many registers, if it has one to three digits and the blank follows it, and the place after the
-/// blank.
+/// The blank at the place.
 #[inline(always)]
-fn fast_register(text: &[u8], at: usize, count: usize, blank: u8) -> Option<(usize, usize)>
-    requires blank { is_blank blank ≡ true }
-    requires room { at + 4 ≤ length text.now }
-    ensures number { IfSome result (λ p. first_number count (left_of (drop at text.now)).words ≡ Some (p.0, (left_of (drop p.1 text.now)).words)) }
-    ensures below { IfSome result (λ p. p.0 < count) }
-    ensures later { IfSome result (λ p. (left_of (drop p.1 text.now)).later ≡ (left_of (drop at text.now)).later) }
-    ensures room { IfSome result (λ p. p.1 ≤ at + 4) }
+fn blank_at(text: &[u8], at: usize) -> Option<u8>
+    requires { at < length text.now }
+    ensures there { IfSome result (λ blank. get_or text.now at 0 ≡ blank) }
+    ensures blank { IfSome result (λ blank. is_blank blank ≡ true) }
 {
-    let (number, end) = few_digits(text, at, blank)?;
-    let number = number as usize;
-    if number >= count {
-        return None;
-    }
-    Some((number, end))
+    let blank = text[at];
+    if is_blank(blank) { Some(blank) } else { None }
 }
 
-/// The number at the place of one of so many registers, if it has one to three digits and the line ends right after it, and the place
-/// after the line.
+/// The number of one of so many registers, which is the last word of the line, and the place after the line.
 #[inline(always)]
-fn last_register(text: &[u8], at: usize, count: usize) -> Option<(usize, usize)>
-    requires { at + 5 ≤ length text.now }
+fn last_register(text: &[u8], at: usize, count: usize, blank: u8) -> Option<(usize, usize)>
+    requires blank { is_blank blank ≡ true }
+    requires room { at + 6 ≤ length text.now }
     ensures number { IfSome result (λ p. first_number count (left_of (drop at text.now)).words ≡ Some (p.0, [])) }
     ensures below { IfSome result (λ p. p.0 < count) }
     ensures later { IfSome result (λ p. word_lines (drop p.1 text.now) ≡ (left_of (drop at text.now)).later) }
+    ensures order { IfSome result (λ p. at < p.1) }
     ensures room { IfSome result (λ p. p.1 ≤ length text.now) }
 {
-    let (number, last) = last_digits(text, at)?;
-    let number = number as usize;
-    if number >= count {
-        return None;
-    }
-    Some((number, after_line_end(text, last)?))
+    let (number, end) = last_number(text, at, blank)?;
+    below(number, end, count)
 }
 
-/// The amount of any count of digits at the place, if the line ends right after it, and the place after the line.
+/// The amount, which is the last word of the line, and the place after the line.
 #[inline(always)]
-fn fast_amount(text: &[u8], at: usize) -> Option<(u32, usize)>
-    requires { at ≤ length text.now }
+fn fast_amount(text: &[u8], at: usize, blank: u8) -> Option<(u32, usize)>
+    requires blank { is_blank blank ≡ true }
+    requires room { at + 6 ≤ length text.now }
     ensures number { IfSome result (λ p. first_number (2 ^ 32) (left_of (drop at text.now)).words ≡ Some (p.0, [])) }
     ensures later { IfSome result (λ p. word_lines (drop p.1 text.now) ≡ (left_of (drop at text.now)).later) }
+    ensures order { IfSome result (λ p. at < p.1) }
     ensures room { IfSome result (λ p. p.1 ≤ length text.now) }
 {
-    let (_, word) = text.split_at(at);
-    let (number, size) = digits_from(word, 0);
-    if size == 0 || number >= 1 << 32 || word.len() < size + 2 {
+    let (number, end) = last_number(text, at, blank)?;
+    if number >= 1 << 32 {
         return None;
     }
-    Some((number as u32, after_line_end(text, at + size)?))
+    Some((number as u32, end))
 }
 
-/// The place after the line, where it ends at the place: with an LF, or a CR and an LF.
+/// The operation with whose name the text goes on at the place, and the place after the name.
 #[inline(always)]
-fn after_line_end(text: &[u8], at: usize) -> Option<usize>
-    requires { at + 2 ≤ length text.now }
-    ensures line { IfSome result (λ end. EndsLine (drop at text.now) (drop end text.now)) }
-    ensures room { IfSome result (λ end. end ≤ at + 2) }
+fn name_at(text: &[u8], at: usize) -> Option<(Operation, usize)>
+    requires { at + 4 ≤ length text.now }
+    ensures name { IfSome result (λ p. BeginsWithName (drop at text.now) p.0 (drop p.1 text.now)) }
+    ensures order { IfSome result (λ p. at ≤ p.1) }
+    ensures room { IfSome result (λ p. p.1 ≤ at + 4) }
 {
-    if text[at] == b'\n' {
-        return Some(at + 1);
-    }
-    if text[at + 1] == b'\n' && text[at] == b'\r' {
-        return Some(at + 2);
-    }
-    None
-}
-
-/// The operation of three or four letters with whose name the text begins, and what follows it.
-#[inline(always)]
-pub fn fast_name(text: &[u8]) -> Option<(Operation, &[u8])>
-    ensures { IfSome result (λ p. BeginsWithName text.now p.0 p.1.now) }
-{
-    let (operation, size) = name_there(text)?;
-    let (_, rest) = text.split_at(size);
-    Some((operation, rest))
-}
-
-/// The operation of three or four letters with whose name the text begins, and how many bytes the name has.
-#[inline(always)]
-fn name_there(text: &[u8]) -> Option<(Operation, usize)>
-    ensures name { IfSome result (λ p. BeginsWithName text.now p.0 (drop p.1 text.now)) }
-    ensures short { IfSome result (λ p. p.1 ≤ 4) }
-    ensures room { IfSome result (λ p. p.1 ≤ length text.now) }
-{
-    let [a, b, c, d, ..] = text else {
-        return None;
-    };
-    let (operation, size) = short_name(u32::from_be_bytes([*a, *b, *c, *d]))?;
-    Some((operation, size))
+    let word = u32::from_be_bytes([text[at], text[at + 1], text[at + 2], text[at + 3]]);
+    let (operation, size) = short_name(word)?;
+    Some((operation, at + size))
 }
 
 /// The operation that the first letters of four bytes name, and how many letters it has. The first
@@ -210,14 +180,22 @@ fn short_name(bytes: u32) -> Option<(Operation, usize)>
     const CSUB: u32 = 0x6373_7562;
     const CMUL: u32 = 0x636d_756c;
     const CDIV: u32 = 0x6364_6976;
+    // A name of three letters with a space, and with a tab.
     const AND: u32 = 0x616e_6420;
-    // `or`, a space and a digit.
-    const OR_0: u32 = 0x6f72_2030;
-    const OR_9: u32 = 0x6f72_2039;
+    const AND_TAB: u32 = 0x616e_6409;
     const XOR: u32 = 0x786f_7220;
+    const XOR_TAB: u32 = 0x786f_7209;
     const NOT: u32 = 0x6e6f_7420;
+    const NOT_TAB: u32 = 0x6e6f_7409;
     const REV: u32 = 0x7265_7620;
+    const REV_TAB: u32 = 0x7265_7609;
     const NEG: u32 = 0x6e65_6720;
+    const NEG_TAB: u32 = 0x6e65_6709;
+    // `or` with a space or a tab, and any byte.
+    const OR: u32 = 0x6f72_2000;
+    const OR_LAST: u32 = 0x6f72_20ff;
+    const OR_TAB: u32 = 0x6f72_0900;
+    const OR_TAB_LAST: u32 = 0x6f72_09ff;
     const WSHL: u32 = 0x7773_686c;
     const WSHR: u32 = 0x7773_6872;
     const CSHL: u32 = 0x6373_686c;
@@ -238,12 +216,12 @@ fn short_name(bytes: u32) -> Option<(Operation, usize)>
         CSUB => Some((Operation::Two(TwoOp::CheckedSub), 4)),
         CMUL => Some((Operation::Two(TwoOp::CheckedMul), 4)),
         CDIV => Some((Operation::Two(TwoOp::CheckedDiv), 4)),
-        AND => Some((Operation::Two(TwoOp::And), 3)),
-        OR_0..=OR_9 => Some((Operation::Two(TwoOp::Or), 2)),
-        XOR => Some((Operation::Two(TwoOp::Xor), 3)),
-        NOT => Some((Operation::One(OneOp::Not), 3)),
-        REV => Some((Operation::One(OneOp::ReverseBits), 3)),
-        NEG => Some((Operation::One(OneOp::WrappingNeg), 3)),
+        AND | AND_TAB => Some((Operation::Two(TwoOp::And), 3)),
+        OR..=OR_LAST | OR_TAB..=OR_TAB_LAST => Some((Operation::Two(TwoOp::Or), 2)),
+        XOR | XOR_TAB => Some((Operation::Two(TwoOp::Xor), 3)),
+        NOT | NOT_TAB => Some((Operation::One(OneOp::Not), 3)),
+        REV | REV_TAB => Some((Operation::One(OneOp::ReverseBits), 3)),
+        NEG | NEG_TAB => Some((Operation::One(OneOp::WrappingNeg), 3)),
         WSHL => Some((Operation::By(ByOp::WrappingShl), 4)),
         WSHR => Some((Operation::By(ByOp::WrappingShr), 4)),
         CSHL => Some((Operation::By(ByOp::CheckedShl), 4)),

@@ -57,7 +57,7 @@ fn fast_integer(text: &[u8]) -> Option<(i128, &[u8])>
 
 /// What follows the byte, where the text begins with it.
 #[inline(always)]
-pub(crate) fn after(text: &[u8], byte: u8) -> Option<&[u8]>
+fn after(text: &[u8], byte: u8) -> Option<&[u8]>
     ensures { IfSome result (λ rest. text.now ≡ byte ∷ rest.now) }
 {
     match text {
@@ -108,7 +108,7 @@ fn power_of_ten(count: usize) -> u64
 
 /// The number that the digits write from the place on, no more than 18 of them, and the place after them.
 #[inline(always)]
-pub(crate) fn digits_from(text: &[u8], start: usize) -> (u64, usize)
+fn digits_from(text: &[u8], start: usize) -> (u64, usize)
     requires { start ≤ length text.now }
     ensures reads { (number : ℕ) → Reads text.now start number → Reads text.now result.1 (number * 10 ^ (result.1 - start) + result.0) }
     ensures order { start ≤ result.1 }

@@ -1,18 +1,17 @@
 //! The registers and the steps from their lines.
 
-ghost use Rattle.std.specs.Prelude.{◌≡◌, ◌≤◌, ◌+◌, ℕ, List, length, map, filter, IfOk, IfErr, IfSome, MatchOption, All};
+ghost use Rattle.std.specs.Prelude.{◌≡◌, ◌≤◌, ◌+◌, ◌-◌, ℕ, List, length, drop, map, filter, IfOk, IfErr, IfSome, MatchOption, All};
 ghost use Rattle.arbitrary_int.specs.Step.{StepWithin};
 ghost use Rattle.std.specs.List.{AllZip};
 ghost use Rattle.bitrun_text.specs.Text.{Left, has_items, word_lines};
 ghost use Rattle.bitrun_text.specs.Form.{IsValue, IsStep, HasRegistersForm, StepsFault, ReadSoFar};
 
 use crate::fast::fast_line;
-use crate::fast_value::{after, fast_value};
+use crate::fast_value::fast_value;
 use crate::fault::Fault;
-use crate::loose::loose_step;
 use crate::numeral::value_named;
 use crate::operation::step_named;
-use crate::text::{Cursor, after_line, begins_with_lf};
+use crate::text::{Cursor, after_line, is_blank};
 use arbitrary_int::Step;
 use arbitrary_int::traits::FixedWidth;
 use std::alloc::{AllocError, Allocator};
@@ -62,20 +61,13 @@ pub fn steps<'a, A: Allocator>(
     ensures within { IfOk result (λ steps. All (StepWithin count) steps.items) }
     ensures fault { IfErr result (StepsFault count lines.old.later) }
 {
-    let loose = is_loose(lines.text(), count);
     // A cursor of its own, so that the place need not be stored in memory: no call takes a reference to it.
     let mut line = lines.copy();
     // A line of a step has 11 bytes or so: room for most of them, and not too much for other lines.
     let mut steps = Vec::with_capacity(alloc, line.text().len() / 16)?;
     let mut number = 2;
     loop {
-        let rest = steps_at_once(
-            loose,
-            count,
-            after_line(line.text()),
-            &mut steps,
-            &mut number,
-        );
+        let rest = fast_steps(count, after_line(line.text()), &mut steps, &mut number);
         if rest.is_empty() {
             return Ok(steps);
         }
@@ -84,23 +76,14 @@ pub fn steps<'a, A: Allocator>(
         if line.is_at_lf() {
             continue;
         }
-        let step = match loose_step(line.text(), count) {
-            Some((step, rest)) => {
-                line.go_to(rest);
-                step
-            }
-            None => {
-                let mut words = line.copy();
-                let Some(word) = words.next_word() else {
-                    continue;
-                };
-                let Some(step) = step_named(word, &mut words, count) else {
-                    return Err(Fault::Line(number));
-                };
-                line = words;
-                step
-            }
+        let mut words = line.copy();
+        let Some(word) = words.next_word() else {
+            continue;
         };
+        let Some(step) = step_named(word, &mut words, count) else {
+            return Err(Fault::Line(number));
+        };
+        line = words;
         steps.push(step)?;
     }
 }
@@ -118,70 +101,63 @@ fn fast_steps<'a, 't, A: Allocator>(
     ensures read { (all : List (List (List ℕ))) → ReadSoFar count all steps.old.items number.old (word_lines text.now) → ReadSoFar count all steps.new.items number.new (word_lines result.now) }
     ensures order { number.old ≤ number.new }
 {
-    let mut rest = text;
-    let mut line = *number;
+    let before = steps.len();
+    let mut at = 0;
+    let mut empty = 0;
     while steps.len() < steps.capacity() {
-        match fast_line(rest, count) {
-            Some((step, next)) => {
+        match fast_line(text, at, count) {
+            Some((step, end)) => {
                 steps.push_reserved(step);
-                rest = next;
-                line += 1;
+                at = end;
             }
             None => {
-                let (next, last) = after_empty_lines(rest, line);
-                if last == line {
-                    break;
+                let start = after_indent(text, at);
+                if start != at {
+                    at = start;
+                } else {
+                    let end = after_empty_lines(text, at);
+                    if end == at {
+                        break;
+                    }
+                    empty += end - at;
+                    at = end;
                 }
-                rest = next;
-                line = last;
             }
         }
     }
-    *number = line;
+    *number += steps.len() - before + empty;
+    let (_, rest) = text.split_at(at);
     rest
 }
 
-/// The same, or nothing where the lines are loose.
+/// The place after the blanks at the place, unless nothing follows them.
 #[inline(always)]
-fn steps_at_once<'a, 't, A: Allocator>(
-    loose: bool,
-    count: usize,
-    text: &'t [u8],
-    steps: &mut Vec<Step, &'a A>,
-    number: &mut usize,
-) -> &'t [u8]
-    requires { number.old + length (word_lines text.now) ≤ 65538 }
-    ensures read { (all : List (List (List ℕ))) → ReadSoFar count all steps.old.items number.old (word_lines text.now) → ReadSoFar count all steps.new.items number.new (word_lines result.now) }
-    ensures order { number.old ≤ number.new }
+fn after_indent(text: &[u8], at: usize) -> usize
+    requires { at ≤ length text.now }
+    ensures same { word_lines (drop result text.now) ≡ word_lines (drop at text.now) }
+    ensures order { at ≤ result }
+    ensures room { result ≤ length text.now }
 {
-    if loose {
-        text
-    } else {
-        fast_steps(count, text, steps, number)
+    let mut next = at;
+    while next < text.len() && is_blank(text[next]) {
+        next += 1;
     }
+    if next == text.len() { at } else { next }
 }
 
-/// What follows the lines with which the text begins that have an LF alone, and the number of the last of them. In line, this loop would
-/// take processor registers from that of the fast lines.
+/// The place after the lines at the place that have an LF alone. In line, this loop would take processor registers from that of the fast
+/// lines.
 #[inline(never)]
-fn after_empty_lines(text: &[u8], number: usize) -> (&[u8], usize)
-    requires { number + length (word_lines text.now) ≤ 65538 }
-    ensures read { (count : ℕ) → (all : List (List (List ℕ))) → (steps : List Step) → ReadSoFar count all steps number (word_lines text.now) → ReadSoFar count all steps result.1 (word_lines result.0.now) }
-    ensures counted { result.1 + length (word_lines result.0.now) ≡ number + length (word_lines text.now) }
-    ensures order { number ≤ result.1 }
+fn after_empty_lines(text: &[u8], at: usize) -> usize
+    requires { at ≤ length text.now }
+    ensures read { (count : ℕ) → (all : List (List (List ℕ))) → (steps : List Step) → (number : ℕ) → ReadSoFar count all steps number (word_lines (drop at text.now)) → ReadSoFar count all steps (number + (result - at)) (word_lines (drop result text.now)) }
+    ensures counted { (result - at) + length (word_lines (drop result text.now)) ≡ length (word_lines (drop at text.now)) }
+    ensures order { at ≤ result }
+    ensures room { result ≤ length text.now }
 {
-    let mut rest = text;
-    let mut line = number;
-    while let Some(next) = after(rest, b'\n') {
-        rest = next;
-        line += 1;
+    let mut next = at;
+    while next < text.len() && text[next] == b'\n' {
+        next += 1;
     }
-    (rest, line)
-}
-
-/// Whether the lines after the first of the text are loose, as the first of these lines tells. A wrong guess costs time alone.
-#[inline(never)]
-fn is_loose(text: &[u8], count: usize) -> bool {
-    let first = after_line(text);
-    !begins_with_lf(first) && fast_line(first, count).is_none()
+    next
 }

@@ -155,7 +155,7 @@ fn after_word<'a>(text: &'a [u8], word: &[u8]) -> Option<&'a [u8]>
 /// follows the word.
 // In line, its loop would take processor registers from readers that seldom come to it.
 #[inline(never)]
-pub fn split_number(text: &[u8], limit: u64) -> Option<(u64, &[u8])>
+fn split_number(text: &[u8], limit: u64) -> Option<(u64, &[u8])>
     ensures number { MatchOption result (number_below limit (before_first ends_word text.now) ≡ None) (λ p. number_below limit (before_first ends_word text.now) ≡ Some p.0) }
     ensures below { IfSome result (λ p. p.0 < limit) }
     ensures rest { IfSome result (λ p. p.1.now ≡ drop (position_or_len ends_word text.now) text.now) }
@@ -185,35 +185,11 @@ pub fn is_word_end(text: &[u8]) -> bool
     }
 }
 
-/// Whether the text goes on with the end of the line: an LF, or blanks before one.
-#[inline(always)]
-pub fn is_line_end(text: &[u8]) -> bool
-    ensures ends { result ≡ true → position_or_len ends_word text.now ≡ 0 }
-    ensures last { result ≡ true → (left_of text.now).words ≡ [] }
-{
-    if begins_with_lf(text) {
-        true
-    } else if begins_with_cr_lf(text) {
-        true
-    } else if is_word_end(text) {
-        is_word_end(without_blanks(text))
-    } else {
-        false
-    }
-}
-
 /// Whether the text begins with an LF.
-pub fn begins_with_lf(text: &[u8]) -> bool
+fn begins_with_lf(text: &[u8]) -> bool
     ensures { result ≡ true → text.now ≡ 10 ∷ drop 1 text.now }
 {
     matches!(text, [b'\n', ..])
-}
-
-/// Whether the text begins with a CR and an LF.
-fn begins_with_cr_lf(text: &[u8]) -> bool
-    ensures { result ≡ true → text.now ≡ 13 ∷ 10 ∷ drop 2 text.now }
-{
-    matches!(text, [b'\r', b'\n', ..])
 }
 
 /// What follows the first line.

@@ -1,4 +1,4 @@
-use Rattle.std.proofs.Common.{◌+◌, drop, get_or, sym, arith}
+use Rattle.std.proofs.Common.{◌+◌, drop, get_or, arith}
 use Rattle.std.proofs.lemmas.List.{drop_more}
 use Rattle.bitrun_text.proofs.FastLines.{line_named}
 use Rattle.bitrun_text.proofs.fast.fast_line.Goals as goal
@@ -6,9 +6,8 @@ use Rattle.bitrun_text.proofs.fast.fast_line.Goals as goal
 pub returns-clause-step : goal.returns-clause-step
 returns-clause-step c =
     let text = c.args.text.now in
-    let size = c.in_ok-operation.size in
-    let named = c.in_ok-step.ensures in
-    let split = drop_more text size 0 (omega (arith, c.in_ok-operation.ensures.short, c.if-text-lt-LINE.false)) in
-    rw c.split_at.ensures.back
-    (line_named c.args.count text (drop size text) c.in_ok-operation.operation (get_or text size 0) (drop (size + 1) text) c.in_ok-step.step (drop c.in_ok-step.end text)
-    c.in_ok-operation.ensures.name split (sym c.if-not-is_blank.ensures) named.step named.later)
+    let name = c.in_ok-operation in
+    let line = c.in_ok-step in
+    let split = drop_more text name.name_end 0 (omega (arith, name.ensures.room, c.if-at-text.false)) in
+    line_named c.args.count (drop c.args.at text) (drop name.name_end text) name.operation (get_or text name.name_end 0) (drop (name.name_end + 1) text) line.step (drop line.end text)
+    name.ensures.name split line.ensures.blank line.ensures.step line.ensures.later

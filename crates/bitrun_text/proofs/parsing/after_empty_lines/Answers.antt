@@ -1,40 +1,33 @@
-use Rattle.std.proofs.Common.{◌<◌, length, ap, refl, arith}
-use Rattle.bitrun_text.specs.Text.{word_lines}
+use Rattle.std.proofs.Common.{◌≡◌, ◌+◌, ◌-◌, ◌<◌, length, drop, arith, length-drop}
+use Rattle.std.proofs.lemmas.List.{drop_more}
 use Rattle.bitrun_text.proofs.FastLines.{lf_ends}
 use Rattle.bitrun_text.proofs.StepLines.{blank_passed, one_line}
 use Rattle.bitrun_text.proofs.parsing.after_empty_lines.Goals as goal
 
 pub loop-next-init : goal.loop-next-init
-loop-next-init c = (λ count all steps h. h, refl, omega arith)
-
-pub overflow_add-line : goal.overflow_add-line
-overflow_add-line c = omega (arith, c.loop-next.invariant.1, c.requires)
-
-pub loop-next-smaller : goal.loop-next-smaller
-loop-next-smaller c =
-    let text = c.loop-next.rest.now in
-    let next = c.in-Some.next.now in
-    let split = c.in-Some.ensures in
-    let fewer : length (word_lines next) < length (word_lines text) = omega (arith, one_line text next (omega (arith, ap length split)) (lf_ends text next split).later) in
-    fewer
+loop-next-init c =
+    let none : c.args.at - c.args.at ≡ 0 = omega arith in
+    record { read = λ count all steps number h. (let same : number + (c.args.at - c.args.at) ≡ number = omega arith in rw same h); counted = omega arith; order = omega arith; within = c.requires }
 
 pub loop-next-preserved : goal.loop-next-preserved
 loop-next-preserved c =
-    let text = c.loop-next.rest.now in
-    let next = c.in-Some.next.now in
-    let split = c.in-Some.ensures in
-    let some : 0 < length text = omega (arith, ap length split) in
-    let ends = lf_ends text next split in (
-      λ count all steps h. blank_passed count text next some all steps c.loop-next.line (c.loop-next.invariant.0 count all steps h) ends,
-      omega (arith, c.loop-next.invariant.1, one_line text next some ends.later),
-      omega (arith, c.loop-next.invariant.2),
-    )
+    let text = c.args.text.now in
+    let at = c.args.at in
+    let next = c.loop-next.next in
+    let kept = c.loop-next.invariant in
+    let some : 0 < length (drop next text) = omega (arith, length-drop next text, c.loop-next-test.true) in
+    let ends = lf_ends (drop next text) (drop (next + 1) text) (rw c.if-text-next-eq10.true at (drop_more text next 0 c.loop-next-test.true)) in
+    record {
+      read = λ count all steps number h. (
+          let same : number + (next - at) + 1 ≡ number + (next + 1 - at) = omega (arith, kept.order) in
+          rw same at (blank_passed count (drop next text) (drop (next + 1) text) some all steps (number + (next - at)) (kept.read count all steps number h) ends));
+      counted = omega (arith, kept.counted, kept.order, one_line (drop next text) (drop (next + 1) text) some ends.later);
+      order = omega (arith, kept.order);
+      within = omega (arith, c.loop-next-test.true);
+    }
 
-pub returns-clause-read : goal.returns-clause-read
-returns-clause-read c = c.loop-next.invariant.0
+pub returns-else-text-next-eq10-clause-read : goal.returns-else-text-next-eq10-clause-read
+returns-else-text-next-eq10-clause-read c = c.loop-next.invariant.read
 
-pub returns-clause-counted : goal.returns-clause-counted
-returns-clause-counted c = c.loop-next.invariant.1
-
-pub returns-clause-order : goal.returns-clause-order
-returns-clause-order c = c.loop-next.invariant.2
+pub returns-after-loop-next-clause-read : goal.returns-after-loop-next-clause-read
+returns-after-loop-next-clause-read c = c.loop-next.invariant.read

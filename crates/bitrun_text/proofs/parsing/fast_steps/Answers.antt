@@ -1,46 +1,47 @@
-use Rattle.std.proofs.Common.{◌<◌, length, refl, arith}
-use Rattle.bitrun_text.specs.Text.{word_lines}
+use Rattle.std.proofs.Common.{◌≡◌, ◌+◌, ◌-◌, ◌<◌, [], ◌∷◌, ◌++◌, length, drop, arith, length-drop}
+use Rattle.std.proofs.lemmas.List.{length-append}
 use Rattle.bitrun_text.proofs.StepLines.{step_passed, one_line}
 use Rattle.bitrun_text.proofs.parsing.fast_steps.Goals as goal
 
-pub loop-rest-init : goal.loop-rest-init
-loop-rest-init g c = (λ all h. h, refl, omega arith)
-
-pub overflow_add-line : goal.overflow_add-line
-overflow_add-line g c = omega (arith, c.loop-rest.invariant.1, c.requires)
-
-pub loop-rest-smaller-in-Some : goal.loop-rest-smaller-in-Some
-loop-rest-smaller-in-Some g c =
-    let text = c.loop-rest.rest.now in
-    let next = c.in-Some.next.now in
+pub loop-at-preserved-in-Some : goal.loop-at-preserved-in-Some
+loop-at-preserved-in-Some g c =
+    let text = c.args.text.now in
+    let number = c.args.number.now in
+    let before = c.len-before.result in
+    let at = c.loop-at.at in
+    let items = c.loop-at.steps.items in
+    let empty = c.loop-at.empty in
+    let kept = c.loop-at.invariant in
+    let step = c.in-Some.step in
+    let end = c.in-Some.end in
     let line = c.in-Some.ensures in
-    let fewer : length (word_lines next) < length (word_lines text) = omega (arith, one_line text next line.some line.step.later) in
-    fewer
+    let some : 0 < length (drop at text) = omega (arith, length-drop at text, line.order, line.room) in
+    let longer : length (items ++ step ∷ []) ≡ length items + 1 = length-append items (step ∷ []) in
+    rw c.push_reserved.ensures.items (record {
+      read = λ all h. (
+          let same : number + (length items - before + empty) + 1 ≡ number + (length (items ++ step ∷ []) - before + empty) = omega (arith, kept.grown, longer) in
+          rw same at (step_passed c.args.count (drop at text) (drop end text) some all items (number + (length items - before + empty)) (kept.read all h) step line.step line.within));
+      counted = omega (arith, kept.counted, kept.grown, longer, one_line (drop at text) (drop end text) some line.step.later);
+      grown = omega (arith, kept.grown, longer);
+      within = line.room;
+    })
 
-pub loop-rest-preserved-in-Some : goal.loop-rest-preserved-in-Some
-loop-rest-preserved-in-Some g c =
-    let text = c.loop-rest.rest.now in
-    let next = c.in-Some.next.now in
-    let line = c.in-Some.ensures in
-    rw c.push_reserved.ensures.items (
-      λ all h. step_passed c.args.count text next line.some all c.loop-rest.steps.items c.loop-rest.line (c.loop-rest.invariant.0 all h) c.in-Some.step line.step line.within,
-      omega (arith, c.loop-rest.invariant.1, one_line text next line.some line.step.later),
-      omega (arith, c.loop-rest.invariant.2),
-    )
-
-pub after_empty_lines-last-requires : goal.after_empty_lines-last-requires
-after_empty_lines-last-requires g c = omega (arith, c.loop-rest.invariant.1, c.requires)
-
-pub loop-rest-smaller : goal.loop-rest-smaller
-loop-rest-smaller g c =
-    let empty = c.after_empty_lines-last.ensures in
-    let fewer : length (word_lines c.after_empty_lines-last.result.0.now) < length (word_lines c.loop-rest.rest.now) = omega (arith, empty.counted, empty.order, c.if-last-line.false) in
-    fewer
-
-pub loop-rest-preserved : goal.loop-rest-preserved
-loop-rest-preserved g c =
-    let empty = c.after_empty_lines-last.ensures in (
-      λ all h. empty.read c.args.count all c.loop-rest.steps.items (c.loop-rest.invariant.0 all h),
-      omega (arith, c.loop-rest.invariant.1, empty.counted),
-      omega (arith, c.loop-rest.invariant.2, empty.order),
-    )
+pub loop-at-preserved : goal.loop-at-preserved
+loop-at-preserved g c =
+    let text = c.args.text.now in
+    let number = c.args.number.now in
+    let before = c.len-before.result in
+    let at = c.loop-at.at in
+    let items = c.loop-at.steps.items in
+    let empty = c.loop-at.empty in
+    let kept = c.loop-at.invariant in
+    let end = c.after_empty_lines-end.result in
+    let passed = c.after_empty_lines-end.ensures in
+    record {
+      read = λ all h. (
+          let same : number + (length items - before + empty) + (end - at) ≡ number + (length items - before + (empty + (end - at))) = omega arith in
+          rw same at (passed.read c.args.count all items (number + (length items - before + empty)) (kept.read all h)));
+      counted = omega (arith, kept.counted, passed.counted);
+      grown = kept.grown;
+      within = passed.room;
+    }

@@ -1,13 +1,18 @@
--- What the loop over the lines keeps: those passed are read, whatever lines were read before them. A round ends nearer to the last line.
-use Rattle.std.proofs.Common.{◌≡◌, ◌≤◌, ◌+◌, ℕ, List, length}
+-- What the loop over the lines keeps: those passed are read, whatever lines were read before them. Each is a step more, or counts as empty. A
+-- round ends nearer to the end of the text.
+use Rattle.std.proofs.Common.{◌≡◌, ◌≤◌, ◌+◌, ◌-◌, ℕ, List, length, drop}
 use Rattle.bitrun_text.specs.Text.{word_lines}
 use Rattle.bitrun_text.specs.Form.{ReadSoFar}
 use Rattle.bitrun_text.proofs.parsing.fast_steps.Given as goal
 
-abbrev pub invariant-loop-rest : goal.invariant-loop-rest
-invariant-loop-rest g l =
-    ((all : List (List (List ℕ))) → ReadSoFar l.count all l.fn.steps.items l.fn.number (word_lines l.fn.text) → ReadSoFar l.count all l.steps.items l.line (word_lines l.rest))
-    × (l.line + length (word_lines l.rest) ≡ l.fn.number + length (word_lines l.fn.text)) × (l.fn.number ≤ l.line)
+abbrev pub invariant-loop-at : goal.invariant-loop-at
+invariant-loop-at g l = record {
+  read : (all : List (List (List ℕ))) → ReadSoFar l.count all l.fn.steps.items l.fn.number (word_lines l.fn.text)
+      → ReadSoFar l.count all l.steps.items (l.fn.number + (length l.steps.items - l.before + l.empty)) (word_lines (drop l.at l.text));
+  counted : length l.steps.items - l.before + l.empty + length (word_lines (drop l.at l.text)) ≡ length (word_lines l.fn.text);
+  grown : l.before ≤ length l.steps.items;
+  within : l.at ≤ length l.text;
+}
 
-abbrev pub decreases-loop-rest : goal.decreases-loop-rest
-decreases-loop-rest g l = length (word_lines l.rest)
+abbrev pub decreases-loop-at : goal.decreases-loop-at
+decreases-loop-at g l = length l.text - l.at

@@ -1,0 +1,177 @@
+//! The numbers of a step, read at a place of its line. As a rule a number has one to three digits, and after them comes the blank that also
+//! stands before it, or the LF. What else is right has arms of its own, which cost hardly anything where they aren't entered.
+
+ghost use Rattle.std.specs.Prelude.{◌≡◌, ◌≤◌, ◌<◌, ◌+◌, ◌-◌, true, length, drop, Some, IfSome};
+ghost use Rattle.bitrun_text.specs.Text.{is_blank, left_of};
+ghost use Rattle.bitrun_text.specs.Numeral.{Reads, first_number};
+ghost use Rattle.bitrun_text.specs.Fast.{EndsLine, EndsWithNumber};
+
+use crate::short_number::{few_digits, more_digits};
+use crate::text::is_blank;
+
+/// The number of one of so many registers, which is the next word of the line, and the place after the blank that follows it. The text has
+/// so many bytes from the place on, and at most five of them fewer after the word.
+#[inline(always)]
+pub fn next_register(
+    text: &[u8],
+    at: usize,
+    count: usize,
+    blank: u8,
+    room: usize,
+) -> Option<(usize, usize)>
+    requires blank { is_blank blank ≡ true }
+    requires some { 5 ≤ room }
+    requires room { at + room ≤ length text.now }
+    ensures number { IfSome result (λ p. first_number count (left_of (drop at text.now)).words ≡ Some (p.0, (left_of (drop p.1 text.now)).words)) }
+    ensures below { IfSome result (λ p. p.0 < count) }
+    ensures later { IfSome result (λ p. (left_of (drop p.1 text.now)).later ≡ (left_of (drop at text.now)).later) }
+    ensures order { IfSome result (λ p. at < p.1) }
+    ensures room { IfSome result (λ p. p.1 + room ≤ length text.now + 5) }
+{
+    if let Some((number, end, followed)) = few_digits(text, at, blank) {
+        if followed {
+            return below(number, end, count);
+        }
+        return long_register(text, at, number, end, count, room);
+    }
+    let at = after_blanks(text, at, blank, room)?;
+    let (number, end, followed) = few_digits(text, at, blank)?;
+    if followed {
+        return below(number, end, count);
+    }
+    long_register(text, at, number, end, count, room - 1)
+}
+
+/// The number of one of so many registers at the place, of which these digits are read, and the place after the blank that follows it.
+#[inline(always)]
+fn long_register(
+    text: &[u8],
+    at: usize,
+    number: u64,
+    end: usize,
+    count: usize,
+    room: usize,
+) -> Option<(usize, usize)>
+    requires reads { Reads (drop at text.now) (end - at) number }
+    requires some { at < end }
+    requires short { end ≤ at + 3 }
+    requires least { 4 ≤ room }
+    requires room { at + room ≤ length text.now }
+    ensures number { IfSome result (λ p. first_number count (left_of (drop at text.now)).words ≡ Some (p.0, (left_of (drop p.1 text.now)).words)) }
+    ensures below { IfSome result (λ p. p.0 < count) }
+    ensures later { IfSome result (λ p. (left_of (drop p.1 text.now)).later ≡ (left_of (drop at text.now)).later) }
+    ensures order { IfSome result (λ p. at < p.1) }
+    ensures room { IfSome result (λ p. p.1 + room ≤ length text.now + 4) }
+{
+    if is_blank(text[end]) {
+        return below(number, end + 1, count);
+    }
+    let (number, end) = more_digits(text, at, number, end, room - 4)?;
+    if !is_blank(text[end]) {
+        return None;
+    }
+    below(number, end + 1, count)
+}
+
+/// The number and the place, where the number is below the count.
+#[inline(always)]
+pub fn below(number: u64, place: usize, count: usize) -> Option<(usize, usize)>
+    ensures same { IfSome result (λ p. (p.0 ≡ number) × (p.1 ≡ place)) }
+    ensures below { IfSome result (λ p. p.0 < count) }
+{
+    let number = number as usize;
+    if number >= count {
+        return None;
+    }
+    Some((number, place))
+}
+
+/// The number of the last word of the line, and the place after the line.
+#[inline(always)]
+pub fn last_number(text: &[u8], at: usize, blank: u8) -> Option<(u64, usize)>
+    requires blank { is_blank blank ≡ true }
+    requires room { at + 6 ≤ length text.now }
+    ensures number { IfSome result (λ p. EndsWithNumber (drop at text.now) p.0 (drop p.1 text.now)) }
+    ensures order { IfSome result (λ p. at < p.1) }
+    ensures room { IfSome result (λ p. p.1 ≤ length text.now) }
+{
+    if let Some((number, end, followed)) = few_digits(text, at, b'\n') {
+        if followed {
+            return Some((number, end));
+        }
+        return long_last_number(text, at, number, end);
+    }
+    let at = after_blanks(text, at, blank, 6)?;
+    let (number, end, followed) = few_digits(text, at, b'\n')?;
+    if followed {
+        return Some((number, end));
+    }
+    long_last_number(text, at, number, end)
+}
+
+/// The number of the word at the place, of which these digits are read, and the place after the line.
+#[inline(always)]
+fn long_last_number(text: &[u8], at: usize, number: u64, end: usize) -> Option<(u64, usize)>
+    requires reads { Reads (drop at text.now) (end - at) number }
+    requires some { at < end }
+    requires short { end ≤ at + 3 }
+    requires room { at + 5 ≤ length text.now }
+    ensures number { IfSome result (λ p. EndsWithNumber (drop at text.now) p.0 (drop p.1 text.now)) }
+    ensures order { IfSome result (λ p. at < p.1) }
+    ensures room { IfSome result (λ p. p.1 ≤ length text.now) }
+{
+    if !text[end].is_ascii_digit() {
+        return Some((number, after_line_end(text, end)?));
+    }
+    let (number, end) = more_digits(text, at, number, end, 1)?;
+    Some((number, after_line_end(text, end)?))
+}
+
+/// The place after the blanks of one kind, where such a one stands at the place. As a rule it is one. The text has so many bytes from the
+/// place on, and at most one of them fewer after the blanks.
+#[inline(always)]
+fn after_blanks(text: &[u8], at: usize, blank: u8, room: usize) -> Option<usize>
+    requires blank { is_blank blank ≡ true }
+    requires some { 2 ≤ room }
+    requires room { at + room ≤ length text.now }
+    ensures same { IfSome result (λ next. left_of (drop next text.now) ≡ left_of (drop at text.now)) }
+    ensures order { IfSome result (λ next. at < next) }
+    ensures room { IfSome result (λ next. next + room ≤ length text.now + 1) }
+{
+    if text[at] != blank {
+        return None;
+    }
+    if text[at + 1] != blank {
+        return Some(at + 1);
+    }
+    let mut next = at + 2;
+    while next < text.len() && text[next] == blank {
+        next += 1;
+    }
+    if next + room > text.len() {
+        return None;
+    }
+    Some(next)
+}
+
+/// The place after the line, where it ends at the place: with an LF, or with blanks and one.
+#[inline(always)]
+fn after_line_end(text: &[u8], at: usize) -> Option<usize>
+    requires { at + 2 ≤ length text.now }
+    ensures line { IfSome result (λ end. EndsLine (drop at text.now) (drop end text.now)) }
+    ensures order { IfSome result (λ end. at < end) }
+    ensures room { IfSome result (λ end. end ≤ length text.now) }
+{
+    if text[at] == b'\r' && text[at + 1] == b'\n' {
+        return Some(at + 2);
+    }
+    let mut end = at;
+    while end < text.len() && is_blank(text[end]) {
+        end += 1;
+    }
+    if end < text.len() && text[end] == b'\n' {
+        Some(end + 1)
+    } else {
+        None
+    }
+}
