@@ -1,10 +1,10 @@
-//! Lines of steps, read by an index from the start of the text. Nothing here takes a call, so that no part of a line need be stored in
+//! Lines of steps, read by an index from the start of the text. Nothing here makes a call, so that no part of a line need be stored in
 //! memory. As a rule a line has a name, one blank before each operand, registers of one to three digits, and the LF: these are tried first.
 //! More blanks, more digits, and blanks at the end of the line have arms of their own.
 //!
 //! A result of `None` says nothing of a line, so whoever asks goes on with its words. It is given for a line that is bad, begins with a
-//! blank or is one of the last two of a text, and where a number has more than 18 digits, not counting five zeros in front, several blanks
-//! before an operand are not all of the kind that follows the name, or a CR follows a name of two or three letters.
+//! blank or is one of the last two of a text, and where a number has 18 digits or more, several blanks before an operand are not all of
+//! the kind that follows the name, or a CR follows a name of two or three letters.
 
 ghost use Rattle.std.specs.Prelude.{◌≡◌, ◌≤◌, ◌<◌, ◌+◌, ◌^◌, [], true, length, drop, get_or, take, Some, IfSome, MatchOption, ⊤};
 ghost use Rattle.std.specs.Int.{w32, to_be_bytes};
