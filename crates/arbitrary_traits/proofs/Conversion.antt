@@ -46,3 +46,12 @@ amount-stays s B p (pos n) h e f l = ap pos (e ∙ residue-pos B n (below s f))
     below true f = let u = f.high in let o = pow_le (B - 1) B (omega arith) in omega (arith, ints)
 
 pub ruleset amounts = (amount-stays)
+
+-- with no sign a number is its own pattern, in as many bits as there are or more
+pub pattern-of_unsigned : (s : Bool) (B p : ℕ) (x : ℤ) → B ≤ 128 → InRange s B x → p ≡ residue 128 x → s ≡ false → pos p ≡ x
+pattern-of_unsigned true B p x h f e n = absurd (cc)
+pattern-of_unsigned false B p x h f e n =
+    let o = pow_le B 128 h in
+    amount-stays false 128 p x (omega arith) e (record { low = f.low; high = omega (arith, ints, f.high, o) }) f.low
+
+pub ruleset patterns = (pattern-of_unsigned)

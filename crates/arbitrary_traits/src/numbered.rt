@@ -30,6 +30,7 @@ pub trait Numbered: Copy + Sealed {
     /// The number's 128 bits: its residue modulo `2 ^ 128`.
     fn to_u128_bits(self) -> u128
         ensures value { result ≡ residue 128 (number self) }
+        ensures plain { IS_SIGNED ≡ false → pos result ≡ number self }
         ensures range { InRange IS_SIGNED BITS (number self) }
         ensures width { valid };
 

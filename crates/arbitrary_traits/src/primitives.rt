@@ -136,6 +136,7 @@ impl<T: Primitive> Numbered for T {
 
     ghost number = { T.number };
 
+    #[tactic(auto, using(crate::proofs::Conversion::patterns))]
     fn to_u128_bits(self) -> u128 {
         let _pattern = self.storage_bits();
         to_u128_bits(self)

@@ -39,6 +39,7 @@ where
 
     ghost number = { λ x. x };
 
+    #[tactic(auto, using(arbitrary_traits::proofs::Conversion::patterns))]
     fn to_u128_bits(self) -> u128 {
         to_u128_bits(Int::<T, BITS>::value(self))
     }

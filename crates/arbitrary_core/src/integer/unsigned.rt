@@ -34,6 +34,7 @@ impl<T: BuiltinInteger + UnsignedStorage, const BITS: usize> Numbered for UInt<T
 
     ghost number = { λ x. x };
 
+    #[tactic(auto, using(arbitrary_traits::proofs::Conversion::patterns))]
     fn to_u128_bits(self) -> u128 {
         to_u128_bits(UInt::<T, BITS>::value(self))
     }
