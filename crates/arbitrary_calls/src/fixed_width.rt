@@ -109,10 +109,10 @@ pub trait FixedWidth: Integer + FixedWidthCalls {
         → (r ≡ and_of a b) × (fits a ≡ true) × (fits b ≡ true) };
 
     // Orders where the type has no sign: what `&` gives is at most each operand, and what `|` gives at least.
-    ghost and_at_most_left: { (a b r : Self) → Self.bitand_gives a b r → Self.valid
+    ghost and_at_most_left: { (a b r : Self) → Self.bitand_gives a b r
         → Self.IS_SIGNED ≡ false → Self.number r ≤ℤ Self.number a };
 
-    ghost and_at_most_right: { (a b r : Self) → Self.bitand_gives a b r → Self.valid
+    ghost and_at_most_right: { (a b r : Self) → Self.bitand_gives a b r
         → Self.IS_SIGNED ≡ false → Self.number r ≤ℤ Self.number b };
 
     // 1 as a mask leaves the remainder by 2.
@@ -135,10 +135,10 @@ pub trait FixedWidth: Integer + FixedWidthCalls {
     ghost or_gives: { (a b r : Self) → Self.bitor_gives a b r
         → (r ≡ or_of a b) × (fits a ≡ true) × (fits b ≡ true) };
 
-    ghost or_at_least_left: { (a b r : Self) → Self.bitor_gives a b r → Self.valid
+    ghost or_at_least_left: { (a b r : Self) → Self.bitor_gives a b r
         → Self.IS_SIGNED ≡ false → Self.number a ≤ℤ Self.number r };
 
-    ghost or_at_least_right: { (a b r : Self) → Self.bitor_gives a b r → Self.valid
+    ghost or_at_least_right: { (a b r : Self) → Self.bitor_gives a b r
         → Self.IS_SIGNED ≡ false → Self.number b ≤ℤ Self.number r };
 
     ghost or_fits: { (a b : Self) → fits (or_of a b) ≡ true };

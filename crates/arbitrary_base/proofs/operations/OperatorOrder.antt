@@ -1,6 +1,6 @@
 -- The operators `!`, `&` and `|` beside the order of numbers, as `FixedWidth` has them for generic code: a complement is its operand mirrored
 -- in the range, and where the type has no sign, `&` is at most its operands and `|` at least.
-use Rattle.std.specs.Prelude.{◌≡◌, ◌≤◌, ◌+◌, ◌^◌, ℕ, ℤ, Bool, true, false, pos, negsuc, map, not, ◌+ℤ◌, ◌-ℤ◌, ◌≤ℤ◌}
+use Rattle.std.specs.Prelude.{◌≡◌, ◌≤◌, ◌+◌, ◌^◌, ℕ, ℤ, zero, suc, Bool, true, false, pos, negsuc, map, not, ◌+ℤ◌, ◌-ℤ◌, ◌≤ℤ◌}
 use Rattle.std.proofs.Common.{sym, ap, subst, ◌∙◌, arith}
 use Rattle.std.proofs.lemmas.Int.{ints}
 use Rattle.arbitrary_base.specs.BitList.{bits, bits_and, bits_or, num, val}
@@ -54,18 +54,22 @@ below B x y z h f e =
     let d = num-and_right (bits B x) (bits B y) in
     omega (arith, ints)
 
--- the right operand; the left one by the same with the operands turned round
-pub and-at_most : (s : Bool) (B : ℕ) (x y r : ℤ) → s ≡ false → 1 ≤ B → r ≡ val s (bits_and (bits B x) (bits B y)) → val s (bits B y) ≡ y → r ≤ℤ y
-and-at_most false B x y r n h e f = below B x y r h (of_own_bits false B y h f) (e ∙ sym (and-is false B x y))
-and-at_most true B x y r n h e f = absurd (cc)
+-- the right operand; the left one by the same with the operands turned round. At no bits each number is that of no bit.
+pub and-at_most : (s : Bool) (B : ℕ) (x y r : ℤ) → s ≡ false → r ≡ val s (bits_and (bits B x) (bits B y)) → val s (bits B y) ≡ y → r ≤ℤ y
+unfolding bits
+and-at_most false zero x y r n e f = omega (arith, ints, e, f)
+and-at_most false (suc k) x y r n e f = below (suc k) x y r (omega arith) (of_own_bits false (suc k) y (omega arith) f) (e ∙ sym (and-is false (suc k) x y))
+and-at_most true B x y r n e f = absurd (cc)
 
-pub and-at_most_left : (s : Bool) (B : ℕ) (x y r : ℤ) → s ≡ false → 1 ≤ B → r ≡ val s (bits_and (bits B x) (bits B y)) → val s (bits B x) ≡ x → r ≤ℤ x
-and-at_most_left s B x y r n h e f =
-    and-at_most s B y x r n h (e ∙ sym (and-is s B x y) ∙ bitwise_and-commutes s B x y ∙ and-is s B y x) f
+pub and-at_most_left : (s : Bool) (B : ℕ) (x y r : ℤ) → s ≡ false → r ≡ val s (bits_and (bits B x) (bits B y)) → val s (bits B x) ≡ x → r ≤ℤ x
+and-at_most_left s B x y r n e f =
+    and-at_most s B y x r n (e ∙ sym (and-is s B x y) ∙ bitwise_and-commutes s B x y ∙ and-is s B y x) f
 
-pub or-at_least : (s : Bool) (B : ℕ) (x y r : ℤ) → s ≡ false → 1 ≤ B → r ≡ val s (bits_or (bits B x) (bits B y)) → val s (bits B x) ≡ x → x ≤ℤ r
-or-at_least s B x y r n h e f = or-keeps s B x y r n h (of_own_bits s B x h f) (e ∙ sym (or-is s B x y))
+pub or-at_least : (s : Bool) (B : ℕ) (x y r : ℤ) → s ≡ false → r ≡ val s (bits_or (bits B x) (bits B y)) → val s (bits B x) ≡ x → x ≤ℤ r
+unfolding bits
+or-at_least s zero x y r n e f = omega (arith, ints, e, f)
+or-at_least s (suc k) x y r n e f = or-keeps s (suc k) x y r n (omega arith) (of_own_bits s (suc k) x (omega arith) f) (e ∙ sym (or-is s (suc k) x y))
 
-pub or-at_least_right : (s : Bool) (B : ℕ) (x y r : ℤ) → s ≡ false → 1 ≤ B → r ≡ val s (bits_or (bits B x) (bits B y)) → val s (bits B y) ≡ y → y ≤ℤ r
-or-at_least_right s B x y r n h e f =
-    or-at_least s B y x r n h (e ∙ sym (or-is s B x y) ∙ bitwise_or-commutes s B x y ∙ or-is s B y x) f
+pub or-at_least_right : (s : Bool) (B : ℕ) (x y r : ℤ) → s ≡ false → r ≡ val s (bits_or (bits B x) (bits B y)) → val s (bits B y) ≡ y → y ≤ℤ r
+or-at_least_right s B x y r n e f =
+    or-at_least s B y x r n (e ∙ sym (or-is s B x y) ∙ bitwise_or-commutes s B x y ∙ or-is s B y x) f

@@ -86,9 +86,9 @@ where
       own_bits _ _ _ h.2,
     ) };
 
-    ghost and_at_most_left = { λ a b r h v n. and-at_most_left _ _ _ _ _ n v.0 h.0 h.1 };
+    ghost and_at_most_left = { λ a b r h n. and-at_most_left _ _ _ _ _ n h.0 h.1 };
 
-    ghost and_at_most_right = { λ a b r h v n. and-at_most _ _ _ _ _ n v.0 h.0 h.2 };
+    ghost and_at_most_right = { λ a b r h n. and-at_most _ _ _ _ _ n h.0 h.2 };
 
     ghost and_one = { λ a b r h v e. and-one _ _ _ _ _ v.0 h.0 h.2 e };
 
@@ -108,9 +108,9 @@ where
       own_bits _ _ _ h.2,
     ) };
 
-    ghost or_at_least_left = { λ a b r h v n. or-at_least _ _ _ _ _ n v.0 h.0 h.1 };
+    ghost or_at_least_left = { λ a b r h n. or-at_least _ _ _ _ _ n h.0 h.1 };
 
-    ghost or_at_least_right = { λ a b r h v n. or-at_least_right _ _ _ _ _ n v.0 h.0 h.2 };
+    ghost or_at_least_right = { λ a b r h n. or-at_least_right _ _ _ _ _ n h.0 h.2 };
 
     ghost or_fits = { λ a b. own_bits-or _ _ _ _ };
 
