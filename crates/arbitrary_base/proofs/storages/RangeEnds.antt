@@ -1,14 +1,21 @@
 -- The least and the greatest number of a type, and what saturates, as `num_traits` asks for them.
-use Rattle.std.specs.Prelude.{◌≡◌, ◌↔◌, ◌≤ℤ◌, ◌<ℤ◌, ◌≤◌, ℕ, ℤ, Bool, pos}
+use Rattle.std.specs.Prelude.{◌≡◌, ◌↔◌, ◌≤ℤ◌, ◌<ℤ◌, ◌≤◌, ◌-◌, ℕ, ℤ, Bool, true, false, pos}
 use Rattle.std.specs.Int.{IsInRange}
 use Rattle.std.proofs.Common.{arith, ◌∙◌}
 use Rattle.std.proofs.lemmas.Int.{ints}
+use Rattle.std.proofs.lemmas.Nat.{pow_pos}
 use Rattle.arbitrary_base.specs.Range.{lo, hi}
 use Rattle.arbitrary_base.specs.Residue.{wrap}
 use Rattle.arbitrary_base.specs.Saturation.{clamp}
+use Rattle.arbitrary_base.proofs.modular.Congruence.{pow_le}
 use Rattle.arbitrary_base.proofs.modular.Residue.{wrap-in_range}
 use Rattle.arbitrary_base.proofs.storages.Clamp.{clamp-fits, clamp-above, clamp-below}
 use Rattle.arbitrary_base.proofs.modular.Representable.{representable-in_range}
+
+-- the ends in order, with 0 among the numbers between them
+pub ends-in_order : (s : Bool) (B : ℕ) → 1 ≤ B → (lo s B ≤ℤ pos 0) × (pos 0 ≤ℤ hi s B) × (lo s B <ℤ hi s B)
+ends-in_order false B o = let p = pow_le 1 B o in (omega (arith, ints), omega (arith, ints), omega (arith, ints))
+ends-in_order true B o = let p = pow_pos (B - 1) in (omega (arith, ints), omega (arith, ints), omega (arith, ints))
 
 -- the low end is not above the high end
 ends : (s : Bool) (B : ℕ) → 1 ≤ B → lo s B ≤ℤ hi s B

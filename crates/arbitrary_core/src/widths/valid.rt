@@ -1,6 +1,11 @@
 //! The integer types whose width is valid, shown by a trait: so generic code makes a number of the type, and
 //! requires no valid width of whoever calls it.
 
+ghost use Rattle.std.specs.Prelude.{◌≤ℤ◌, ◌<ℤ◌, pos, true, false};
+ghost use Rattle.arbitrary_base.specs.Range.{lo, hi};
+ghost use Rattle.arbitrary_base.proofs.storages.RangeEnds.{ends-in_order};
+ghost use Rattle.std.proofs.Common.{rules};
+
 use crate::signed::Int;
 use crate::unsigned::UInt;
 use crate::widths::HasWidth;
@@ -13,6 +18,11 @@ use arbitrary_traits::integer::Integer;
 /// With this bound `V::zero()`, `V::new(..)` and what else requires a valid width need no `requires` of their own.
 pub trait ValidWidth: Integer {
     ghost valid_law: { Self.valid };
+
+    // The ends of the range in order, with 0 between them.
+    ghost ends_law: { let lowest = lo Self.IS_SIGNED Self.BITS in
+        let highest = hi Self.IS_SIGNED Self.BITS in
+        (lowest ≤ℤ pos 0) × (pos 0 ≤ℤ highest) × (lowest <ℤ highest) };
 }
 
 impl<T: BuiltinInteger + UnsignedStorage + HasWidth<BITS>, const BITS: usize> ValidWidth
@@ -22,6 +32,8 @@ where
     <T::Signed as BuiltinInteger>::Unsigned: UnsignedOf<T::Signed>,
 {
     ghost valid_law = { T.valid_law };
+
+    ghost ends_law = { ends-in_order T.SIGNED BITS (T.valid_law.0) };
 }
 
 impl<T: BuiltinInteger + SignedStorage + HasWidth<BITS>, const BITS: usize> ValidWidth
@@ -30,44 +42,66 @@ where
     T::Unsigned: UnsignedOf<T>,
 {
     ghost valid_law = { T.valid_law };
+
+    ghost ends_law = { ends-in_order T.SIGNED BITS (T.valid_law.0) };
 }
 
 impl ValidWidth for u8 {
     ghost valid_law = { tt };
+
+    ghost ends_law = { ends-in_order false 8 (Prim.search rules) };
 }
 
 impl ValidWidth for u16 {
     ghost valid_law = { tt };
+
+    ghost ends_law = { ends-in_order false 16 (Prim.search rules) };
 }
 
 impl ValidWidth for u32 {
     ghost valid_law = { tt };
+
+    ghost ends_law = { ends-in_order false 32 (Prim.search rules) };
 }
 
 impl ValidWidth for u64 {
     ghost valid_law = { tt };
+
+    ghost ends_law = { ends-in_order false 64 (Prim.search rules) };
 }
 
 impl ValidWidth for u128 {
     ghost valid_law = { tt };
+
+    ghost ends_law = { ends-in_order false 128 (Prim.search rules) };
 }
 
 impl ValidWidth for i8 {
     ghost valid_law = { tt };
+
+    ghost ends_law = { ends-in_order true 8 (Prim.search rules) };
 }
 
 impl ValidWidth for i16 {
     ghost valid_law = { tt };
+
+    ghost ends_law = { ends-in_order true 16 (Prim.search rules) };
 }
 
 impl ValidWidth for i32 {
     ghost valid_law = { tt };
+
+    ghost ends_law = { ends-in_order true 32 (Prim.search rules) };
 }
 
 impl ValidWidth for i64 {
     ghost valid_law = { tt };
+
+    ghost ends_law = { ends-in_order true 64 (Prim.search rules) };
 }
 
 impl ValidWidth for i128 {
     ghost valid_law = { tt };
+
+    ghost ends_law = { ends-in_order true 128 (Prim.search rules) };
 }
