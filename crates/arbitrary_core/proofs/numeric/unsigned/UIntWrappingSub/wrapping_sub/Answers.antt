@@ -1,0 +1,10 @@
+use Rattle.std.proofs.Common.{sym, ◌∙◌}
+use Rattle.arbitrary_base.proofs.modular.Inverse.{add-undoes}
+use Rattle.arbitrary_base.proofs.operations.Definition.{difference-is, sum-is}
+use Rattle.arbitrary_core.proofs.numeric.unsigned.UIntWrappingSub.wrapping_sub.Goals as goal
+
+pub returns-clause-operation : goal.returns-clause-operation
+returns-clause-operation g c = (cc) ∙ sym (difference-is _ _ c.args.self.now c.args.v.now)
+
+pub returns-clause-undo : goal.returns-clause-undo
+returns-clause-undo g c = add-undoes _ _ c.new.result c.args.v.now _ _ c.value.ensures.width.0 c.value.ensures.range (cc) (sum-is _ _ _ _)
