@@ -54,6 +54,9 @@ where
         ensures exact { InRange T.SIGNED BITS (self.now +ℤ v.now) → result ≡ self.now +ℤ v.now }
         ensures above { hi T.SIGNED BITS <ℤ (self.now +ℤ v.now) → result ≡ hi T.SIGNED BITS }
         ensures below { (self.now +ℤ v.now) <ℤ lo T.SIGNED BITS → result ≡ lo T.SIGNED BITS }
+        ensures range { InRange T.SIGNED BITS self.now }
+        ensures bounded { InRange T.SIGNED BITS result }
+        ensures operand { InRange T.SIGNED BITS v.now }
     {
         Int::<T, BITS>::new(saturating::add(self.value(), v.value(), BITS))
     }
@@ -74,6 +77,9 @@ where
         ensures exact { InRange T.SIGNED BITS (self.now -ℤ v.now) → result ≡ self.now -ℤ v.now }
         ensures above { hi T.SIGNED BITS <ℤ (self.now -ℤ v.now) → result ≡ hi T.SIGNED BITS }
         ensures below { (self.now -ℤ v.now) <ℤ lo T.SIGNED BITS → result ≡ lo T.SIGNED BITS }
+        ensures range { InRange T.SIGNED BITS self.now }
+        ensures bounded { InRange T.SIGNED BITS result }
+        ensures operand { InRange T.SIGNED BITS v.now }
     {
         Int::<T, BITS>::new(saturating::sub(self.value(), v.value(), BITS))
     }
