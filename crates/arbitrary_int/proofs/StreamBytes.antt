@@ -2,13 +2,16 @@
 use Rattle.std.specs.Prelude.{◌≡◌, ℕ, ℤ, Bool, true, false, pos, List, ◌++◌, length, take, ◌≤◌, ◌<◌, ◌*◌, ◌^◌}
 use lib.Dec.{eqb}
 use lib.Pointwise.{bytes_decides, pointwise}
-use Rattle.std.proofs.Common.{refl, sym, ap, ◌∙◌, arith}
+use Rattle.std.proofs.Common.{refl, sym, ap, subst, ◌∙◌, arith}
 use Rattle.std.proofs.Math.Seq.{take-append_seam}
 use Rattle.std.proofs.lemmas.List.{take_all}
 use Rattle.std.specs.Int.{div_ceil}
 use Rattle.arbitrary_base.specs.Range.{InRange}
-use Rattle.arbitrary_base.specs.Residue.{wrap}
+use Rattle.arbitrary_base.specs.Residue.{Congruent, wrap}
 use Rattle.arbitrary_base.specs.Bytes.{BorshBytes, bytes, bytes_number}
+use Rattle.arbitrary_base.proofs.modular.ExactOrCongruent.{wrapped-congruent}
+use Rattle.arbitrary_base.proofs.modular.Residue.{wrap-of_in_range}
+use Rattle.arbitrary_base.proofs.storages.Primitive.{unsigned-in_range}
 use Rattle.arbitrary_base.proofs.bytes.NumberOfBytes.{Borsh-canonical, bytes-wrap, length-Borsh, wrap-Borsh}
 
 pub Borsh-told : (B : ℕ) (x : ℤ) → (BorshBytes B x ≡ BorshBytes B x) × (length (BorshBytes B x) ≡ div_ceil B 8) × (bytes_number (BorshBytes B x) < 2 ^ B)
@@ -38,6 +41,13 @@ first-of_Borsh B x more h f = (refl, told-first false B x h f more)
 
 pub first-of_Borsh_signed : (B : ℕ) (x : ℤ) (more : List ℕ) → 1 ≤ B → InRange true B x → (BorshBytes B x ++ more ≡ BorshBytes B x ++ more) × (told true B (BorshBytes B x ++ more) ≡ x)
 first-of_Borsh_signed B x more h f = (refl, told-first true B x h f more)
+
+-- the number that is read from canonical bytes: the one that they tell, and with a sign one that is congruent to it
+pub number-of_pattern : (s : Bool) (B p : ℕ) (l : List ℕ) (x : ℤ) → 1 ≤ B → p ≡ bytes_number l → bytes_number l < 2 ^ B → x ≡ wrap s B (pos p)
+    → (s ≡ false → x ≡ pos (bytes_number l)) × (s ≡ true → Congruent B x (pos (bytes_number l)))
+number-of_pattern s B p l x w e h f =
+    let g : x ≡ wrap s B (pos (bytes_number l)) = f ∙ ap (λ (k : ℕ). wrap s B (pos k)) e in
+    ((λ u. g ∙ wrap-of_in_range s B (pos (bytes_number l)) w (subst (λ (t : Bool). InRange t B (pos (bytes_number l))) (sym u) (unsigned-in_range B (bytes_number l) h))), (λ _. wrapped-congruent s B (pos (bytes_number l)) x g))
 
 -- a test of two arrays of bytes
 pub bytes-compared : (l m : List ℕ) → (pointwise eqb l m ≡ pointwise eqb l m) × (l ≡ m → pointwise eqb l m ≡ true) × (pointwise eqb l m ≡ true → l ≡ m)

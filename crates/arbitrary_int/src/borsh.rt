@@ -1,10 +1,11 @@
 //! Values in a stream, in the Borsh form.
 
-ghost use Rattle.std.specs.Prelude.{◌≡◌, ◌≤◌, ℕ, List, length, take, drop, IfOk, OnOk, OnErr, MatchOption};
+ghost use Rattle.std.specs.Prelude.{◌≡◌, ◌≤◌, ℕ, pos, false, true, List, length, take, drop, IfOk, IfSome, OnOk, OnErr, MatchOption};
 ghost use Rattle.std.specs.Int.{div_ceil};
 ghost use Rattle.std.specs.Io.KnownBytes.{Appends, Consumes};
 ghost use Rattle.arbitrary_base.specs.Watching.{inner_of, NoFailure, Failure};
-ghost use Rattle.arbitrary_base.specs.Bytes.{BorshBytes, Canonical};
+ghost use Rattle.arbitrary_base.specs.Bytes.{BorshBytes, Canonical, bytes_number};
+ghost use Rattle.arbitrary_base.specs.Residue.{Congruent};
 ghost use Rattle.arbitrary_base.specs.Stream.{AppendsBeginning};
 ghost use Rattle.arbitrary_int.specs.Reading.{Unreadable};
 
@@ -22,6 +23,9 @@ pub trait BorshSerialize {
     // The bytes of a value.
     ghost bytes_of: { Self → List ℕ };
 
+    // How many they are.
+    ghost size_of: { Self → ℕ };
+
     /// Writes the bytes of the value, and nothing else. An error is the writer's own, or `WriteZero` where it
     /// takes nothing; a beginning of the bytes was written then. No call is made after a failed one.
     fn serialize<W: Write>(&self, writer: &mut Watched<W>) -> io::Result<()>
@@ -38,6 +42,7 @@ pub trait BorshSerialize {
     /// as it was.
     fn to_borsh_bytes(&self, out: &mut [u8; 16]) -> usize
         ensures count { result ≡ length (bytes_of self.now) }
+        ensures size { result ≡ size_of self.now }
         ensures bytes { take result out.new ≡ bytes_of self.now }
         ensures rest { drop result out.new ≡ drop result out.old };
 }
@@ -55,6 +60,9 @@ pub trait BorshDeserialize: Sized {
 
     ghost read_bytes: { Self → List ℕ };
 
+    // What a list of bytes tells of the value that has them.
+    ghost tells: { List ℕ → Self → Type 0 };
+
     /// Reads exactly the bytes of one value, and never asks for a further one. An error is the reader's own,
     /// `UnexpectedEof` where the input ends before, or `InvalidData` where the bytes are not canonical; these are
     /// then read, and what follows is left. No call is made after a failed one. The width is valid.
@@ -69,16 +77,19 @@ pub trait BorshDeserialize: Sized {
             let after = R.remaining (inner_of reader.new) in OnErr result
             (Unreadable canonical before after (Failure reader.old reader.new) count) };
 
-    /// The value that has these bytes, and `None` exactly where they are not canonical. The width is valid.
+    /// The value that has these bytes, and `None` exactly where they are not canonical. A `UInt` is the number that
+    /// they spell. The width is valid.
     fn from_borsh_bytes(bytes: &[u8]) -> Option<Self>
         requires { readable }
-        ensures { let is_canonical = canonical bytes.now in
-            MatchOption result (¬ is_canonical) (λ x. is_canonical × (read_bytes x ≡ bytes.now)) };
+        ensures bytes { let is_canonical = canonical bytes.now in
+            MatchOption result (¬ is_canonical) (λ x. is_canonical × (read_bytes x ≡ bytes.now)) }
+        ensures value { IfSome result (tells bytes.now) };
 }
 
 /// The bytes of the value, at the front of as many as any value has, and how many they are.
 fn written<V: Stored>(value: V) -> ([u8; 16], usize)
     ensures count { result.1 ≡ length (BorshBytes V.BITS (V.number value)) }
+    ensures size { result.1 ≡ div_ceil V.BITS 8 }
     ensures bound { result.1 ≤ 16 }
     ensures bytes { take result.1 result.0 ≡ BorshBytes V.BITS (V.number value) }
 {
@@ -88,6 +99,8 @@ fn written<V: Stored>(value: V) -> ([u8; 16], usize)
 
 impl<V: Stored> BorshSerialize for V {
     ghost bytes_of = { λ x. BorshBytes V.BITS (V.number x) };
+
+    ghost size_of = { λ _. div_ceil V.BITS 8 };
 
     fn serialize<W: Write>(&self, writer: &mut Watched<W>) -> io::Result<()> {
         let (all, count) = written(*self);
@@ -110,6 +123,10 @@ impl<V: Stored> BorshDeserialize for V {
     ghost canonical = { Canonical V.BITS };
 
     ghost read_bytes = { λ x. BorshBytes V.BITS (V.number x) };
+
+    ghost tells = { λ bytes x. let spelled = pos (bytes_number bytes) in
+        (V.IS_SIGNED ≡ false → V.number x ≡ spelled)
+        × (V.IS_SIGNED ≡ true → Congruent V.BITS (V.number x) spelled) };
 
     fn deserialize_reader<R: Read>(reader: &mut Watched<R>) -> io::Result<V> {
         let mut all = [0; 16];

@@ -29,5 +29,6 @@ pub mod rust_lines;
 pub mod sign_masks;
 pub mod signed_orders;
 pub mod single_bits;
+pub mod stream_bytes;
 pub mod totals;
 pub mod undone;
