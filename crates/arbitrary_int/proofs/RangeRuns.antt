@@ -1,16 +1,17 @@
 -- What each run of a range's `next` gives, and how many numbers a range has.
-use Rattle.std.specs.Prelude.{◌≡◌, ◌≤◌, ◌<◌, ◌^◌, ℕ, ℤ, pos, ◌+ℤ◌, ◌-ℤ◌, ◌≤ℤ◌, ◌<ℤ◌, negsuc, Bool, true, List, [], ◌∷◌, ◌++◌, map, length, Option, Some, None, IfSome}
+use Rattle.std.specs.Prelude.{◌≡◌, ◌≤◌, ◌<◌, ◌^◌, ℕ, ℤ, pos, ◌-◌, ◌+ℤ◌, ◌-ℤ◌, ◌≤ℤ◌, ◌<ℤ◌, negsuc, Bool, true, List, [], ◌∷◌, ◌++◌, map, length, Option, Some, None, IfSome, IsSomeAnd}
 use Rattle.std.proofs.Common.{ap, sym, subst, ◌∙◌, arith}
 use Rattle.std.proofs.lemmas.Int.{ints}
 use Rattle.std.specs.Int.{int_gap}
 use Rattle.std.specs.Iterator.{Yields, YieldsFirstBy}
-use Rattle.std.specs.Iterator.Runs.{EachRunFrom}
+use Rattle.std.specs.Option.{option_map}
+use Rattle.std.specs.Iterator.Runs.{EachRunFrom, AnyItem}
 use Rattle.std.proofs.iter.runs.Made.{took, at-is}
 use Rattle.std.proofs.iter.runs.Sources.{lists}
 use Rattle.arbitrary_base.specs.Range.{InRange}
 use Rattle.arbitrary_base.proofs.modular.Congruence.{span}
 use Rattle.arbitrary_int.specs.Row.{numbers, CountsUp}
-use Rattle.arbitrary_int.proofs.Rows.{length-numbers, numbers-none, numbers-placed}
+use Rattle.arbitrary_int.proofs.Rows.{gap-some, length-numbers, numbers-none, numbers-placed}
 use Rattle.arbitrary_int.proofs.RangeNumbers.{numbers-count}
 
 gap-less : (a b : ℤ) (k : ℕ) → k < int_gap a b → (a +ℤ pos k) <ℤ b
@@ -53,8 +54,18 @@ module _ {S A : Type 0} (number : A → ℤ) (rest : S → List ℤ) (s : S) (a 
       let all = lists p number (numbers a b) (rest ran.0) none cut in
       let gap : ℕ = int_gap a (b +ℤ pos 1) in
       let at : (k : ℕ) → IfSome (p.at k) (λ x. (number x ≡ a +ℤ pos k) × (k < gap)) = λ k. subst (λ o. IfSome o (λ x. (number x ≡ a +ℤ pos k) × (k < gap))) (sym (at-is p k)) (numbers-placed number p.items (rest ran.0) a b (sym cut) k) in
-      (all, (λ k. below a b k (p.at k) (at k)), (λ w h. ap pos (all.1 w) ∙ numbers-count a b h), (λ w h. all.1 w ∙ ap length (numbers-none a b h)))
+      let there : (k : ℕ) (y : ℤ) → p.whole ≡ true → k < gap → a +ℤ pos k ≡ y → AnyItem p (λ x. number x ≡ y) = λ k y w l e.
+      let m : k < p.len = omega (arith, l, all.1 w, length-numbers a b) in
+      (k, m, some k y _ (p.at k) e (all.2 k (pos 0) m) (at k)) in
+      let ends : p.whole ≡ true → a ≤ℤ b → AnyItem p (λ x. number x ≡ a) × AnyItem p (λ x. number x ≡ b) = λ w h.
+      let wide = gap-some a (b +ℤ pos 1) (omega (arith, ints)) in
+      (there 0 a w (omega (arith, ints)) (omega (arith, ints)), there (gap - 1) b w (omega (arith, ints)) (omega (arith, ints))) in
+      (all, (λ k. below a b k (p.at k) (at k)), (λ w h. ap pos (all.1 w) ∙ numbers-count a b h), (λ w h. all.1 w ∙ ap length (numbers-none a b h)), ends)
     where
+      some : (k : ℕ) (y z : ℤ) (o : Option A) → a +ℤ pos k ≡ y → option_map number o ≡ Some z → IfSome o (λ x. (number x ≡ a +ℤ pos k) × (k < int_gap a (b +ℤ pos 1))) → IsSomeAnd o (λ x. number x ≡ y)
+      some k y z None e n h = absurd (cc)
+      some k y z (Some x) e n h = h.0 ∙ e
+
       below : (a b : ℤ) (k : ℕ) (o : Option A) → IfSome o (λ x. (number x ≡ a +ℤ pos k) × (k < int_gap a (b +ℤ pos 1))) → IfSome o (λ x. (number x ≡ a +ℤ pos k) × (number x ≤ℤ b))
       below a b k None h = tt
       below a b k (Some x) h = (h.0, gap-below a b k (number x) h.0 h.1)

@@ -1,7 +1,7 @@
 -- Whole numbers in a row, and how far one is from another.
 use Rattle.std.specs.Prelude.{◌≡◌, ◌^◌, ℕ, ◌-◌, Bool, ℤ, pos, negsuc, ◌+ℤ◌, ◌-ℤ◌, ◌≤ℤ◌, ◌<ℤ◌, true, IfSome, List, [], map, Option, Some, None, if◌then◌else◌, nat_lt}
 use Rattle.std.specs.Int.{int_gap}
-use Rattle.std.specs.Iterator.Runs.{Run, ItemsMapTo}
+use Rattle.std.specs.Iterator.Runs.{Run, AnyItem, ItemsMapTo}
 use Rattle.std.specs.List.{range_with_len}
 
 -- the numbers from a to b, none where a is greater
@@ -12,12 +12,13 @@ numbers a b = map (λ k. a +ℤ pos k) (range_with_len 0 (int_gap a (b +ℤ pos 
 abbrev pub left : Bool → ℤ → ℤ → List ℤ
 left done a b = if done then [] else numbers a b
 
--- a run's items are the numbers from a to b: those at the front, and all where the run is whole
+-- a run's items are the numbers from a to b: those at the front, and all, a and b among them, where the run is whole
 abbrev pub CountsUp : {S A : Type 0} {next : S → Option A → S → Type 0} → Run next → (A → ℤ) → ℤ → ℤ → Type 0
 CountsUp p number a b = ItemsMapTo p number (numbers a b)
     × ((k : ℕ) → IfSome (p.at k) (λ x. (number x ≡ a +ℤ pos k) × (number x ≤ℤ b)))
     × (p.whole ≡ true → a ≤ℤ b → pos p.len ≡ b -ℤ a +ℤ pos 1)
     × (p.whole ≡ true → b <ℤ a → p.len ≡ 0)
+    × (p.whole ≡ true → a ≤ℤ b → AnyItem p (λ x. number x ≡ a) × AnyItem p (λ x. number x ≡ b))
 
 -- what `steps_between` gives for a distance: the number of steps, and all that a `usize` can say where it is more
 abbrev pub StepsBetween : ℤ → ℕ × Option ℕ → Type 0

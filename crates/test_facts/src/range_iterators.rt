@@ -103,3 +103,21 @@ pub fn downwards(low: u7, high: u7) -> u7 {
     }
     bits
 }
+
+pub fn greatest_is_the_end(low: u12, high: u12) -> Option<u12>
+    ensures { low ≤ℤ high → result ≡ Some high }
+{
+    range_inclusive(low, high).max()
+}
+
+pub fn least_is_the_beginning(low: i12, high: i12) -> Option<i12>
+    ensures { low ≤ℤ high → result ≡ Some low }
+{
+    range_inclusive(low, high).min()
+}
+
+pub fn has_its_end(low: u12, high: u12) -> bool
+    ensures { low ≤ℤ high → IsTrue result }
+{
+    range_inclusive(low, high).any(|x| x == high)
+}
