@@ -21,7 +21,8 @@ WORDS = re.compile(r'^pub ruleset words = \((.*)\)$', re.M)
 OPERATIONS = ['bits', 'distribution', 'bit_by_bit', 'mask_tests', 'shifts', 'rotations', 'reversals', 'ring', 'products', 'masks', 'complements',
               'negations', 'mixed', 'carries', 'order', 'cancellations', 'counts', 'exact']
 OF_LAWS = [*(['BitVector', it] for it in OPERATIONS), ['RightRotations', 'right_rotations'], ['MovedProducts', 'moved_products'],
-           ['Truncations', 'truncations'], ['Extensions', 'extensions'], ['LowestPlace', 'lowest_place']]
+           ['Truncations', 'truncations'], ['Extensions', 'extensions'], ['LowestPlace', 'lowest_place'],
+           ['Sets', 'signed_lists']]
 # Not among these: by the two ways to distribute `&` and `|` at once terms come without end, and what they tell is told bit by bit.
 NOT_OF_LAWS = {'and-distributes_or', 'or-distributes_and', 'and-distributes_xor'}
 LAWS = re.compile(r'^(pub ruleset laws = ).*$', re.M)

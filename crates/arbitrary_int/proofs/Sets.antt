@@ -1,5 +1,6 @@
 -- For callers: sets on fields side by side, bytes, texts, ranges and lists of steps, each by its theme. A file or a function names one:
 -- `#![tactic(auto, using(arbitrary_int::proofs::Sets::streams))]`. Those of the bit operations stand in BitVector.antt.
+use Rattle.std.specs.Cmp.Rules.{signed_items}
 use Rattle.std.proofs.lemmas.Bool.Decides.{Decides-eqb, Decides-int_eq}
 use Rattle.std.proofs.lemmas.Grind.{and_high_numeral, and_numeral, numeral_or, one_shifted, or_after_shift, or_before_shift}
 use Rattle.std.proofs.lemmas.List.{map-id, reverse-reverse}
@@ -72,6 +73,9 @@ pub ruleset streams = (Borsh-told, number-of_Borsh, number-of_Borsh_signed, firs
 
 -- bytes in the other order and of the other sign, and a test of two arrays of bytes
 pub ruleset byte_orders = (bytes-compared, bytes-converted, reverse-reverse)
+
+-- a test by `==` of two lists or arrays of these integers
+pub ruleset signed_lists = (signed_items)
 
 -- what a rotation makes of a number from 0 up, by quotient and remainder, also under a written mask
 pub ruleset rotated_numbers = (rotated_left-number, rotated_right-number, and-digits)

@@ -1,6 +1,6 @@
 //! Lists, sums, steps from value to value, and tables.
 
-ghost use Rattle.std.specs.Prelude.{◌≡◌, ◌+ℤ◌, ◌-ℤ◌, ◌*ℤ◌, ◌≤ℤ◌, ◌<ℤ◌, pos, IsTrue, IfSome};
+ghost use Rattle.std.specs.Prelude.{◌≡◌, ◌↔◌, ◌+ℤ◌, ◌-ℤ◌, ◌*ℤ◌, ◌≤ℤ◌, ◌<ℤ◌, pos, IsTrue, IfSome};
 ghost use Rattle.arbitrary_int.specs.Range.{InRange};
 
 use arbitrary_int::prelude::*;
@@ -80,4 +80,18 @@ pub fn generic_sum<V: FixedWidth>(list: &[V]) -> V
         sum = sum.saturating_add(*x);
     }
     sum
+}
+
+#[tactic(auto, using(arbitrary_int::proofs::Sets::signed_lists))]
+pub fn equal_lists(a: &[u12], b: &[u12]) -> bool
+    ensures { IsTrue result ↔ (a.now ≡ b.now) }
+{
+    a == b
+}
+
+#[tactic(auto, using(arbitrary_int::proofs::Sets::signed_lists))]
+pub fn equal_arrays(a: &[i5; 3], b: &[i5; 3]) -> bool
+    ensures { IsTrue result ↔ (a.now ≡ b.now) }
+{
+    a == b
 }
