@@ -21,6 +21,16 @@ module _ (text : List ℕ) (at : ℕ) where
   pub blank_there : at < length text → is_blank (get_or text at 0) ≡ true → position_or_len ends_word (drop at text) ≡ 0
   blank_there within blank = rw (drop_more text at 0 within) (blank_ends (get_or text at 0) (drop (at + 1) text) blank)
 
+  -- a blank more
+  pub blanks_end : (end : ℕ) → at ≤ end → end < length text → is_blank (get_or text end 0) ≡ true → (at < end → position_or_len ends_word (drop at text) ≡ 0)
+      → position_or_len ends_word (drop at text) ≡ 0
+  blanks_end end order within blank before = elim (cases_lt at end) [
+    | inl later ↦ before later
+    | inr here ↦
+        let same_place : end ≡ at = omega (arith, order, here) in
+        blank_there (rw same_place at within) (rw same_place at blank)
+  ]
+
   -- blanks, and the LF after them
   pub line_after : (end : ℕ) → at ≤ end → end < length text → left_of (drop end text) ≡ left_of (drop at text) → (at < end → position_or_len ends_word (drop at text) ≡ 0)
       → get_or text end 0 ≡ 10 → EndsLine (drop at text) (drop (end + 1) text)

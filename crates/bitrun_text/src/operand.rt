@@ -6,7 +6,7 @@ ghost use Rattle.bitrun_text.specs.Text.{is_blank, left_of};
 ghost use Rattle.bitrun_text.specs.Numeral.{Reads, first_number};
 ghost use Rattle.bitrun_text.specs.Fast.{EndsLine, EndsWithNumber};
 
-use crate::short_number::{few_digits, more_digits};
+use crate::short_number::{eight_digits, few_digits, more_digits};
 use crate::text::is_blank;
 
 /// The number of one of so many registers, which is the next word of the line, and the place after the blank that follows it. The text has
@@ -123,6 +123,10 @@ fn long_last_number(text: &[u8], at: usize, number: u64, end: usize) -> Option<(
     if !text[end].is_ascii_digit() {
         return Some((number, after_line_end(text, end)?));
     }
+    let (number, end, ended) = eight_digits(text, at, number, end);
+    if ended {
+        return Some((number, after_line_end(text, end)?));
+    }
     let (number, end) = more_digits(text, at, number, end, 1)?;
     Some((number, after_line_end(text, end)?))
 }
@@ -162,10 +166,19 @@ fn after_line_end(text: &[u8], at: usize) -> Option<usize>
     ensures order { IfSome result (λ end. at < end) }
     ensures room { IfSome result (λ end. end ≤ length text.now) }
 {
+    if text[at] == b'\n' {
+        return Some(at + 1);
+    }
     if text[at] == b'\r' && text[at + 1] == b'\n' {
         return Some(at + 2);
     }
     let mut end = at;
+    while end < text.len() && text[end] == b' ' {
+        end += 1;
+    }
+    if end < text.len() && text[end] == b'\n' {
+        return Some(end + 1);
+    }
     while end < text.len() && is_blank(text[end]) {
         end += 1;
     }

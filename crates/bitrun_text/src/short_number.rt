@@ -44,6 +44,35 @@ pub fn few_digits(text: &[u8], at: usize, byte: u8) -> Option<(u64, usize, bool)
     Some((three, at + 3, false))
 }
 
+/// The number with up to eight digits more, the place after them, and whether another byte than a digit stands there: fewer than eight
+/// are read to the end of the number. None of them has a test for the end of the text, so the compiler writes each out.
+#[inline(always)]
+pub fn eight_digits(text: &[u8], at: usize, number: u64, end: usize) -> (u64, usize, bool)
+    requires reads { Reads (drop at text.now) (end - at) number }
+    requires some { at < end }
+    requires short { end ≤ at + 3 }
+    requires start { at + 4 ≤ length text.now }
+    ensures reads { Reads (drop at text.now) (result.1 - at) result.0 }
+    ensures some { at < result.1 }
+    ensures within { result.1 < length text.now }
+    ensures room { result.2 ≡ true → result.1 + 1 < length text.now }
+{
+    if end + 9 > text.len() {
+        return (number, end, false);
+    }
+    let mut number = number;
+    let mut count = 0;
+    while count < 8 {
+        let next = digit(text[end + count]);
+        if next >= 10 {
+            return (number, end + count, true);
+        }
+        number = 10 * number + next;
+        count += 1;
+    }
+    (number, end + 8, false)
+}
+
 /// The number that digits write from the place on, some of which are read, and the place after them. There are fewer than 18 of them, and
 /// more than so many bytes follow.
 #[inline(always)]
@@ -56,8 +85,7 @@ pub fn more_digits(
 ) -> Option<(u64, usize)>
     requires reads { Reads (drop at text.now) (end - at) number }
     requires some { at < end }
-    requires short { end ≤ at + 3 }
-    requires start { at + 4 ≤ length text.now }
+    requires within { end < length text.now }
     requires room { room ≤ length text.now }
     ensures reads { IfSome result (λ p. Reads (drop at text.now) (p.1 - at) p.0) }
     ensures some { IfSome result (λ p. at < p.1) }
