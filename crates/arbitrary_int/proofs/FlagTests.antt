@@ -140,6 +140,10 @@ flags-compared s B n v x some fits more = compared s B n (low_zeros 128 n + 1) x
 
 -- ---- one flag that is written out
 
+not-twice : (b : Bool) → b ≡ not (not b)
+not-twice true = refl
+not-twice false = refl
+
 module _ (s : Bool) (B n : ℕ) (x : ℤ) (fits : pos n ≤ℤ hi s B) (alone : n ≡ 2 ^ low_zeros 128 n) (place : low_zeros 128 n < B) where
   one-written : shifted_left s B (pos 1) (low_zeros 128 n) ≡ pos n
   one-written =
@@ -156,5 +160,12 @@ module _ (s : Bool) (B n : ℕ) (x : ℤ) (fits : pos n ≤ℤ hi s B) (alone : 
   pub clear-by_flag : int_eq (bitwise_and s B x (pos n)) (pos 0) ≡ not (bit B x (low_zeros 128 n))
   clear-by_flag = ap (λ (z : ℤ). int_eq (bitwise_and s B x z) (pos 0)) (sym one-written) ∙ clear-by_mask s B (low_zeros 128 n) x place
 
+  -- so one test tells the other, with no case
+  pub set-unless_clear : int_eq (bitwise_and s B x (pos n)) (pos n) ≡ not (int_eq (bitwise_and s B x (pos n)) (pos 0))
+  set-unless_clear = set-by_flag ∙ not-twice (bit B x (low_zeros 128 n)) ∙ ap not (sym clear-by_flag)
+
 -- flags by masks that are written out, and by shifts, all told by the bits at their places
 pub ruleset flag_tests = (flags-compared, set-by_flag, clear-by_flag, set-by_shift, clear-by_shift, bit-or, bit-and, bit-xor, bit-not, bit-written)
+
+-- one flag that is tested in two ways
+pub ruleset one_flag = (Decides-int_eq, set-unless_clear)

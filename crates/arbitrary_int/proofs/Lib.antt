@@ -31,6 +31,7 @@ pub mod MaskTests
 pub mod ShiftPairs
 pub mod LongerSide
 pub mod PositiveParts
+pub mod PositiveResults
 pub mod WrittenMask
 pub mod WrittenParts
 pub mod QuotientAndCube

@@ -24,7 +24,7 @@ use Rattle.arbitrary_int.proofs.ReadBack.{low_of_three, middle_of_three}
 use Rattle.arbitrary_int.proofs.ReplacedField.{and_around, or-into_cleared, or_below_mask, or_into_hole, written-inside, written-outside}
 use Rattle.arbitrary_int.proofs.SideBySide.{below_numeral, numeral_next, or_five, or_four, or_next, or_six, or_three_up}
 use Rattle.arbitrary_int.proofs.StepWords.{difference-step, product-step, sum-step}
-use Rattle.arbitrary_int.proofs.StreamBytes.{Borsh-told, bytes-compared, bytes-converted, first-of_Borsh, first-of_Borsh_signed, number-of_Borsh, number-of_Borsh_signed}
+use Rattle.arbitrary_int.proofs.StreamBytes.{Borsh-told, bytes-compared, bytes-converted, bytes-spell, bytes-spell_signed, first-of_Borsh, first-of_Borsh_signed, number-of_Borsh, number-of_Borsh_signed, reverse-back}
 use Rattle.arbitrary_int.proofs.TextLength.{length-of_text}
 
 -- three to six fields put together by `|`, and one read back under a mask
@@ -76,6 +76,9 @@ pub ruleset byte_orders = (bytes-compared, bytes-converted, reverse-reverse)
 
 -- a test by `==` of two lists or arrays of these integers
 pub ruleset signed_lists = (signed_items)
+
+-- two numbers that are compared by their bytes in the other order
+pub ruleset swapped_bytes = (Decides-int_eq, bytes-spell, bytes-spell_signed, reverse-back)
 
 -- what a rotation makes of a number from 0 up, by quotient and remainder, also under a written mask
 pub ruleset rotated_numbers = (rotated_left-number, rotated_right-number, and-digits)

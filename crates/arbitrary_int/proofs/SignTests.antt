@@ -17,7 +17,7 @@ use Rattle.arbitrary_base.proofs.bit_lists.UnsignedNumber.{length-bits, length-n
 use Rattle.arbitrary_base.proofs.modular.Residue.{wrap-of_in_range}
 use Rattle.arbitrary_base.proofs.operations.BitsAndSums.{and-in_range, or-in_range, xor-in_range}
 use Rattle.arbitrary_base.proofs.operations.Bitwise.{bitwise_and-commutes, bitwise_or-commutes, bitwise_xor-commutes}
-use Rattle.arbitrary_base.proofs.operations.Definition.{bits-and, bits-not, bits-or, bits-xor, difference-is}
+use Rattle.arbitrary_base.proofs.operations.Definition.{bits-and, bits-not, bits-or, bits-xor, difference-is, not-in_range}
 use Rattle.arbitrary_base.proofs.operations.Order.{and-negative, ge-tested, gt-tested, le-tested, lt-tested, or-negative, xor-negative}
 use Rattle.arbitrary_base.proofs.operations.Shift.{fill-pointwise}
 use Rattle.arbitrary_base.proofs.operations.WrappedRing.{difference-in_range, difference-turned, sum-of_difference, wrapped_difference-self, wrapped_sum-commutes, wrapped_sum-zero}
@@ -58,6 +58,10 @@ lt-is x y = let a = lt-tested x y in grind (arith, ints, a)
 -- the test of a number in range whose highest bit is `b`
 by-bit : (B : ℕ) (z : ℤ) (b : Bool) → 1 ≤ B → InRange true B z → sign_bit B z ≡ b → is_lt (int_cmp z (pos 0)) ≡ b
 by-bit B z b h f e = lt-is z (pos 0) ∙ sym (sign-told B z h f) ∙ e
+
+-- the sign of a complement, where two numbers are equal if it is negative: `!((x - y) | (y - x)) < 0`
+pub not-sign : (B : ℕ) (x : ℤ) → 1 ≤ B → InRange true B x → is_lt (int_cmp (bitwise_not true B x) (pos 0)) ≡ not (is_lt (int_cmp x (pos 0)))
+not-sign B x h f = by-bit B _ _ h (not-in_range true B x h) (not-bit B x h ∙ ap not (sign-told B x h f ∙ sym (lt-is x (pos 0))))
 
 -- ---- the order: what holds of both signs `a` and `b`, that of the difference `d`, and `l` that the first number is below the second
 
@@ -229,4 +233,4 @@ pub ge-by_lt : (x y : ℤ) → is_ge (int_cmp x y) ≡ not (is_lt (int_cmp x y))
 ge-by_lt x y = let a = lt-tested x y in let b = ge-tested x y in grind (arith, ints, a, b)
 
 -- the order of two numbers, and whether they are equal, by a sign
-pub ruleset sign_tests = (Decides-int_eq, le-tested, lt-tested, ge-tested, gt-tested, ge-by_lt, and-negative, or-negative, xor-negative, below-by_bits, below-by_overflow, most-by_bits, not_zero-by_sign, positive-by_sign, differ-by_sign, like-overflow_flag, bitwise_and-commutes, bitwise_or-commutes, bitwise_xor-commutes)
+pub ruleset sign_tests = (Decides-int_eq, le-tested, lt-tested, ge-tested, gt-tested, ge-by_lt, and-negative, or-negative, xor-negative, not-sign, below-by_bits, below-by_overflow, most-by_bits, not_zero-by_sign, positive-by_sign, differ-by_sign, like-overflow_flag, bitwise_and-commutes, bitwise_or-commutes, bitwise_xor-commutes)

@@ -1,10 +1,10 @@
 -- The bytes of a number in a stream: how many they are, and that they tell the number, also where more bytes follow.
-use Rattle.std.specs.Prelude.{◌≡◌, ℕ, ℤ, Bool, true, false, pos, List, ◌++◌, length, take, ◌≤◌, ◌<◌, ◌*◌, ◌^◌}
+use Rattle.std.specs.Prelude.{◌≡◌, ℕ, ℤ, Bool, true, false, pos, List, ◌++◌, length, reverse, take, ◌≤◌, ◌<◌, ◌*◌, ◌^◌}
 use lib.Dec.{eqb}
 use lib.Pointwise.{bytes_decides, pointwise}
 use Rattle.std.proofs.Common.{refl, sym, ap, subst, ◌∙◌, arith}
 use Rattle.std.proofs.Math.Seq.{take-append_seam}
-use Rattle.std.proofs.lemmas.List.{take_all}
+use Rattle.std.proofs.lemmas.List.{reverse-reverse, take_all}
 use Rattle.std.specs.Int.{div_ceil}
 use Rattle.arbitrary_base.specs.Range.{InRange}
 use Rattle.arbitrary_base.specs.Residue.{Congruent, wrap}
@@ -12,7 +12,7 @@ use Rattle.arbitrary_base.specs.Bytes.{BorshBytes, bytes, bytes_number}
 use Rattle.arbitrary_base.proofs.modular.ExactOrCongruent.{wrapped-congruent}
 use Rattle.arbitrary_base.proofs.modular.Residue.{wrap-of_in_range}
 use Rattle.arbitrary_base.proofs.storages.Primitive.{unsigned-in_range}
-use Rattle.arbitrary_base.proofs.bytes.NumberOfBytes.{Borsh-canonical, bytes-wrap, length-Borsh, wrap-Borsh}
+use Rattle.arbitrary_base.proofs.bytes.NumberOfBytes.{Borsh-canonical, bytes-wrap, length-Borsh, wrap-Borsh, wrap-bytes_number}
 
 pub Borsh-told : (B : ℕ) (x : ℤ) → (BorshBytes B x ≡ BorshBytes B x) × (length (BorshBytes B x) ≡ div_ceil B 8) × (bytes_number (BorshBytes B x) < 2 ^ B)
 Borsh-told B x = (refl, length-Borsh B x, (Borsh-canonical B x).below)
@@ -56,3 +56,16 @@ bytes-compared l m = let d = bytes_decides l m in (refl, d.1, d.0)
 -- the bytes of a number that is converted to the other sign
 pub bytes-converted : (s : Bool) (B n : ℕ) (x : ℤ) → B ≡ 8 * n → bytes n (wrap s B x) ≡ bytes n x
 bytes-converted s B n x e = bytes-wrap s B n x (wrap s B x) e refl
+
+-- a number by its bytes, and bytes by those in the other order
+abbrev pub spelled : Bool → ℕ → List ℕ → ℤ
+spelled s n l = wrap s (8 * n) (pos (bytes_number l))
+
+pub bytes-spell : (n : ℕ) (x : ℤ) → 1 ≤ n → InRange false (8 * n) x → (bytes n x ≡ bytes n x) × (spelled false n (bytes n x) ≡ x)
+bytes-spell n x h f = (refl, wrap-bytes_number false n x h f)
+
+pub bytes-spell_signed : (n : ℕ) (x : ℤ) → 1 ≤ n → InRange true (8 * n) x → (bytes n x ≡ bytes n x) × (spelled true n (bytes n x) ≡ x)
+bytes-spell_signed n x h f = (refl, wrap-bytes_number true n x h f)
+
+pub reverse-back : (l : List ℕ) → (reverse l ≡ reverse l) × (reverse (reverse l) ≡ l)
+reverse-back l = (refl, reverse-reverse l)

@@ -12,7 +12,7 @@ use Rattle.arbitrary_base.proofs.operations.Bitwise.{and-distributes_or, and-dis
 use Rattle.arbitrary_int.proofs.WrittenMask.{masked}
 
 module _ (s : Bool) (B m n : ℕ) (h : 1 ≤ B) (f : pos m ≤ℤ hi s B) (g : pos n ≤ℤ hi s B) where
-  and-numbers : bitwise_and s B (pos m) (pos n) ≡ pos (bit_and m n)
+  pub and-numbers : bitwise_and s B (pos m) (pos n) ≡ pos (bit_and m n)
   and-numbers = and-plain s B (pos m) (pos n) _ h (masked s B m f) (masked s B n g) (and-is s B _ _) (omega (arith, ints)) (omega (arith, ints))
 
   or-numbers : bitwise_or s B (pos m) (pos n) ≡ pos (bit_or m n)
