@@ -16,15 +16,22 @@ IMPORT = re.compile(r'^use ([\w.]+)\.\{(.*)\}$', re.M)
 SET = re.compile(r'^pub ruleset (\w+) = \((.*)\)$', re.M)
 LINE = 'pub ruleset all_sets = '
 WORDS = re.compile(r'^pub ruleset words = \((.*)\)$', re.M)
-# The sets that are about operations alone, whatever the number: no written mask, no place of a bit, no field. The fewer laws there are, the
-# further the search comes with each.
+# The sets that are about operations, counts and signs, whatever the number: no mask of several ones that is written, no place of a bit, no
+# field. The fewer laws there are, the further the search comes with each. What tells of counts, of signs or of written factors is tried only
+# where these stand.
 OPERATIONS = ['bits', 'distribution', 'bit_by_bit', 'mask_tests', 'shifts', 'rotations', 'reversals', 'ring', 'products', 'masks', 'complements',
-              'negations', 'mixed', 'carries', 'order', 'cancellations', 'counts', 'exact']
+              'negations', 'mixed', 'carries', 'order', 'cancellations', 'counts', 'exact', 'multiples']
 OF_LAWS = [*(['BitVector', it] for it in OPERATIONS), ['RightRotations', 'right_rotations'], ['MovedProducts', 'moved_products'],
            ['Truncations', 'truncations'], ['Extensions', 'extensions'], ['LowestPlace', 'lowest_place'],
-           ['Sets', 'signed_lists']]
-# Not among these: by the two ways to distribute `&` and `|` at once terms come without end, and what they tell is told bit by bit.
-NOT_OF_LAWS = {'and-distributes_or', 'or-distributes_and', 'and-distributes_xor'}
+           ['RunsOfTwo', 'runs_of_two'], ['LeadingZeros', 'leading_zeros'], ['LowestBit', 'lowest_bits'],
+           ['LowestBitCounts', 'lowest_bit_counts'], ['OneBits', 'one_bit_counts'], ['Population', 'population'],
+           ['Population', 'parities'], ['CountBounds', 'count_bounds'], ['TrailingZeros', 'trailing_zeros'],
+           ['OverflowBits', 'overflow_bits'], ['OverflowBits', 'sign_of_xor'], ['TurnedSigns', 'turned_orders'],
+           ['FlagTests', 'one_flag'], ['PositiveResults', 'positive_results'], ['Sets', 'signed_lists']]
+# Not among these: by the two ways to distribute `&` and `|` at once terms come without end, and what they tell is told bit by bit. The others
+# are tried where no count stands, and with all but the first two of them a law of `&` and `|` was lost.
+NOT_OF_LAWS = {'and-distributes_or', 'or-distributes_and', 'and-distributes_xor', 'and-of_negated', 'and-below', 'alone-zero', 'alone-is_xor',
+               'popcount-of_xor_none', 'popcount-before_one_bit', 'popcount-within_or'}
 LAWS = re.compile(r'^(pub ruleset laws = ).*$', re.M)
 
 
