@@ -30,6 +30,7 @@ pub mod mask_tests;
 pub mod masked_results;
 pub mod masks;
 pub mod mixed;
+pub mod more_operations;
 pub mod moved_bits;
 pub mod multiples;
 pub mod negated_parts;

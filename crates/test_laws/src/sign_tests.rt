@@ -105,3 +105,9 @@ pub fn number_with_the_sign_turned(x: i12) -> u12
 {
     (x ^ i12::min_value()).to_unsigned()
 }
+
+pub fn equal_by_sign_of_complement(x: i12, y: i12) -> bool
+    ensures { IsTrue result }
+{
+    (x == y) == (!(x.wrapping_sub(y) | y.wrapping_sub(x)) < i12::new(0))
+}
