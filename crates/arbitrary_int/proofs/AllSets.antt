@@ -54,6 +54,7 @@ use Rattle.arbitrary_int.proofs.LeadingZeros.{leading-of_primitive, tail-of_nume
 use Rattle.arbitrary_int.proofs.LongerSide.{alone-added, alone-summed, either-alone, negated-added, negated-less_one, next-negated, not-added, not-and_one, not-taken, or-less_and, shifts-added, shifts-joined, shifts-under_xor, without-shared, xor-and_shared}
 use Rattle.arbitrary_int.proofs.LowestBit.{and-of_negated, front-of_lowest, none-left_by_before, popcount-of_lowest_cleared}
 use Rattle.arbitrary_int.proofs.LowestBitCounts.{alone-is_xor, alone-zero, popcount-before_one_bit, popcount-filled, popcount-of_below, popcount-of_lowest, popcount-to_lowest}
+use Rattle.arbitrary_int.proofs.LowestField.{lowest_fields}
 use Rattle.arbitrary_int.proofs.LowestMasks.{below-lowest, lowest-taken, negated-is_not_before}
 use Rattle.arbitrary_int.proofs.LowestPlace.{low-of_difference, low-of_product, low-of_sum}
 use Rattle.arbitrary_int.proofs.MaskTests.{and-highest, and-minus_one, and_not-none, or-equal_xor, or-none, or-unchanged, xor-equal_or, xor-none, xor-unchanged}
@@ -65,6 +66,7 @@ use Rattle.arbitrary_int.proofs.NormalShifts.{low-of_shifted, odd-shifted, shift
 use Rattle.arbitrary_int.proofs.OneBits.{front-of_before, one-turned, one_bits-compared, one_bits-ordered, parts-joined, tail-of_before, tail-of_one_bit, upper-by_mask}
 use Rattle.arbitrary_int.proofs.OtherBits.{gone-cleared, other_bit-cleared, other_bit-set, other_bit-turned, same_bit-set, same_bit-turned}
 use Rattle.arbitrary_int.proofs.OverflowBits.{difference-overflow_ends, difference-overflow_flag, sum-overflow_ends, sum-overflow_flag, xor-sign_told}
+use Rattle.arbitrary_int.proofs.PlacedField.{placed_fields}
 use Rattle.arbitrary_int.proofs.Population.{popcount-of_and_not, popcount-of_xor_none, popcount-within_or}
 use Rattle.arbitrary_int.proofs.PositiveParts.{and-of_positive_or, and-positive, or-of_positive_parts, or-positive, xor-of_positive_parts, xor-positive}
 use Rattle.arbitrary_int.proofs.PositiveResults.{and-of_positive_xor, product-of_positive, sum-of_positive}
@@ -82,6 +84,7 @@ use Rattle.arbitrary_int.proofs.Sets.{cleared_fields, empty_word, primitive_bits
 use Rattle.arbitrary_int.proofs.ShiftPairs.{further-at_most, left_right-wraps, nearer-at_least}
 use Rattle.arbitrary_int.proofs.SideBySide.{below_numeral, numeral_next, or_five, or_four, or_next, or_six, or_three_up}
 use Rattle.arbitrary_int.proofs.SignWord.{and-by_sign, or-by_sign, sign-spread, xor-by_sign}
+use Rattle.arbitrary_int.proofs.SignedField.{signs_read_back}
 use Rattle.arbitrary_int.proofs.SingleBit.{and-one_bit, left-of_one, low-of_right, low-of_right_not, low-of_right_set, reversed-one, reversed-one_bit}
 use Rattle.arbitrary_int.proofs.StepWords.{difference-step, product-step, sum-step}
 use Rattle.arbitrary_int.proofs.StreamBytes.{Borsh-told, bytes-compared, bytes-converted, first-of_Borsh, first-of_Borsh_signed, number-of_Borsh, number-of_Borsh_signed}
@@ -89,6 +92,7 @@ use Rattle.arbitrary_int.proofs.TextLength.{length-of_text}
 use Rattle.arbitrary_int.proofs.TrailingZeros.{multiples-by_zeros, zeros-of_multiples}
 use Rattle.arbitrary_int.proofs.Truncations.{and-truncated, difference-truncated, left-truncated, left_rotation-converted, not-truncated, or-truncated, product-truncated, reversal-converted, right_rotation-converted, sum-truncated, xor-truncated}
 use Rattle.arbitrary_int.proofs.TurnedSigns.{highest-turned_order, highest-turned_order_back}
+use Rattle.arbitrary_int.proofs.WrappedWords.{wrapped_words}
 use Rattle.arbitrary_int.proofs.WrittenMask.{and-none, and-of_cleared_by_negative, or-by_mask, xor-by_mask}
 use Rattle.arbitrary_int.proofs.ZigZag.{coded-by_sign}
 use Rattle.std.proofs.Math.Nat.{mod_self}
@@ -104,4 +108,4 @@ pub ruleset all_sets = (or_three, or_four, or_five, or_six, or_three_up, joined-
 pub ruleset laws = (Decides-int_eq, bitwise_and-commutes, bitwise_and-associates, bitwise_and-same, bitwise_and-zero, bitwise_and-highest, bitwise_and-minus_one, bitwise_and-not_zero, bitwise_and-complement, bitwise_or-commutes, bitwise_or-associates, bitwise_or-same, bitwise_or-zero, bitwise_or-highest, bitwise_or-minus_one, bitwise_or-not_zero, bitwise_or-complement, bitwise_xor-commutes, bitwise_xor-associates, bitwise_xor-same, bitwise_xor-zero, bitwise_xor-highest, bitwise_xor-minus_one, bitwise_xor-not_zero, bitwise_xor-undoes, bitwise_xor-equal, bitwise_not-twice, bitwise_not-zero, bitwise_not-zero_signed, and-absorbs, or-absorbs, not-and_parts, not-or_parts, not-xor_left, and-compared, or-compared, xor-compared, not-compared, compared-and, compared-or, compared-xor, compared-not, bit-and, bit-or, bit-xor, bit-not, bit-zero, bit-highest, bit-minus_one, and_not-none, or-unchanged, or-equal_xor, xor-equal_or, xor-unchanged, xor-none, or-none, and-minus_one, and-highest, shifted_left-none, shifted_left-zero, shifted_left-twice, shifted_left-past, shifted_left-sum, shifted_left-difference, shifted_left-and, shifted_left-or, shifted_left-xor, sum-twice, shifted_right-none, shifted_right-zero, shifted_right-twice, shifted_right-and, shifted_right-or, shifted_right-xor, right_left-mask, right_left-mask_signed, right_left-mask_not, left_right-mask, left_right-mask_not, shifted_right-not, right_left-numeral, right_left-numeral_signed, left_right-numeral, left_right-wraps, wrap-of_in_range, rotated_left-none, rotated_left-twice, rotated_left-round, rotated_left-zero, rotated_left-highest, rotated_left-minus_one, rotated_left-not_zero, rotated_left-and, rotated_left-or, rotated_left-xor, rotated_left-not, rotated_right-none, rotated_right-as_left, right-undoes_left, left-undoes_right, reversed-zero, reversed-highest, reversed-minus_one, reversed-not_zero, reversed-and, reversed-or, reversed-xor, reversed-not, reversed-twice, reversed-rotated_left, reversed-rotated_right, reversed-shifted_left, reversed-shifted_right, reversed-one, reversed-one_bit, wrapped_sum-commutes, wrapped_sum-associates, wrapped_sum-zero, wrapped_difference-self, wrapped_difference-zero, difference-of_sum, difference-of_sum_left, sum-of_difference, sum-to_difference, difference-to_difference, difference-twice, difference-turned, negated-twice, negated-sum, sum-of_difference_right, difference-of_difference_right, difference-of_sums, wrapped_product-commutes, wrapped_product-associates, wrapped_product-zero, wrapped_product-one, wrapped_product-two, products-of_sums, products-of_differences, product-of_sum, product-of_difference, product-of_negated, product-of_negated_both, shifted_left-is_product, difference-of_squares, wrapped_product-highest, negated-is_difference, or-of_parts, sum-of_parts, choice-is_xor, and-or_of_not, or-and_of_not, majority-is_xor, not-of_before, sum-with_not, difference-of_or, difference-of_and, negated-not, not-of_sum, not-of_difference, difference-of_nots, sum-of_or_and, sum-of_disjoint, sum-of_xor_and, difference-of_or_and, sum-with_carry, sum-less_xor, sum-less_or, sum-less_and, difference-of_parts, difference-with_borrow, difference-less_xor, or-less_xor, sum-with_highest, difference-with_highest, le-tested, lt-tested, ge-tested, gt-tested, or-above, and-below_or, xor-below_or, or-below_sum, or-below_clamped, difference-below_xor, shifted_right-keeps_order, and-negative, or-negative, xor-negative, further-at_most, nearer-at_least, sums-equal, differences-equal, differences_from-equal, xors-equal, nots-equal, reversals-equal, left_rotations-equal, right_rotations-equal, popcount-of_zero, popcount-of_highest, popcount-of_minus_one, popcount-of_not, popcount-of_reversed, popcount-of_left, popcount-of_right, zero-of_no_ones, no_ones-of_zero, front-of_zero, front-of_not_zero, front-of_highest, front_ones-of_not, front_zeros-of_not, tail-of_zero, tail-of_not_zero, tail-of_highest, tail_ones-of_not, tail_zeros-of_not, tail-of_reversed, front-of_reversed, popcount-of_and, popcount-of_and_or, popcount-of_or, power-zero, power-one, power-twice, quotient-self, to_u128_bits-back, clamp-fits, power-of_one, power-of_zero, multiples-added, multiples-apart, multiple-next, multiple-before, sum-doubles, rotated_right-twice, rotated_right-round, rotated_right-zero, rotated_right-highest, rotated_right-minus_one, rotated_right-not_zero, rotated_right-and, rotated_right-or, rotated_right-xor, rotated_right-not, right_rotations-exchanged, left_rotations-exchanged, rotations-exchanged, shifted_left-negated, shifted_left-exchanged, shifted_right-exchanged, product-of_shifted, product-shifted, wrap-wide, and-truncated, or-truncated, xor-truncated, not-truncated, sum-truncated, difference-truncated, product-truncated, left-truncated, left_rotation-converted, right_rotation-converted, reversal-converted, and-at_128, or-at_128, xor-at_128, shifted_right-is_shr, primitive_and, primitive_or, primitive_xor, low-of_sum, low-of_difference, low-of_product, front-of_or, tail-of_or, front_ones-of_and, tail_ones-of_and, front-of_and, tail-of_and, front_ones-of_or, tail_ones-of_or, front-of_xor, tail-of_xor, front-of_left, tail-of_right, front-of_right, tail-of_left, tail-of_numeral, tail-orders, leading-of_primitive, zeros-at_least, zeros-below, popcount-of_lowest_cleared, front-of_lowest, popcount-of_one_bit, front-of_one_bit, popcount-of_below, popcount-to_lowest, popcount-filled, popcount-of_lowest, tail-of_one_bit, front-of_before, tail-of_before, popcount-of_xor, popcount-of_and_not, front-of_numeral, popcount-of_numeral, popcount-of_shifted_left, popcount-of_shifted_right, front-of_shifted_left, tail-of_shifted_right, front_zeros-beside_ones, tail_zeros-beside_ones, front_ones-below_ones, tail_ones-below_ones, front-alike_one, tail-alike_one, zeros-of_multiples, multiples-by_zeros, sum-overflow_ends, difference-overflow_ends, sum-overflow_flag, difference-overflow_flag, xor-sign_told, highest-turned_order, highest-turned_order_back, set-unless_clear, sum-of_positive, product-of_positive, and-of_positive_xor, signed_items, or-less_and, either-alone, without-shared, xor-and_shared, alone-added, alone-summed, not-added, not-taken, negated-added, negated-less_one, not-and_one, next-negated, shifts-joined, shifts-under_xor, shifts-added, and-positive, or-positive, xor-positive, or-of_positive_parts, xor-of_positive_parts, and-of_positive_or)
 
 -- those on words of fields, streams, texts and conversions: on these it proves more than all of them do, and in less time
-pub ruleset words = (registers, xor_flags, cleared_fields, primitive_bits, streams, signed_lists, texts, ranges, empty_word, known_masks, conversions, congruences, everyday)
+pub ruleset words = (registers, xor_flags, cleared_fields, primitive_bits, streams, signed_lists, texts, ranges, empty_word, known_masks, conversions, congruences, everyday, wrapped_words, lowest_fields, signs_read_back, bitwise_and-complement, placed_fields)

@@ -95,6 +95,17 @@ module _ (B : ℕ) (h : 1 ≤ B) where
   joined-four t x y z i j k g l m a b c d e f n o =
       last k _ _ z (omega arith) (more j k _ _ y m (omega arith) (more i j _ _ x l g (one t i g a b) c d) e f) n o
 
+  -- where the lowest field is moved up too
+  pub joined-four_up : (t x y z : ℤ) (i j k l : ℕ) → i < B → j ≤ i → k ≤ j → l ≤ k → pos 0 ≤ℤ t → (t *ℤ pos (2 ^ i)) <ℤ pos (2 ^ B)
+      → pos 0 ≤ℤ x → (x *ℤ pos (2 ^ j)) <ℤ pos (2 ^ i) → pos 0 ≤ℤ y → (y *ℤ pos (2 ^ k)) <ℤ pos (2 ^ j)
+      → pos 0 ≤ℤ z → (z *ℤ pos (2 ^ l)) <ℤ pos (2 ^ k)
+      → bitwise_or false B
+      (bitwise_or false B (bitwise_or false B (shifted_left false B t i) (shifted_left false B x j)) (shifted_left false B y k)) (shifted_left false B z l)
+      ≡ t *ℤ pos (2 ^ i) +ℤ x *ℤ pos (2 ^ j) +ℤ y *ℤ pos (2 ^ k) +ℤ z *ℤ pos (2 ^ l)
+  unfolding Stack
+  joined-four_up t x y z i j k l g m n p a b c d e f o q =
+      (more k l _ _ z p (omega arith) (more j k _ _ y n (omega arith) (more i j _ _ x m g (one t i g a b) c d) e f) o q).0
+
   pub joined-five : (r t x y z : ℤ) (v i j k : ℕ) → v < B → i ≤ v → j ≤ i → k ≤ j → pos 0 ≤ℤ r → (r *ℤ pos (2 ^ v)) <ℤ pos (2 ^ B)
       → pos 0 ≤ℤ t → (t *ℤ pos (2 ^ i)) <ℤ pos (2 ^ v) → pos 0 ≤ℤ x → (x *ℤ pos (2 ^ j)) <ℤ pos (2 ^ i)
       → pos 0 ≤ℤ y → (y *ℤ pos (2 ^ k)) <ℤ pos (2 ^ j) → pos 0 ≤ℤ z → z <ℤ pos (2 ^ k)
@@ -104,3 +115,6 @@ module _ (B : ℕ) (h : 1 ≤ B) where
   joined-five r t x y z v i j k g l m n a b c d e f o p q s =
       last k _ _ z (omega arith)
       (more j k _ _ y n (omega arith) (more i j _ _ x m (omega arith) (more v i _ _ t l g (one r v g a b) c d) e f) o p) q s
+
+-- four fields of which the lowest is moved up too
+pub ruleset four_moved_fields = (joined-four_up)

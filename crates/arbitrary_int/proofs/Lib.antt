@@ -65,6 +65,8 @@ pub mod RangeRuns
 pub mod Sets
 pub mod BitVector
 pub mod Conversions
+pub mod WrappedWords
+pub mod LowestField
 pub mod BitSums
 pub mod LowestPlace
 pub mod MaskedResults

@@ -25,5 +25,8 @@ unsigned-of_signed B n h = (refl, wrap-same false B _ (pos n) h (wrap-congruent 
 pub bits-of_signed : (B n : ℕ) → 1 ≤ B → (wrap true B (pos n) ≡ wrap true B (pos n)) × (pos (residue B (wrap true B (pos n))) ≡ pos (n % 2 ^ B))
 bits-of_signed B n h = let u = unsigned-of_signed B n h in (refl, residue-wrap B (wrap true B (pos n)) h ∙ u.1)
 
+-- the field alone
+pub ruleset signs_read_back = (signed-of_bits, signed-of_unsigned, unsigned-of_signed, bits-of_signed)
+
 -- and what stands beside it in the word
-pub ruleset signed_fields = (words_read_back, signed-of_bits, signed-of_unsigned, unsigned-of_signed, bits-of_signed)
+pub ruleset signed_fields = (words_read_back, signs_read_back)

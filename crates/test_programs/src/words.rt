@@ -12,6 +12,17 @@ pub fn three_of_their_own_type(a: u12, b: u24, c: u12) -> u48
     u48::from_(a) << 36 | u48::from_(b) << 12 | u48::from_(c)
 }
 
+/// The offset of a branch, whose lowest part is moved up too.
+#[tactic(auto, using(arbitrary_int::proofs::JoinedFields::four_moved_fields))]
+pub fn branch_offset(sign: u1, next: u1, high: u6, low: u4) -> u13
+    ensures { result ≡ sign *ℤ pos 4096 +ℤ next *ℤ pos 2048 +ℤ high *ℤ pos 32 +ℤ low *ℤ pos 2 }
+{
+    (u13::from_(sign) << 12)
+        | (u13::from_(next) << 11)
+        | (u13::from_(high) << 5)
+        | (u13::from_(low) << 1)
+}
+
 pub fn a_mark_between_two(x: u3, y: u2) -> u8
     ensures { pos result ≡ x *ℤ pos 32 +ℤ pos 16 +ℤ y }
 {
@@ -105,4 +116,18 @@ pub fn with_green(word: u16, green: u6) -> u16
     ensures blue { result % 32 ≡ word % 32 }
 {
     (word & !0x07E0) | (u16::from(green) << 5)
+}
+
+pub fn switched_off(output: u5) -> u5
+    ensures { result ≡ pos 0 }
+{
+    output & !output
+}
+
+pub fn mode_read_back(modes: u32, pin: u4, mode: u2) -> u2
+    ensures { result ≡ mode }
+{
+    let place = pin.value() * 2;
+    let written = (modes & !(0b11 << place)) | (u32::from(mode.value()) << place);
+    u2::new(((written >> place) & 0b11) as u8)
 }
