@@ -52,10 +52,12 @@ python3 tools/wrong_bodies.py --some 4 \
     arbitrary_core/{greatest_constant_is_half_as_great,least_constant_is_the_greatest,zero_test_is_negated} \
     arbitrary_core/{wider_number_is_its_negation,wider_number_loses_its_highest_bit} \
     arbitrary_core/{mask_constant_lacks_the_highest_bit,sum_of_many_leaves_out_the_first} \
+    arbitrary_core/{saturated_difference_by_the_trait_is_a_sum,wrapped_difference_of_num_traits_is_turned} \
     arbitrary_int/{every_list_is_well_formed,no_list_is_well_formed,negation_step_saturates,tells_the_place_after} \
     arbitrary_int/undoes_an_earlier_step_at_a_stop \
     arbitrary_int/{no_bytes_are_canonical,reader_masks_excess_bits,reader_always_passes_a_fault_on,reader_takes_one_byte_too_many} \
     arbitrary_int/{reads_on_after_a_refusal,takes_an_old_fault_for_a_new_one,writer_always_passes_a_fault_on,writes_other_bytes} \
+    arbitrary_int/{reads_the_lowest_bit_turned_over,tells_sixteen_bytes_of_any} \
     arbitrary_int/{last_value_comes_from_both_ends,sum_tests_only_the_total,swap_bytes_answers_its_argument} \
     arbitrary_int/{negation_step_is_the_complement,tells_a_zero_divisor_of_wrapping_division_as_refused,writes_before_it_reads_right}
 # of this shell and of what it waited for, each as 1m2.345s

@@ -17,6 +17,7 @@ pub mod generic_checked;
 pub mod generic_operators;
 pub mod generic_orders;
 pub mod generic_places;
+pub mod generic_widths;
 pub mod masks;
 pub mod numbers;
 pub mod other_bits;

@@ -1,0 +1,96 @@
+//! What generic code knows after a call with no word on the width: that it is valid, and that a result is in range. Without a sign the 128 bits
+//! of a number are the number.
+
+ghost use Rattle.std.specs.Prelude.{◌≡◌, ◌↔◌, ◌/◌, ◌%◌, IsTrue, IsNone, unsigned_abs, pos};
+
+use arbitrary_int::prelude::*;
+
+/// Sums that wrap associate.
+pub fn sum_associates<V: FixedWidth>(x: V, y: V, z: V) -> bool
+    ensures { IsTrue result }
+{
+    x.wrapping_add(y).wrapping_add(z) == x.wrapping_add(y.wrapping_add(z))
+}
+
+/// A sum that clamps is at most the greatest number.
+pub fn clamped_at_most<V: FixedWidth>(x: V, y: V) -> bool
+    ensures { IsTrue result }
+{
+    x.saturating_add(y) <= V::max_value()
+}
+
+/// So is one that wraps.
+pub fn wrapped_at_most<V: FixedWidth>(x: V, y: V) -> bool
+    ensures { IsTrue result }
+{
+    x.wrapping_add(y) <= V::max_value()
+}
+
+/// And the least number is at most a difference that wraps.
+pub fn wrapped_at_least<V: FixedWidth>(x: V, y: V) -> bool
+    ensures { IsTrue result }
+{
+    let difference = x.wrapping_sub(y);
+    V::min_value() <= difference
+}
+
+/// A number less itself is 0.
+pub fn less_itself<V: FixedWidth>(x: V) -> bool
+    ensures { IsTrue result }
+{
+    let nothing = x.wrapping_sub(x);
+    nothing == V::zero()
+}
+
+/// A left shift of both operands of `|`.
+pub fn moved_or<V: FixedWidth>(x: V, y: V, amount: u32) -> bool
+    ensures { IsTrue result }
+{
+    (x | y).wrapping_shl(amount) == x.wrapping_shl(amount) | y.wrapping_shl(amount)
+}
+
+/// A number under a mask is at most the number.
+pub fn masked_at_most<V: FixedWidth + UnsignedInteger>(x: V, mask: V) -> bool
+    ensures { IsTrue result }
+{
+    x & mask <= x
+}
+
+/// The half of a number, by its bits.
+pub fn half<V: UnsignedInteger + ValidWidth>(x: V) -> V
+    ensures { unsigned_abs (V.number result) ≡ unsigned_abs (V.number x) / 2 }
+{
+    V::from_(x.to_u128_bits() / 2)
+}
+
+/// Whether a number is even, by its bits.
+pub fn is_even<V: UnsignedInteger>(x: V) -> bool
+    ensures { IsTrue result ↔ (unsigned_abs (V.number x) % 2 ≡ 0) }
+{
+    x.to_u128_bits() % 2 == 0
+}
+
+/// A quotient of any type with no sign, where the divisor is not 0.
+pub fn quotient<V: UnsignedInteger + ValidWidth>(x: V, y: V) -> Option<V>
+    ensures { IsNone result ↔ (V.number y ≡ pos 0) }
+{
+    if y == V::zero() {
+        None
+    } else {
+        Some(V::from_(x.to_u128_bits() / y.to_u128_bits()))
+    }
+}
+
+/// 0 is between the ends of the range.
+pub fn zero_between_ends<V: FixedWidth + ValidWidth>() -> bool
+    ensures { IsTrue result }
+{
+    V::min_value() <= V::zero() && V::zero() <= V::max_value()
+}
+
+/// The ends of the range are apart.
+pub fn ends_apart<V: FixedWidth + ValidWidth>() -> bool
+    ensures { IsTrue result }
+{
+    V::min_value() < V::max_value()
+}
