@@ -3,7 +3,7 @@
 -- Each form is told by the wrapped one, `low s B k` below, so that a law of the mask is stated once.
 -- For callers: `#![tactic(auto, using(arbitrary_int::proofs::VariableMasks::variable_masks))]`, and `variable_parts` beside exact sums,
 -- differences and the order.
-use Rattle.std.specs.Prelude.{◌≡◌, ◌≤◌, ◌<◌, ◌+◌, ◌-◌, ◌*◌, ◌/◌, ◌^◌, ◌≤ℤ◌, ◌<ℤ◌, ◌+ℤ◌, ◌-ℤ◌, ◌*ℤ◌, neg_ℤ, ℕ, ℤ, Bool, true, false, pos, negsuc}
+use Rattle.std.specs.Prelude.{◌≡◌, ◌≤◌, ◌<◌, ◌+◌, ◌-◌, ◌/◌, ◌^◌, ◌≤ℤ◌, ◌<ℤ◌, ◌+ℤ◌, ◌-ℤ◌, ◌*ℤ◌, neg_ℤ, ℕ, ℤ, Bool, true, false, pos, negsuc}
 use Rattle.std.specs.Int.{int_shr}
 use Rattle.std.proofs.Common.{refl, sym, ap, ap₂, subst, ◌∙◌, arith}
 use Rattle.std.proofs.Math.Nat.{div-eq_of_lt-le, pow-le-pow_right}

@@ -1,6 +1,6 @@
 -- Bits at places that vary: one set and another cleared, the lowest of a rotated number, and a shifted number reversed and converted.
 -- For callers: `#![tactic(auto, using(arbitrary_int::proofs::VariablePlaces::variable_places))]`.
-use Rattle.std.specs.Prelude.{◌≡◌, ◌≢◌, ◌≤◌, ◌<◌, ◌-◌, ◌+◌, ◌^◌, ◌++◌, ◌∷◌, [], ℕ, ℤ, zero, suc, Bool, true, false, not, List, length, drop, take, replicate, pos}
+use Rattle.std.specs.Prelude.{◌≡◌, ◌≢◌, ◌≤◌, ◌<◌, ◌^◌, ◌++◌, ◌∷◌, [], ℕ, ℤ, zero, suc, Bool, true, false, not, List, length, drop, take, replicate, pos}
 use Rattle.std.proofs.Common.{refl, sym, subst, ap, ap₂, ◌∙◌, arith, length-drop}
 use Rattle.std.proofs.lemmas.Bool.Decides.{Decides-int_eq}
 use Rattle.std.proofs.lemmas.Int.{ints}

@@ -1,6 +1,6 @@
 -- A type of the same sign with at least as many bits has each number, where the widths are not known.
 -- For callers: `#![tactic(auto, using(arbitrary_int::proofs::WiderRanges::wider_ranges))]`.
-use Rattle.std.specs.Prelude.{◌≡◌, ℕ, Bool, true, false, pos, ◌≤◌, ◌-◌, ◌^◌, ◌≤ℤ◌}
+use Rattle.std.specs.Prelude.{◌≡◌, ℕ, Bool, true, false, ◌≤◌, ◌-◌, ◌^◌, ◌≤ℤ◌}
 use Rattle.std.proofs.Common.{arith, refl, subst}
 use Rattle.std.proofs.lemmas.Int.{ints}
 use Rattle.arbitrary_base.specs.Range.{hi, lo}
