@@ -68,7 +68,6 @@ pub fn branch_target(counter: u14, offset: i7) -> u14
         .wrapping_add(offset.as_::<u14>())
 }
 
-#[tactic(auto, using(arbitrary_int::proofs::Conversions::conversions))]
 pub fn address_in_a_table(base: u24, index: i12, offset: i7) -> u24
     ensures { Congruent 24 result (base +ℤ index +ℤ offset) }
 {

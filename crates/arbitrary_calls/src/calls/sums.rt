@@ -29,9 +29,7 @@ pub trait SumCalls: Stored + LowBits {
         ensures undo { let number = Self.number in
             wrapped_difference Self.IS_SIGNED Self.BITS (number result) (number rhs) ≡ number self }
         ensures range { InRange Self.IS_SIGNED Self.BITS (Self.number self) }
-        ensures bounded { InRange Self.IS_SIGNED Self.BITS (Self.number result) }
         ensures operand { InRange Self.IS_SIGNED Self.BITS (Self.number rhs) }
-        ensures width { Self.valid }
     {
         Self::from_u128_bits(self.low_bits().wrapping_add(rhs.low_bits()))
     }
@@ -53,7 +51,6 @@ pub trait SumCalls: Stored + LowBits {
         ensures bounded { InRange Self.IS_SIGNED Self.BITS (Self.number result) }
         ensures swap { Self.number self +ℤ Self.number rhs ≡ Self.number rhs +ℤ Self.number self }
         ensures operand { InRange Self.IS_SIGNED Self.BITS (Self.number rhs) }
-        ensures width { Self.valid }
     {
         Self::from_storage(saturating::add(self.to_storage(), rhs.to_storage(), Self::BITS))
     }
@@ -68,7 +65,6 @@ pub trait SumCalls: Stored + LowBits {
             number rhs ≡ pos 0 → option_map number result ≡ Some (number self) }
         ensures range { InRange Self.IS_SIGNED Self.BITS (Self.number self) }
         ensures operand { InRange Self.IS_SIGNED Self.BITS (Self.number rhs) }
-        ensures width { Self.valid }
     {
         match checked::add(self.to_storage(), rhs.to_storage(), Self::BITS) {
             Some(sum) => Some(Self::from_storage(sum)),
@@ -94,7 +90,6 @@ pub trait SumCalls: Stored + LowBits {
         ensures swap { Self.number self +ℤ Self.number rhs ≡ Self.number rhs +ℤ Self.number self }
         ensures range { InRange Self.IS_SIGNED Self.BITS (Self.number self) }
         ensures operand { InRange Self.IS_SIGNED Self.BITS (Self.number rhs) }
-        ensures width { Self.valid }
     {
         let (sum, overflow) = overflowing::add(self.to_storage(), rhs.to_storage(), Self::BITS);
         (Self::from_storage(sum), overflow)
@@ -113,9 +108,7 @@ pub trait SumCalls: Stored + LowBits {
         ensures undo { let number = Self.number in
             wrapped_sum Self.IS_SIGNED Self.BITS (number result) (number rhs) ≡ number self }
         ensures range { InRange Self.IS_SIGNED Self.BITS (Self.number self) }
-        ensures bounded { InRange Self.IS_SIGNED Self.BITS (Self.number result) }
         ensures operand { InRange Self.IS_SIGNED Self.BITS (Self.number rhs) }
-        ensures width { Self.valid }
     {
         Self::from_u128_bits(self.low_bits().wrapping_sub(rhs.low_bits()))
     }
@@ -136,7 +129,6 @@ pub trait SumCalls: Stored + LowBits {
         ensures range { InRange Self.IS_SIGNED Self.BITS (Self.number self) }
         ensures bounded { InRange Self.IS_SIGNED Self.BITS (Self.number result) }
         ensures operand { InRange Self.IS_SIGNED Self.BITS (Self.number rhs) }
-        ensures width { Self.valid }
     {
         Self::from_storage(saturating::sub(self.to_storage(), rhs.to_storage(), Self::BITS))
     }
@@ -150,7 +142,6 @@ pub trait SumCalls: Stored + LowBits {
             number rhs ≡ pos 0 → option_map number result ≡ Some (number self) }
         ensures range { InRange Self.IS_SIGNED Self.BITS (Self.number self) }
         ensures operand { InRange Self.IS_SIGNED Self.BITS (Self.number rhs) }
-        ensures width { Self.valid }
     {
         match checked::sub(self.to_storage(), rhs.to_storage(), Self::BITS) {
             Some(difference) => Some(Self::from_storage(difference)),
@@ -176,7 +167,6 @@ pub trait SumCalls: Stored + LowBits {
             Congruent Self.BITS (Self.number result.0) difference }
         ensures range { InRange Self.IS_SIGNED Self.BITS (Self.number self) }
         ensures operand { InRange Self.IS_SIGNED Self.BITS (Self.number rhs) }
-        ensures width { Self.valid }
     {
         let (difference, overflow) = overflowing::sub(
             self.to_storage(),

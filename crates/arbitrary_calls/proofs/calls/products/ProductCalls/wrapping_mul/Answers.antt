@@ -1,8 +1,6 @@
-use Rattle.std.proofs.Common.{refl, subst, sym, ◌∙◌}
-use Rattle.arbitrary_base.specs.Range.{InRange}
+use Rattle.std.proofs.Common.{refl, sym, ◌∙◌}
 use Rattle.arbitrary_base.proofs.modular.LowBitSums.{product-of_patterns}
 use Rattle.arbitrary_base.proofs.modular.ExactOrCongruent.{wrapped-congruent, wrapped-exact}
-use Rattle.arbitrary_base.proofs.modular.Residue.{wrap-in_range}
 use Rattle.arbitrary_base.proofs.operations.Definition.{product-is}
 use Rattle.arbitrary_calls.proofs.calls.products.ProductCalls.wrapping_mul.Goals as goal
 
@@ -16,7 +14,5 @@ returns g c =
       exact = λ f. wrapped-exact _ _ _ _ o f e;
       congruent = wrapped-congruent _ _ _ _ e;
       range = c.low_bits.ensures.range;
-      bounded = subst (InRange g.Self.Numbered.IS_SIGNED g.Self.Numbered.BITS) (sym e) (wrap-in_range _ _ _ o);
       operand = c.low_bits-2.ensures.range;
-      width = c.low_bits.ensures.width;
     }

@@ -1,9 +1,7 @@
-use Rattle.std.proofs.Common.{refl, subst, sym, ◌∙◌}
-use Rattle.arbitrary_base.specs.Range.{InRange}
+use Rattle.std.proofs.Common.{refl, sym, ◌∙◌}
 use Rattle.arbitrary_base.proofs.modular.LowBitSums.{difference-of_patterns}
 use Rattle.arbitrary_base.proofs.modular.Inverse.{add-undoes}
 use Rattle.arbitrary_base.proofs.modular.ExactOrCongruent.{wrapped-congruent, wrapped-exact}
-use Rattle.arbitrary_base.proofs.modular.Residue.{wrap-in_range}
 use Rattle.arbitrary_base.proofs.operations.Definition.{difference-is, sum-is}
 use Rattle.arbitrary_calls.proofs.calls.sums.SumCalls.wrapping_sub.Goals as goal
 
@@ -18,7 +16,5 @@ returns g c =
       congruent = wrapped-congruent _ _ _ _ e;
       undo = add-undoes _ _ _ (g.Self.Numbered.number c.args.rhs) _ _ o c.low_bits.ensures.range e (sum-is _ _ _ _);
       range = c.low_bits.ensures.range;
-      bounded = subst (InRange g.Self.Numbered.IS_SIGNED g.Self.Numbered.BITS) (sym e) (wrap-in_range _ _ _ o);
       operand = c.low_bits-2.ensures.range;
-      width = c.low_bits.ensures.width;
     }
