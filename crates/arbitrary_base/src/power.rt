@@ -80,12 +80,25 @@ fn exact_power<T: Storage>(x: T, exp: u32, bits: usize, count: &mut u32) -> Opti
     }
     let mut base = x;
     let mut left = exp;
+    if 1 < exp {
+        // A first turn of the loop, the only one whose square can be the base itself or 1.
+        let square = multiply(x, x, bits, count)?;
+        if equal(&square, &x) {
+            // 0 and 1 are all their powers.
+            return Some(x);
+        }
+        if equal(&square, &product) {
+            // The powers of -1 are it and 1 in turn.
+            return Some(if exp % 2 == 1 { x } else { square });
+        }
+        if exp % 2 == 1 {
+            product = x;
+        }
+        base = square;
+        left = exp / 2;
+    }
     while 1 < left {
         let square = multiply(base, base, bits, count)?;
-        if equal(&square, &base) {
-            // 0 and 1 are all their powers.
-            return multiply(product, base, bits, count);
-        }
         if left % 2 == 1 {
             product = multiply(product, base, bits, count)?;
         }

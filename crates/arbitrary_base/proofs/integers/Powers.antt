@@ -92,7 +92,7 @@ negative-mul (negsuc a) (negsuc b) h k l = absurd (omega (arith, ints, k))
 negative-mul (negsuc a) (pos zero) h k l = absurd (omega (arith, l))
 negative-mul (negsuc a) (pos (suc b)) h k l = omega (arith, ints)
 
-power-odd : (x : ℤ) (n : ℕ) → n % 2 ≡ 1 → int_pow x n ≡ x *ℤ int_pow x (n / 2 + n / 2)
+pub power-odd : (x : ℤ) (n : ℕ) → n % 2 ≡ 1 → int_pow x n ≡ x *ℤ int_pow x (n / 2 + n / 2)
 power-odd x n h = ap (int_pow x) (let e : n ≡ suc (n / 2 + n / 2) = omega arith in e) ∙ power-suc x (n / 2 + n / 2)
 
 -- an odd power has the base's sign

@@ -18,7 +18,7 @@ use Rattle.arbitrary_base.proofs.modular.Congruence.{pow_half, pow_le}
 use Rattle.arbitrary_base.proofs.modular.Residue.{wrap-of_in_range}
 use Rattle.arbitrary_base.proofs.storages.CheckedSum.{three_ways, zero-in_range}
 use Rattle.arbitrary_base.proofs.storages.Clamp.{clamp-in_range, clamp-out}
-use Rattle.arbitrary_base.proofs.integers.Powers.{mul_comm_z, one-mul_z, power-zero, power-suc, power-one, power-square, size_grows, power-positive, natural-mul}
+use Rattle.arbitrary_base.proofs.integers.Powers.{mul_comm_z, one-mul_z, power-zero, power-suc, power-one, power-odd, power-square, size_grows, power-positive, natural-mul}
 
 -- p is the power so far, to which the power of b to what remains of the exponent is still to come,
 -- at no more than two multiplications for each digit that is left
@@ -88,9 +88,12 @@ half-product number s W x y z width f g e =
 pub power-none : (x p : ℤ) (e : ℕ) → p ≡ pos 1 → e ≡ 0 → p ≡ int_pow x e
 power-none x p e is none = is ∙ sym (power-zero x) ∙ ap (int_pow x) (sym none)
 
+pub one-times : (p x : ℤ) → p ≡ pos 1 → x ≡ p *ℤ x
+one-times p x is = sym (ap (λ (z : ℤ). z *ℤ x) is ∙ one-mul_z x)
+
 pub begun : (x p : ℤ) (e : ℕ) → 1 ≤ e → p ≡ pos 1 → Squaring x e p x e 0
 begun x p e h is = record {
-  whole = sym (one-mul_z (int_pow x e)) ∙ ap (λ (z : ℤ). z *ℤ int_pow x e) (sym is);
+  whole = one-times p (int_pow x e) is;
   nonzero = λ k. subst (λ (z : ℤ). 0 < unsigned_abs z) (sym is) (omega arith);
   some = h;
   counted = omega arith;
@@ -115,14 +118,13 @@ right_nonzero : (a b : ℤ) → 0 < unsigned_abs (a *ℤ b) → 0 < unsigned_abs
 right_nonzero a b h = left_nonzero b a (subst (λ (z : ℤ). 0 < unsigned_abs z) (mul_comm_z a b) h)
 
 pub odd-turn : {x p b : ℤ} {e left count : ℕ} (q d : ℤ) (c : ℕ) → Squaring x e p b left count → 1 < left → left % 2 ≡ 1
-    → q ≡ p *ℤ b → d ≡ b *ℤ b → c ≡ count + 1 + 1 → Squaring x e q d (left / 2) c
+    → q ≡ p *ℤ b → d ≡ b *ℤ b → c ≤ count + 1 + 1 → Squaring x e q d (left / 2) c
 odd-turn {x} {p} {b} {e} {left} {count} q d c s h o is square add =
     let base : 0 < unsigned_abs d → 0 < unsigned_abs b = λ k. left_nonzero b b (subst (λ (z : ℤ). 0 < unsigned_abs z) square k) in
     record {
       whole =
           s.whole
-          ∙ ap (λ (n : ℕ). p *ℤ int_pow b n) (let m : left ≡ suc (left / 2 + left / 2) = omega arith in m)
-          ∙ ap (λ (z : ℤ). p *ℤ z) (power-suc b (left / 2 + left / 2))
+          ∙ ap (λ (z : ℤ). p *ℤ z) (power-odd b left o)
           ∙ sym (mul_assoc_z p b (int_pow b (left / 2 + left / 2)))
           ∙ ap (λ (z : ℤ). z *ℤ int_pow b (left / 2 + left / 2)) (sym is)
           ∙ ap (λ (z : ℤ). q *ℤ z) (sym (squared b d left square));
@@ -152,17 +154,28 @@ last-turn {x} {p} {b} {e} {left} {count} s h =
     let some = s.some in
     ap (λ (z : ℤ). p *ℤ z) (sym (power-one b)) ∙ ap (λ (n : ℕ). p *ℤ int_pow b n) (let m : 1 ≡ left = omega arith in m) ∙ sym s.whole
 
-power-steady : (b : ℤ) (n : ℕ) → b *ℤ b ≡ b → int_pow b (suc n) ≡ b
-power-steady b zero h = power-one b
-power-steady b (suc n) h = power-suc b (suc n) ∙ ap (λ (z : ℤ). b *ℤ z) (power-steady b n h) ∙ h
+-- ---- bases whose square is themselves or 1
+
+pub equal-numbers : (x y : ℤ) → true ≡ int_eq x y → x ≡ y
+equal-numbers x y t = (Decides-int_eq x y).0 (sym t)
 
 -- a base that is its own square is each of its powers
-pub steady-turn : {x p b d : ℤ} {e left count : ℕ} → Squaring x e p b left count → d ≡ b *ℤ b → true ≡ int_eq d b → p *ℤ b ≡ int_pow x e
-steady-turn {x} {p} {b} {d} {e} {left} {count} s square t =
-    let some = s.some in
-    let same : d ≡ b = (Decides-int_eq d b).0 (sym t) in
-    ap (λ (z : ℤ). p *ℤ z) (sym (power-steady b (left - 1) (sym square ∙ same)))
-    ∙ ap (λ (n : ℕ). p *ℤ int_pow b n) (let m : suc (left - 1) ≡ left = omega arith in m) ∙ sym s.whole
+pub idempotent-power : (b : ℤ) (n : ℕ) → 1 ≤ n → b *ℤ b ≡ b → b ≡ int_pow b n
+idempotent-power b zero some h = absurd (omega arith)
+idempotent-power b (suc zero) some h = sym (power-one b)
+idempotent-power b (suc (suc n)) some h =
+    sym (power-suc b (suc n) ∙ ap (λ (z : ℤ). b *ℤ z) (sym (idempotent-power b (suc n) (omega arith) h)) ∙ h)
+
+-- the powers of a base x whose square d is 1 are x and d in turn
+unit-twice : (x d : ℤ) (e : ℕ) → 1 < e → d ≡ x *ℤ x → d ≡ pos 1 → d ≡ int_pow x (e / 2 + e / 2)
+unit-twice x d e two square one = idempotent-power d (e / 2) (omega arith) (sym (one-times d d one)) ∙ squared x d e square
+
+pub unit-even : (x d : ℤ) (e : ℕ) → 1 < e → (e % 2 ≡ 1 → ⊥) → d ≡ x *ℤ x → d ≡ pos 1 → d ≡ int_pow x e
+unit-even x d e two o square one = unit-twice x d e two square one ∙ ap (int_pow x) (let m : e / 2 + e / 2 ≡ e = omega arith in m)
+
+pub unit-odd : (x d : ℤ) (e : ℕ) → 1 < e → e % 2 ≡ 1 → d ≡ x *ℤ x → d ≡ pos 1 → x ≡ int_pow x e
+unit-odd x d e two o square one =
+    one-times d x one ∙ mul_comm_z d x ∙ ap (λ (z : ℤ). x *ℤ z) (unit-twice x d e two square one) ∙ sym (power-odd x e o)
 
 -- ---- the count
 

@@ -1,40 +1,81 @@
-use Rattle.std.proofs.Common.{◌≡◌, ◌/◌, ◌*ℤ◌, arith, ap}
+use Rattle.std.proofs.Common.{◌≡◌, ◌/◌, ◌*ℤ◌, arith, ap, sym, ◌∙◌}
+use Rattle.std.specs.Prelude.{pos}
 use Rattle.arbitrary_base.specs.Range.{InRange}
-use Rattle.arbitrary_base.proofs.integers.Squaring.{Squaring, power-none, begun, odd-turn, even-turn, last-turn, steady-turn, room, spent, product-beyond, square-beyond, last-product, one-in_range, InRange-equal}
+use Rattle.arbitrary_base.proofs.integers.Squaring.{Squaring, power-none, one-times, begun, odd-turn, even-turn, last-turn, equal-numbers, idempotent-power, unit-odd, unit-even, room, spent, product-beyond, square-beyond, last-product, one-in_range, InRange-equal}
 use Rattle.arbitrary_base.proofs.power.exact_power.Goals as goal
-use Rattle.arbitrary_base.proofs.power.exact_power.Goals.{then-left-eq1+in_ok-product, else-left-eq1}
+use Rattle.arbitrary_base.proofs.power.exact_power.Goals.{then-exp-eq1, else-exp-eq1, then-exp-gt1+in_ok-square+else-equal+else-equal-2, else-exp-gt1, then-exp-eq1-2, else-exp-eq1-2, then-left-eq1+in_ok-product, else-left-eq1}
 
 pub returns-then-exp-eq0-clause-value : goal.returns-then-exp-eq0-clause-value
 returns-then-exp-eq0-clause-value g c = power-none _ _ _ c.one-product.ensures c.if-exp-eq0.true
 
-pub loop-left-init : goal.loop-left-init
-loop-left-init g c = record {
-  squaring = rw c.requires.started (begun _ _ _ (omega arith) c.one-product.ensures);
-  product_in = InRange-equal c.one-product.ensures (one-in_range _ _ c.requires.some);
-  base_in = c.requires.range;
-}
-
-pub multiply-requires-clause-room : goal.multiply-requires-clause-room
-multiply-requires-clause-room g c = let k = room c.loop-left.invariant.squaring c.ranges.exp.fits in omega arith
+-- ---- the first turn
 
 pub returns-in_err-square-clause-value : goal.returns-in_err-square-clause-value
 returns-in_err-square-clause-value g c =
-    let i = c.loop-left.invariant in
-    rw c.from_residual.ensures (square-beyond _ _ i.squaring c.loop-left-test.true i.base_in c.in_err-square.ensures.product)
-
-pub returns-in_err-square-clause-counted : goal.returns-in_err-square-clause-counted
-returns-in_err-square-clause-counted g c = let k = spent c.loop-left.invariant.squaring in omega arith
-
-pub multiply-requires-then-equal-clause-room : goal.multiply-requires-then-equal-clause-room
-multiply-requires-then-equal-clause-room g c = let k = room c.loop-left.invariant.squaring c.ranges.exp.fits in omega arith
+    let n = g.T.Storage.number in
+    let first = begun (n c.args.x) _ c.args.exp (omega arith) c.one-product.ensures in
+    rw c.from_residual.ensures (square-beyond _ _ first c.if-exp-gt1.true c.requires.range c.in_err-square.ensures.product)
 
 pub returns-then-equal-clause-value : goal.returns-then-equal-clause-value
 returns-then-equal-clause-value g c =
-    let i = c.loop-left.invariant in
-    last-product g.T.Storage.number _ _ c.multiply-then-equal.result i.squaring i.product_in i.base_in (steady-turn i.squaring c.in_ok-square.ensures.product.1 (c.if-equal.ensures)) c.multiply-then-equal.ensures.product
+    idempotent-power _ _ (omega arith) (sym c.in_ok-square.ensures.product.1 ∙ equal-numbers _ _ c.if-equal.ensures)
 
 pub returns-then-equal-clause-counted : goal.returns-then-equal-clause-counted
-returns-then-equal-clause-counted g c = let k = spent c.loop-left.invariant.squaring in omega arith
+returns-then-equal-clause-counted g c = let k = spent (begun (g.T.Storage.number c.args.x) _ c.args.exp (omega arith) c.one-product.ensures) in omega arith
+
+pub returns-then-equal-2-clause-value : goal.returns-then-equal-2-clause-value
+returns-then-equal-2-clause-value g c =
+    let n = g.T.Storage.number in
+    let square = c.in_ok-square.ensures.product.1 in
+    let one : n c.in_ok-square.square ≡ pos 1 = equal-numbers _ _ c.if-equal-2.ensures ∙ c.one-product.ensures in
+    elim c.if-exp-eq1.branch [
+      | then-exp-eq1 w ↦ ap n w.result-is ∙ unit-odd _ _ _ c.if-exp-gt1.true w.if-exp-eq1.true square one
+      | else-exp-eq1 w ↦ ap n w.result-is ∙ unit-even _ _ _ c.if-exp-gt1.true w.if-exp-eq1.false square one
+    ]
+
+pub returns-then-equal-2-clause-counted : goal.returns-then-equal-2-clause-counted
+returns-then-equal-2-clause-counted g c = let k = spent (begun (g.T.Storage.number c.args.x) _ c.args.exp (omega arith) c.one-product.ensures) in omega arith
+
+-- ---- the loop
+
+pub loop-left-init : goal.loop-left-init
+loop-left-init g c =
+    let n = g.T.Storage.number in
+    let one = c.one-product.ensures in
+    let first = begun (n c.args.x) _ c.args.exp (omega arith) one in
+    let one_in : InRange g.T.Storage.SIGNED c.args.bits (n c.one-product.result) = InRange-equal one (one-in_range _ _ c.requires.some) in
+    elim c.if-exp-gt1.branch [
+      | then-exp-gt1+in_ok-square+else-equal+else-equal-2 w ↦
+          (let square = w.in_ok-square.ensures.product in
+          let next : Squaring (n c.args.x) c.args.exp (n w.if-exp-eq1-2.product) (n w.in_ok-square.square) (c.args.exp / 2) w.multiply.new.count × InRange g.T.Storage.SIGNED c.args.bits (n w.if-exp-eq1-2.product) =
+          elim w.if-exp-eq1-2.branch [
+            | then-exp-eq1-2 v ↦ (
+              odd-turn _ _ _ first w.if-exp-gt1.true v.if-exp-eq1-2.true (ap n v.product-is ∙ one-times _ _ one) square.1 (omega arith),
+              InRange-equal {x = n c.args.x} (ap n v.product-is) c.requires.range,
+            )
+            | else-exp-eq1-2 v ↦ (
+              even-turn _ _ _ first w.if-exp-gt1.true v.if-exp-eq1-2.false (ap n v.product-is) square.1 (omega arith),
+              InRange-equal {x = n c.one-product.result} (ap n v.product-is) one_in,
+            )
+          ] in
+          rw (w.count-is, w.product-is, w.base-is, w.left-is) record {
+            squaring = next.0;
+            product_in = next.1;
+            base_in = InRange-equal {x = n c.args.x *ℤ n c.args.x} square.1 square.0;
+          })
+      | else-exp-gt1 w ↦ rw (w.count-is, w.product-is, w.base-is, w.left-is, c.requires.started) record { squaring = first; product_in = one_in; base_in = c.requires.range }
+    ]
+
+pub multiply-requires-in-loop-left-clause-room : goal.multiply-requires-in-loop-left-clause-room
+multiply-requires-in-loop-left-clause-room g c = let k = room c.loop-left.invariant.squaring c.ranges.exp.fits in omega arith
+
+pub returns-in_err-square-2-clause-value : goal.returns-in_err-square-2-clause-value
+returns-in_err-square-2-clause-value g c =
+    let i = c.loop-left.invariant in
+    rw c.from_residual-in_err-square-2.ensures (square-beyond _ _ i.squaring c.loop-left-test.true i.base_in c.in_err-square-2.ensures.product)
+
+pub returns-in_err-square-2-clause-counted : goal.returns-in_err-square-2-clause-counted
+returns-in_err-square-2-clause-counted g c = let k = spent c.loop-left.invariant.squaring in omega arith
 
 pub multiply-requires-then-left-eq1-clause-room : goal.multiply-requires-then-left-eq1-clause-room
 multiply-requires-then-left-eq1-clause-room g c = let k = room c.loop-left.invariant.squaring c.ranges.exp.fits in omega arith
@@ -51,8 +92,8 @@ pub loop-left-preserved : goal.loop-left-preserved
 loop-left-preserved g c =
     let i = c.loop-left.invariant in
     let n = g.T.Storage.number in
-    let square = c.in_ok-square.ensures.product in
-    let next : Squaring (n c.args.x) c.args.exp (n c.if-left-eq1.product) (n c.in_ok-square.square) (c.loop-left.left / 2) c.if-left-eq1.count × InRange g.T.Storage.SIGNED c.args.bits (n c.if-left-eq1.product) =
+    let square = c.in_ok-square-2.ensures.product in
+    let next : Squaring (n c.args.x) c.args.exp (n c.if-left-eq1.product) (n c.in_ok-square-2.square) (c.loop-left.left / 2) c.if-left-eq1.count × InRange g.T.Storage.SIGNED c.args.bits (n c.if-left-eq1.product) =
     elim c.if-left-eq1.branch [
       | then-left-eq1+in_ok-product w ↦
           (let product = w.in_ok-product.ensures.product in
