@@ -2,24 +2,25 @@
 
 use arbitrary_int::prelude::*;
 
-/// Exponents, and the count of each for a base that is not 0 or 1: one squaring for each binary digit but
-/// the last, and one product for each digit that is one.
+/// Exponents, and the count of each for a base that is not 0, 1 or -1: one squaring for each binary digit but
+/// the last, and one product for each digit that is one, but for the lowest of several digits: with it the
+/// product begins.
 fn counts() -> [(u32, u32); 15] {
     [
         (0, 0),
         (1, 1),
         (2, 2),
-        (3, 3),
+        (3, 2),
         (4, 3),
-        (5, 4),
+        (5, 3),
         (6, 4),
-        (7, 5),
+        (7, 4),
         (8, 4),
-        (15, 7),
+        (15, 6),
         (16, 5),
-        (31, 9),
+        (31, 8),
         (32, 6),
-        (63, 11),
+        (63, 10),
         (64, 7),
     ]
 }
@@ -57,13 +58,14 @@ fn powers_take_the_multiplications_of_squaring(rt: HostRuntime) {
         ],
         [None; 3]
     );
-    // 0 and 1 are their own squares, which the first squaring shows; one product ends it.
-    let twos = [(2, 2), (3, 2), (4, 2), (1000, 2), (u32::MAX, 2)];
+    // The first squaring shows that a base is 0, 1 or -1, and tells each of their powers.
+    let squared_once = [(2, 1), (3, 1), (4, 1), (1000, 1), (u32::MAX, 1)];
     assert_eq!(rt;
         [
-            first_wrong(u7::new(0), &twos),
-            first_wrong(u7::new(1), &twos),
+            first_wrong(u7::new(0), &squared_once),
+            first_wrong(u7::new(1), &squared_once),
+            first_wrong(i7::new(-1), &squared_once),
         ],
-        [None; 2]
+        [None; 3]
     );
 }
