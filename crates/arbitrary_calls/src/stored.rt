@@ -20,7 +20,8 @@ pub trait Stored: Numbered {
         ensures number { Self.Representation.number result ≡ Self.number self }
         ensures range { InRange Self.Representation.SIGNED Self.BITS (Self.number self) }
         ensures some { 1 ≤ Self.BITS }
-        ensures storage { Self.BITS ≤ Self.Representation.WIDTH };
+        ensures storage { Self.BITS ≤ Self.Representation.WIDTH }
+        ensures width { Self.valid };
 
     /// The value of a storage's number, which is in range. The width is valid.
     fn from_storage(value: Self::Representation) -> Self

@@ -1,9 +1,38 @@
-//! What generic code knows with no word on the width: `&` in order and, with no sign, that the 128 bits of a number are the number; and the ends
-//! of a valid width.
+//! What generic code knows after a call with no word on the width: that it is valid, and that a result which clamps is in range. Without a sign
+//! the 128 bits of a number are the number.
 
 ghost use Rattle.std.specs.Prelude.{◌≡◌, ◌↔◌, ◌/◌, ◌%◌, IsTrue, IsNone, unsigned_abs, pos};
 
 use arbitrary_int::prelude::*;
+
+/// Sums that wrap associate.
+pub fn sum_associates<V: FixedWidth>(x: V, y: V, z: V) -> bool
+    ensures { IsTrue result }
+{
+    x.wrapping_add(y).wrapping_add(z) == x.wrapping_add(y.wrapping_add(z))
+}
+
+/// A sum that clamps is at most the greatest number.
+pub fn clamped_at_most<V: FixedWidth>(x: V, y: V) -> bool
+    ensures { IsTrue result }
+{
+    x.saturating_add(y) <= V::max_value()
+}
+
+/// A number less itself is 0.
+pub fn less_itself<V: FixedWidth>(x: V) -> bool
+    ensures { IsTrue result }
+{
+    let nothing = x.wrapping_sub(x);
+    nothing == V::zero()
+}
+
+/// A left shift of both operands of `|`.
+pub fn moved_or<V: FixedWidth>(x: V, y: V, amount: u32) -> bool
+    ensures { IsTrue result }
+{
+    (x | y).wrapping_shl(amount) == x.wrapping_shl(amount) | y.wrapping_shl(amount)
+}
 
 /// A number under a mask is at most the number.
 pub fn masked_at_most<V: FixedWidth + UnsignedInteger>(x: V, mask: V) -> bool

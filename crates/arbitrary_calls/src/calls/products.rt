@@ -31,6 +31,7 @@ pub trait ProductCalls: Stored + LowBits {
             Congruent Self.BITS (Self.number result) product }
         ensures range { InRange Self.IS_SIGNED Self.BITS (Self.number self) }
         ensures operand { InRange Self.IS_SIGNED Self.BITS (Self.number rhs) }
+        ensures width { Self.valid }
     {
         Self::from_u128_bits(self.low_bits().wrapping_mul(rhs.low_bits()))
     }
@@ -52,6 +53,7 @@ pub trait ProductCalls: Stored + LowBits {
         ensures bounded { InRange Self.IS_SIGNED Self.BITS (Self.number result) }
         ensures swap { Self.number self *ℤ Self.number rhs ≡ Self.number rhs *ℤ Self.number self }
         ensures operand { InRange Self.IS_SIGNED Self.BITS (Self.number rhs) }
+        ensures width { Self.valid }
     {
         Self::from_storage(saturating::mul(self.to_storage(), rhs.to_storage(), Self::BITS))
     }
@@ -64,6 +66,7 @@ pub trait ProductCalls: Stored + LowBits {
         ensures swap { Self.number self *ℤ Self.number rhs ≡ Self.number rhs *ℤ Self.number self }
         ensures range { InRange Self.IS_SIGNED Self.BITS (Self.number self) }
         ensures operand { InRange Self.IS_SIGNED Self.BITS (Self.number rhs) }
+        ensures width { Self.valid }
     {
         match checked::mul(self.to_storage(), rhs.to_storage(), Self::BITS) {
             Some(product) => Some(Self::from_storage(product)),
@@ -89,6 +92,7 @@ pub trait ProductCalls: Stored + LowBits {
         ensures swap { Self.number self *ℤ Self.number rhs ≡ Self.number rhs *ℤ Self.number self }
         ensures range { InRange Self.IS_SIGNED Self.BITS (Self.number self) }
         ensures operand { InRange Self.IS_SIGNED Self.BITS (Self.number rhs) }
+        ensures width { Self.valid }
     {
         let (product, overflow) = overflowing::mul(self.to_storage(), rhs.to_storage(), Self::BITS);
         (Self::from_storage(product), overflow)
@@ -110,6 +114,7 @@ pub trait ProductCalls: Stored + LowBits {
             → number result ≡ pos 1 }
         ensures range { InRange Self.IS_SIGNED Self.BITS (Self.number self) }
         ensures operand { InRange Self.IS_SIGNED Self.BITS (Self.number rhs) }
+        ensures width { Self.valid }
     {
         Self::from_storage(wrapping::div(self.to_storage(), rhs.to_storage(), Self::BITS))
     }
@@ -134,6 +139,7 @@ pub trait ProductCalls: Stored + LowBits {
             InRange Self.IS_SIGNED Self.BITS (pos 1) → number self ≡ number rhs
             → number result ≡ pos 1 }
         ensures operand { InRange Self.IS_SIGNED Self.BITS (Self.number rhs) }
+        ensures width { Self.valid }
     {
         Self::from_storage(saturating::div(self.to_storage(), rhs.to_storage(), Self::BITS))
     }
@@ -147,6 +153,7 @@ pub trait ProductCalls: Stored + LowBits {
             Self.number rhs ≢ pos 0 → Self.number self ≡ Self.number rhs → quotient ≡ pos 1 }
         ensures range { InRange Self.IS_SIGNED Self.BITS (Self.number self) }
         ensures operand { InRange Self.IS_SIGNED Self.BITS (Self.number rhs) }
+        ensures width { Self.valid }
     {
         match checked::div(self.to_storage(), rhs.to_storage(), Self::BITS) {
             Some(quotient) => Some(Self::from_storage(quotient)),
@@ -174,6 +181,7 @@ pub trait ProductCalls: Stored + LowBits {
             → number result.0 ≡ pos 1 }
         ensures range { InRange Self.IS_SIGNED Self.BITS (Self.number self) }
         ensures operand { InRange Self.IS_SIGNED Self.BITS (Self.number rhs) }
+        ensures width { Self.valid }
     {
         let (quotient, overflow) = overflowing::div(
             self.to_storage(),
@@ -201,6 +209,7 @@ pub trait ProductCalls: Stored + LowBits {
         ensures first { exp ≡ 1 → Self.number result ≡ Self.number self }
         ensures of_one { Self.number self ≡ pos 1 → Self.number result ≡ pos 1 }
         ensures of_zero { Self.number self ≡ pos 0 → 1 ≤ exp → Self.number result ≡ pos 0 }
+        ensures width { Self.valid }
     {
         Self::from_storage(power::saturating_pow(self.to_storage(), exp, Self::BITS))
     }
@@ -226,6 +235,7 @@ pub trait ProductCalls: Stored + LowBits {
         ensures first { exp ≡ 1 → Self.number result.0 ≡ Self.number self }
         ensures of_one { Self.number self ≡ pos 1 → Self.number result.0 ≡ pos 1 }
         ensures of_zero { Self.number self ≡ pos 0 → 1 ≤ exp → Self.number result.0 ≡ pos 0 }
+        ensures width { Self.valid }
     {
         let (power, count) = power::saturating_pow_counted(self.to_storage(), exp, Self::BITS);
         (Self::from_storage(power), count)

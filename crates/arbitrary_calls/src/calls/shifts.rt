@@ -34,6 +34,7 @@ pub trait ShiftCalls: Stored + LowBits {
             (y : ℤ) → y ≡ product → Congruent Self.BITS (Self.number result) y }
         ensures none { amount % Self.BITS ≡ 0 → Self.number result ≡ Self.number self }
         ensures operand { InRange Self.IS_SIGNED Self.BITS (Self.number self) }
+        ensures width { Self.valid }
     {
         let storage = self.to_storage();
         Self::from_storage(shifts::shl(storage, shifts::places(amount, Self::BITS), Self::BITS))
@@ -54,6 +55,7 @@ pub trait ShiftCalls: Stored + LowBits {
             IfSome result (λ r. Congruent Self.BITS (Self.number r) product) }
         ensures none { amount ≡ 0 → IfSome result (λ r. Self.number r ≡ Self.number self) }
         ensures operand { InRange Self.IS_SIGNED Self.BITS (Self.number self) }
+        ensures width { Self.valid }
     {
         let storage = self.to_storage();
         if (amount as usize) < Self::BITS {
@@ -79,6 +81,7 @@ pub trait ShiftCalls: Stored + LowBits {
             Congruent Self.BITS (Self.number result.0) product }
         ensures none { amount % Self.BITS ≡ 0 → Self.number result.0 ≡ Self.number self }
         ensures operand { InRange Self.IS_SIGNED Self.BITS (Self.number self) }
+        ensures width { Self.valid }
     {
         (self.wrapping_shl(amount), amount as usize >= Self::BITS)
     }
@@ -100,6 +103,7 @@ pub trait ShiftCalls: Stored + LowBits {
             InRange Self.IS_SIGNED (Self.BITS - places) (Self.number result) }
         ensures none { amount % Self.BITS ≡ 0 → Self.number result ≡ Self.number self }
         ensures operand { InRange Self.IS_SIGNED Self.BITS (Self.number self) }
+        ensures width { Self.valid }
     {
         let storage = self.to_storage();
         Self::from_storage(shifts::shr(storage, shifts::places(amount, Self::BITS), Self::BITS))
@@ -122,6 +126,7 @@ pub trait ShiftCalls: Stored + LowBits {
             IfSome result (λ r. InRange Self.IS_SIGNED (Self.BITS - amount) (number r)) }
         ensures none { amount ≡ 0 → IfSome result (λ r. Self.number r ≡ Self.number self) }
         ensures operand { InRange Self.IS_SIGNED Self.BITS (Self.number self) }
+        ensures width { Self.valid }
     {
         let storage = self.to_storage();
         if (amount as usize) < Self::BITS {
@@ -149,6 +154,7 @@ pub trait ShiftCalls: Stored + LowBits {
             InRange Self.IS_SIGNED (Self.BITS - places) (Self.number result.0) }
         ensures none { amount % Self.BITS ≡ 0 → Self.number result.0 ≡ Self.number self }
         ensures operand { InRange Self.IS_SIGNED Self.BITS (Self.number self) }
+        ensures width { Self.valid }
     {
         (self.wrapping_shr(amount), amount as usize >= Self::BITS)
     }
@@ -165,6 +171,7 @@ pub trait ShiftCalls: Stored + LowBits {
             rotated_right Self.IS_SIGNED Self.BITS (number result) places ≡ number self }
         ensures round { amount % Self.BITS ≡ 0 → Self.number result ≡ Self.number self }
         ensures range { InRange Self.IS_SIGNED Self.BITS (Self.number self) }
+        ensures width { Self.valid }
     {
         Self::from_u128_bits(patterns::rotate_left(self.low_bits(), Self::BITS, amount))
     }
@@ -181,6 +188,7 @@ pub trait ShiftCalls: Stored + LowBits {
             rotated_left Self.IS_SIGNED Self.BITS (number result) places ≡ number self }
         ensures round { amount % Self.BITS ≡ 0 → Self.number result ≡ Self.number self }
         ensures range { InRange Self.IS_SIGNED Self.BITS (Self.number self) }
+        ensures width { Self.valid }
     {
         Self::from_u128_bits(patterns::rotate_right(self.low_bits(), Self::BITS, amount))
     }
@@ -193,6 +201,7 @@ pub trait ShiftCalls: Stored + LowBits {
             Self.number result ≡ val Self.IS_SIGNED (reverse list) }
         ensures undo { reversed Self.IS_SIGNED Self.BITS (Self.number result) ≡ Self.number self }
         ensures range { InRange Self.IS_SIGNED Self.BITS (Self.number self) }
+        ensures width { Self.valid }
     {
         Self::from_u128_bits(patterns::reverse_bits(self.low_bits(), Self::BITS))
     }

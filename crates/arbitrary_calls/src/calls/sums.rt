@@ -30,6 +30,7 @@ pub trait SumCalls: Stored + LowBits {
             wrapped_difference Self.IS_SIGNED Self.BITS (number result) (number rhs) ≡ number self }
         ensures range { InRange Self.IS_SIGNED Self.BITS (Self.number self) }
         ensures operand { InRange Self.IS_SIGNED Self.BITS (Self.number rhs) }
+        ensures width { Self.valid }
     {
         Self::from_u128_bits(self.low_bits().wrapping_add(rhs.low_bits()))
     }
@@ -51,6 +52,7 @@ pub trait SumCalls: Stored + LowBits {
         ensures bounded { InRange Self.IS_SIGNED Self.BITS (Self.number result) }
         ensures swap { Self.number self +ℤ Self.number rhs ≡ Self.number rhs +ℤ Self.number self }
         ensures operand { InRange Self.IS_SIGNED Self.BITS (Self.number rhs) }
+        ensures width { Self.valid }
     {
         Self::from_storage(saturating::add(self.to_storage(), rhs.to_storage(), Self::BITS))
     }
@@ -65,6 +67,7 @@ pub trait SumCalls: Stored + LowBits {
             number rhs ≡ pos 0 → option_map number result ≡ Some (number self) }
         ensures range { InRange Self.IS_SIGNED Self.BITS (Self.number self) }
         ensures operand { InRange Self.IS_SIGNED Self.BITS (Self.number rhs) }
+        ensures width { Self.valid }
     {
         match checked::add(self.to_storage(), rhs.to_storage(), Self::BITS) {
             Some(sum) => Some(Self::from_storage(sum)),
@@ -90,6 +93,7 @@ pub trait SumCalls: Stored + LowBits {
         ensures swap { Self.number self +ℤ Self.number rhs ≡ Self.number rhs +ℤ Self.number self }
         ensures range { InRange Self.IS_SIGNED Self.BITS (Self.number self) }
         ensures operand { InRange Self.IS_SIGNED Self.BITS (Self.number rhs) }
+        ensures width { Self.valid }
     {
         let (sum, overflow) = overflowing::add(self.to_storage(), rhs.to_storage(), Self::BITS);
         (Self::from_storage(sum), overflow)
@@ -109,6 +113,7 @@ pub trait SumCalls: Stored + LowBits {
             wrapped_sum Self.IS_SIGNED Self.BITS (number result) (number rhs) ≡ number self }
         ensures range { InRange Self.IS_SIGNED Self.BITS (Self.number self) }
         ensures operand { InRange Self.IS_SIGNED Self.BITS (Self.number rhs) }
+        ensures width { Self.valid }
     {
         Self::from_u128_bits(self.low_bits().wrapping_sub(rhs.low_bits()))
     }
@@ -129,6 +134,7 @@ pub trait SumCalls: Stored + LowBits {
         ensures range { InRange Self.IS_SIGNED Self.BITS (Self.number self) }
         ensures bounded { InRange Self.IS_SIGNED Self.BITS (Self.number result) }
         ensures operand { InRange Self.IS_SIGNED Self.BITS (Self.number rhs) }
+        ensures width { Self.valid }
     {
         Self::from_storage(saturating::sub(self.to_storage(), rhs.to_storage(), Self::BITS))
     }
@@ -142,6 +148,7 @@ pub trait SumCalls: Stored + LowBits {
             number rhs ≡ pos 0 → option_map number result ≡ Some (number self) }
         ensures range { InRange Self.IS_SIGNED Self.BITS (Self.number self) }
         ensures operand { InRange Self.IS_SIGNED Self.BITS (Self.number rhs) }
+        ensures width { Self.valid }
     {
         match checked::sub(self.to_storage(), rhs.to_storage(), Self::BITS) {
             Some(difference) => Some(Self::from_storage(difference)),
@@ -167,6 +174,7 @@ pub trait SumCalls: Stored + LowBits {
             Congruent Self.BITS (Self.number result.0) difference }
         ensures range { InRange Self.IS_SIGNED Self.BITS (Self.number self) }
         ensures operand { InRange Self.IS_SIGNED Self.BITS (Self.number rhs) }
+        ensures width { Self.valid }
     {
         let (difference, overflow) = overflowing::sub(
             self.to_storage(),

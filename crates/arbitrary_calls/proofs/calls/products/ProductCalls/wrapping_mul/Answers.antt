@@ -15,4 +15,5 @@ returns g c =
       congruent = wrapped-congruent _ _ _ _ e;
       range = c.low_bits.ensures.range;
       operand = c.low_bits-2.ensures.range;
+      width = c.low_bits.ensures.width;
     }

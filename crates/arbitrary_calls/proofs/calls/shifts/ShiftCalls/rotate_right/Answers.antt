@@ -20,4 +20,5 @@ returns g c =
       undo = rotl-undoes _ _ (c.args.amount % g.Self.Numbered.BITS) _ _ _ o l c.low_bits.ensures.range e (rotl-is _ _ _ _);
       round = λ z. e ∙ sym (rotr-is _ _ _ _) ∙ ap (rotated_right g.Self.Numbered.IS_SIGNED g.Self.Numbered.BITS _) z ∙ rotated_right-none _ _ _ o c.low_bits.ensures.range;
       range = c.low_bits.ensures.range;
+      width = c.low_bits.ensures.width;
     }

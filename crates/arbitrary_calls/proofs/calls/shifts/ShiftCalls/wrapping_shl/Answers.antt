@@ -24,4 +24,5 @@ returns g c =
       congruent = λ y d. subst (Congruent g.Self.Numbered.BITS (g.Self.Numbered.number c.from_storage.result)) (sym d) (shl-congruent _ _ _ _ _ o l e);
       none = λ z. e ∙ sym (left-is _ _ _ _) ∙ ap (shifted_left g.Self.Numbered.IS_SIGNED g.Self.Numbered.BITS _) z ∙ shifted_left-none _ _ _ o r;
       operand = r;
+      width = c.to_storage-storage.ensures.width;
     }

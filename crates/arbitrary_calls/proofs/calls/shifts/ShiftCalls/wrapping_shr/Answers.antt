@@ -24,4 +24,5 @@ returns g c =
       range = shr-range _ _ _ _ _ o l r e;
       none = λ z. e ∙ sym (right-is _ _ _ _) ∙ ap (shifted_right g.Self.Numbered.IS_SIGNED g.Self.Numbered.BITS _) z ∙ shifted_right-none _ _ _ o r;
       operand = r;
+      width = c.to_storage-storage.ensures.width;
     }

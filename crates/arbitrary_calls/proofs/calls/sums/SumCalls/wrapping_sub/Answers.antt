@@ -17,4 +17,5 @@ returns g c =
       undo = add-undoes _ _ _ (g.Self.Numbered.number c.args.rhs) _ _ o c.low_bits.ensures.range e (sum-is _ _ _ _);
       range = c.low_bits.ensures.range;
       operand = c.low_bits-2.ensures.range;
+      width = c.low_bits.ensures.width;
     }
