@@ -29,9 +29,10 @@ OF_LAWS = [*(['BitVector', it] for it in OPERATIONS), ['RightRotations', 'right_
            ['OverflowBits', 'overflow_bits'], ['OverflowBits', 'sign_of_xor'], ['TurnedSigns', 'turned_orders'],
            ['FlagTests', 'one_flag'], ['PositiveResults', 'positive_results'], ['Sets', 'signed_lists']]
 # Not among these: by the two ways to distribute `&` and `|` at once terms come without end, and what they tell is told bit by bit. The others
-# are tried where no count stands, and with all but the first two of them a law of `&` and `|` was lost; with the last a law of counts.
+# are tried where no count stands, and with all but the first two of them a law of `&` and `|` was lost; with `tail-orders` a law of counts.
+# `within-at_most` would be tried at each `x & !y`.
 NOT_OF_LAWS = {'and-distributes_or', 'or-distributes_and', 'and-distributes_xor', 'and-of_negated', 'and-below', 'alone-zero', 'alone-is_xor',
-               'popcount-of_xor_none', 'popcount-before_one_bit', 'popcount-within_or', 'tail-orders'}
+               'popcount-of_xor_none', 'popcount-before_one_bit', 'popcount-within_or', 'tail-orders', 'within-at_most'}
 LAWS = re.compile(r'^(pub ruleset laws = ).*$', re.M)
 
 

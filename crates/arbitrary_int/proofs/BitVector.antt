@@ -28,7 +28,9 @@ use Rattle.arbitrary_int.proofs.KnownCount.{popcount-of_numeral}
 use Rattle.arbitrary_int.proofs.KnownEnds.{front-of_negative, front_ones-of_negative, front_ones-of_numeral, popcount-of_negative, tail_ones-of_negative, tail_ones-of_numeral}
 use Rattle.arbitrary_int.proofs.CountBounds.{front-of_numeral}
 use Rattle.arbitrary_int.proofs.LeadingZeros.{tail-of_numeral}
-use Rattle.arbitrary_int.proofs.MaskTests.{and-highest, and-minus_one, and_not-none, or-equal_xor, or-none, or-unchanged, xor-equal_or, xor-none, xor-unchanged}
+use Rattle.arbitrary_int.proofs.MaskTests.{and-highest, and-minus_one, and_not-none, or-equal_xor, or-none, or-unchanged, xor-equal_or, within-at_most, xor-none, xor-unchanged}
+use Rattle.arbitrary_int.proofs.OwnBits.{own_bits-in_range}
+use Rattle.arbitrary_int.proofs.FoldingOrder.{folds-exchanged}
 use Rattle.arbitrary_int.proofs.QuotientAndCube.{negated-is_difference, power-thrice, quotient-times}
 use Rattle.arbitrary_int.proofs.ShiftPairs.{further-at_most, left_right-wraps, nearer-at_least, rotated_left-as_sum, rotated_left-as_xor}
 use Rattle.arbitrary_int.proofs.SingleBit.{and-one_bit, left-of_one, low-of_right, low-of_right_not, low-of_right_set, reversed-one, reversed-one_bit}
@@ -49,7 +51,7 @@ pub ruleset shifts = (Decides-int_eq, shifted_left-none, shifted_left-zero, shif
 pub ruleset shifted_xors = (Decides-int_eq, bitwise_xor-zero, bitwise_xor-undoes, bitwise_xor-chain, bitwise_xor-exchanged, shifted_right-xor, shifted_right-twice, shifted_right-past, shifted_left-xor, shifted_left-twice, shifted_left-past)
 
 -- the same once more, by as many places: Gray codes
-pub ruleset folds = (Decides-int_eq, folded-twice, folded-away)
+pub ruleset folds = (Decides-int_eq, folded-twice, folded-away, folds-exchanged)
 
 -- rotations
 pub ruleset rotations = (Decides-int_eq, rotated_left-none, rotated_left-twice, rotated_left-round, rotated_left-zero, rotated_left-highest, rotated_left-minus_one, rotated_left-not_zero, rotated_left-and, rotated_left-or, rotated_left-xor, rotated_left-not, rotated_right-none, rotated_right-as_left, right-undoes_left, left-undoes_right)
@@ -88,13 +90,13 @@ pub ruleset complements = (Decides-int_eq, not-is_difference, negated-is_sum, no
 pub ruleset carries = (Decides-int_eq, sum-with_carry, sum-less_xor, sum-less_or, sum-less_and, difference-of_parts, difference-with_borrow, difference-less_xor, or-is_sum, xor-is_sum, or-less_xor, sum-with_highest, difference-with_highest, sum-twice, wrapped_product-two, wrapped_product-commutes, bitwise_and-commutes, bitwise_or-commutes, bitwise_xor-commutes, wrapped_sum-commutes)
 
 -- the order: what its tests tell, and bits, shifts and signs beside it
-pub ruleset order = (Decides-int_eq, le-tested, lt-tested, ge-tested, gt-tested, or-above, and-below_or, xor-below_or, or-below_sum, or-below_clamped, difference-below_xor, shifted_right-keeps_order, and-negative, or-negative, xor-negative, bitwise_and-commutes, bitwise_or-commutes, bitwise_xor-commutes, further-at_most, nearer-at_least)
+pub ruleset order = (Decides-int_eq, le-tested, lt-tested, ge-tested, gt-tested, or-above, and-below_or, xor-below_or, or-below_sum, or-below_clamped, difference-below_xor, shifted_right-keeps_order, and-negative, or-negative, xor-negative, bitwise_and-commutes, bitwise_or-commutes, bitwise_xor-commutes, further-at_most, nearer-at_least, within-at_most)
 
 -- the order of a signed number and its `&` or `|` with another
 pub ruleset signed_order = (le-tested, lt-tested, ge-tested, gt-tested, and-at_most, or-at_least, bitwise_and-commutes, bitwise_or-commutes)
 
 -- a number under a mask that is written out: what stays, what is cleared, set and turned over, in sums, multiples and remainders
-pub ruleset known_masks = (Decides-int_eq, and-digits, and-digits_signed, and-run, and-congruent, and-multiple, and-multiple_by_negative, and-within, and-below, and-by_complement, and-by_negative, or-by_and, xor-by_and, and-of_cleared, and-of_set)
+pub ruleset known_masks = (Decides-int_eq, and-digits, and-digits_signed, and-run, and-congruent, and-multiple, and-multiple_by_negative, and-within, and-below, and-by_complement, and-by_negative, or-by_and, xor-by_and, and-of_cleared, and-of_set, own_bits-in_range)
 
 -- an operand that both sides of a test of equality have
 pub ruleset cancellations = (Decides-int_eq, sums-equal, differences-equal, differences_from-equal, xors-equal, nots-equal, reversals-equal, left_rotations-equal, right_rotations-equal, wrapped_sum-commutes, bitwise_xor-commutes)
@@ -106,7 +108,7 @@ pub ruleset single_bits = (Decides-int_eq, left-of_one, and-one_bit, low-of_righ
 pub ruleset bit_tests = (Decides-int_eq, low-of_right_set, low-of_right_cleared, low-of_right_other_set, low-of_right_other_cleared, masked-of_other_set, masked-of_other_cleared, low-of_right_not, low-of_turned)
 
 -- flags that are set and cleared by a mask that is written out, exactly
-pub ruleset flags = (Decides-int_eq, and-digits, and-run, and-within, and-none, and-by_complement, and-by_negative, or-by_mask, xor-by_mask, and-of_cleared, and-of_cleared_by_negative, and-of_set)
+pub ruleset flags = (Decides-int_eq, and-digits, and-run, and-within, and-none, and-by_complement, and-by_negative, or-by_mask, xor-by_mask, and-of_cleared, and-of_cleared_by_negative, and-of_set, own_bits-in_range)
 
 -- written numbers that follow each other, and the parts of a number under written masks
 pub ruleset written_masks = (Decides-int_eq, and-written, or-written, xor-written, or-of_written_parts, xor-of_written_parts, and-of_written_or, bitwise_and-highest, bitwise_and-zero, bitwise_and-minus_one, bitwise_or-zero, bitwise_xor-zero)
@@ -124,4 +126,4 @@ pub ruleset quotients = (power-zero, power-one, power-twice, power-thrice, quoti
 pub ruleset bit_by_bit = (Decides-int_eq, and-compared, or-compared, xor-compared, not-compared, compared-and, compared-or, compared-xor, compared-not, bit-and, bit-or, bit-xor, bit-not, bit-zero, bit-highest, bit-minus_one)
 
 -- two tests of `&`, `|` or `^` that tell the same
-pub ruleset mask_tests = (Decides-int_eq, and_not-none, or-unchanged, or-equal_xor, xor-equal_or, xor-unchanged, xor-none, bitwise_and-commutes, bitwise_and-same, bitwise_or-commutes, bitwise_xor-commutes, or-none, and-minus_one, and-highest)
+pub ruleset mask_tests = (Decides-int_eq, and_not-none, or-unchanged, or-equal_xor, xor-equal_or, xor-unchanged, xor-none, bitwise_and-commutes, bitwise_and-same, bitwise_or-commutes, bitwise_xor-commutes, or-none, and-minus_one, and-highest, within-at_most)

@@ -28,6 +28,8 @@ pub mod BitTests
 pub mod BitByBit
 pub mod MovedBits
 pub mod MaskTests
+pub mod OwnBits
+pub mod FoldingOrder
 pub mod ShiftPairs
 pub mod LongerSide
 pub mod PositiveParts

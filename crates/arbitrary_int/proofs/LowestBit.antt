@@ -160,7 +160,12 @@ front-of_lowest s B x h f = by-count (count_by (λ b. b) (bits B x)) refl
         let k : prefix_len (beq false) (bits B x) < B = omega (arith, front-below (bits B x) (omega arith)) in
         ap (λ (c : ℤ). prefix_len (beq false) (bits B c)) (and-of_negated s B x h f d) ∙ front-of_one_bit s B _ k
 
-pub ruleset lowest_bits = (Decides-int_eq, popcount-of_lowest_cleared, front-of_lowest, and-of_negated, negated-is_difference, popcount-of_one_bit, front-of_one_bit, and-below, no_ones-of_zero, zero-of_no_ones)
+-- a mask that is an exact difference is that of the one which wraps, as the laws above have it
+pub and-of_difference : (s : Bool) (B : ℕ) (x y z : ℤ) → bitwise_and s B x (y -ℤ z) ≡ bitwise_and s B x (wrapped_difference s B y z)
+and-of_difference s B x y z =
+    and-is s B x _ ∙ ap (λ (l : List Bool). val s (bits_and (bits B x) l)) (sym (ap (bits B) (difference-is s B y z) ∙ bits-wrap s B (y -ℤ z))) ∙ sym (and-is s B x _)
+
+pub ruleset lowest_bits = (Decides-int_eq, popcount-of_lowest_cleared, front-of_lowest, and-of_negated, negated-is_difference, popcount-of_one_bit, front-of_one_bit, and-below, no_ones-of_zero, zero-of_no_ones, and-of_difference)
 
 -- a test of a power of two: `x & (x - 1) == 0`
 pub ruleset powers_of_two = (Decides-int_eq, none-left_by_before, popcount-of_one_bit)

@@ -1,6 +1,6 @@
 -- Two tests by `==` that tell the same of two numbers: whether one has no bit outside the other, whether they share none, whether they are equal,
 -- whether neither has a bit, or both have each.
-use Rattle.std.specs.Prelude.{◌≡◌, ℕ, ℤ, Bool, true, false, pos, negsuc, ◌&&◌, ◌≤◌, ◌^◌, ◌-ℤ◌}
+use Rattle.std.specs.Prelude.{◌≡◌, ℕ, ℤ, Bool, true, false, pos, negsuc, ◌&&◌, ◌≤◌, ◌^◌, ◌-ℤ◌, ◌≤ℤ◌}
 use Rattle.std.specs.Ordering.{int_eq}
 use Rattle.std.proofs.Common.{refl, sym, ap, ap₂, subst, ◌∙◌}
 use Rattle.std.proofs.lemmas.Bool.Decides.{Decides-int_eq, same_from_decides}
@@ -8,7 +8,8 @@ use Rattle.arbitrary_base.specs.Range.{InRange}
 use Rattle.arbitrary_base.specs.Operation.{bitwise_and, bitwise_not, bitwise_or, bitwise_xor}
 use Rattle.arbitrary_base.proofs.operations.Bitwise.{and-absorbs, bitwise_and-commutes, bitwise_and-highest, bitwise_and-minus_one, bitwise_and-zero, bitwise_or-commutes, bitwise_or-highest, bitwise_or-minus_one, bitwise_or-zero, bitwise_xor-commutes, bitwise_xor-equal, bitwise_xor-same, bitwise_xor-undoes, bitwise_xor-zero, or-absorbs}
 use Rattle.arbitrary_base.proofs.operations.BitsAndSums.{and-in_range, xor-in_range}
-use Rattle.arbitrary_base.proofs.operations.Definition.{zero-in_range}
+use Rattle.arbitrary_base.proofs.operations.Definition.{and-is, of-bits, zero-in_range}
+use Rattle.arbitrary_base.proofs.operations.OperatorOrder.{and-at_most}
 use Rattle.arbitrary_base.proofs.operations.Mask.{and_not-is_xor, or-is_xor, or-of_parts}
 
 alike : (x y z w : ℤ) → (x ≡ y → z ≡ w) → (z ≡ w → x ≡ y) → int_eq x y ≡ int_eq z w
@@ -24,6 +25,18 @@ module _ (s : Bool) (B : ℕ) (x y : ℤ) (some : 1 ≤ B) (f : InRange s B x) w
       (λ e. sym (bitwise_or-zero s B (bitwise_and s B x y) some (and-in_range s B x y some)) ∙ ap (bitwise_or s B (bitwise_and s B x y)) (sym e)
       ∙ or-of_parts s B x y some f)
       (λ e. and_not-is_xor s B x y ∙ ap (bitwise_xor s B x) e ∙ bitwise_xor-same s B x some)
+
+within : (B : ℕ) (x y : ℤ) → 1 ≤ B → InRange false B x → InRange false B y → bitwise_and false B x (bitwise_not false B y) ≡ pos 0 → x ≤ℤ y
+within B x y some f g e =
+    let outside = (Decides-int_eq (bitwise_and false B x (bitwise_not false B y)) (pos 0)).1 e in
+    let same : bitwise_and false B x y ≡ x = (Decides-int_eq (bitwise_and false B x y) x).0 (sym (and_not-none false B x y some f) ∙ outside) in
+    subst (λ (z : ℤ). z ≤ℤ y) same (and-at_most false B x y _ refl (and-is false B x y) (sym (of-bits false B y some g)))
+
+-- a number with no bit outside another is at most that. The first part says nothing: it shows the search the mask
+pub within-at_most : (B : ℕ) (x y : ℤ) → 1 ≤ B → InRange false B x → InRange false B y
+    → (bitwise_and false B x (bitwise_not false B y) ≡ bitwise_and false B x (bitwise_not false B y))
+    × (bitwise_and false B x (bitwise_not false B y) ≡ pos 0 → x ≤ℤ y)
+within-at_most B x y some f g = (refl, within B x y some f g)
 
 module _ (s : Bool) (B : ℕ) (x y : ℤ) (some : 1 ≤ B) where
   or-apart : bitwise_and s B x y ≡ pos 0 → bitwise_or s B x y ≡ bitwise_xor s B x y

@@ -17,6 +17,7 @@ use Rattle.arbitrary_int.proofs.JoinedWords.{words_read_back}
 use Rattle.arbitrary_int.proofs.KnownNumbers.{and-of_negative, and-of_positive, and-with_negative, left-of_negative, left-of_positive, not-of_negative, not-of_positive, or-of_negative, or-of_positive, or-with_negative, reversed-of_negative, reversed-of_positive, right-of_negative, right-of_positive, rotated_left-of_negative, rotated_left-of_positive, rotated_right-of_negative, rotated_right-of_positive, signed_wrap-of_negative, signed_wrap-of_positive, wrap-of_negative, wrap-of_positive, xor-of_negative, xor-of_positive, xor-with_negative}
 use Rattle.arbitrary_int.proofs.MovedIn.{numeral_three, numeral_two, or_moved_above, or_moved_in, or_two_moved_in}
 use Rattle.arbitrary_int.proofs.OtherBits.{gone-cleared, other_bit-cleared, other_bit-set, other_bit-turned, same_bit-set, same_bit-turned}
+use Rattle.arbitrary_int.proofs.OwnBits.{own_bits-in_range}
 use Rattle.arbitrary_int.proofs.PrimitiveBit.{bit_cleared, bit_cleared-other, bit_set, bit_set-kept, bit_set-other, bit_tested, bit_turned, bit_turned-other, set_then_cleared}
 use Rattle.arbitrary_int.proofs.PrimitiveFlags.{and_beside, or_flags, xor_flags}
 use Rattle.arbitrary_int.proofs.RangeNumbers.{last_of-joined, numbers-count, numbers-end, numbers-head}
@@ -54,7 +55,7 @@ pub ruleset cleared_fields = (Decides-int_eq, or-into_cleared, and-by_complement
 pub ruleset written_fields = (Decides-int_eq, written-inside, written-outside)
 
 -- a bit by its place that is set, cleared or turned over, and the others, which stay
-pub ruleset other_bits = (Decides-int_eq, same_bit-set, other_bit-set, gone-cleared, other_bit-cleared, same_bit-turned, other_bit-turned)
+pub ruleset other_bits = (Decides-int_eq, same_bit-set, other_bit-set, gone-cleared, other_bit-cleared, same_bit-turned, other_bit-turned, own_bits-in_range)
 
 -- one bit of a primitive by its place, as `1 << place` makes it: set, cleared, turned over and tested, and the others, which stay
 pub ruleset primitive_bits = (one_shifted, and_numeral, pos-unsigned_abs, bit_tested, bit_set, bit_set-other, bit_turned, bit_turned-other, bit_cleared, bit_cleared-other, set_then_cleared)

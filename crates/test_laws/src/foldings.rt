@@ -23,6 +23,16 @@ pub fn gray_of_four_bits(x: u4) -> bool
     half ^ (half >> 2) == x
 }
 
+/// Of four bits, where the code is shifted by two places first.
+#[tactic(auto, using(arbitrary_int::proofs::BitVector::folds))]
+pub fn gray_by_two_places_first(x: u4) -> bool
+    ensures { IsTrue result }
+{
+    let gray = x ^ (x >> 1);
+    let half = gray ^ (gray >> 2);
+    half ^ (half >> 1) == x
+}
+
 /// Of twelve bits.
 #[tactic(auto, using(arbitrary_int::proofs::BitVector::folds))]
 pub fn gray_of_twelve_bits(x: u12) -> bool

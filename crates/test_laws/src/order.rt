@@ -79,3 +79,10 @@ pub fn shr_by_more(x: u12, j: u8, k: u8) -> bool
 {
     x >> k <= x >> j
 }
+
+/// A number with no bit outside another is at most that.
+pub fn subset_is_at_most(x: u24, y: u24) -> bool
+    ensures { IsTrue result }
+{
+    if x & !y == u24::zero() { x <= y } else { true }
+}

@@ -54,3 +54,14 @@ pub fn one_shifted_is_a_power_of_two(place: u8) -> bool
     let x = u12::new(1) << place;
     x == u12::zero() || x & (x - u12::new(1)) == u12::zero()
 }
+
+/// A number under the one before it, which is there, has one bit less.
+pub fn lowest_bit_taken(x: u13) -> bool
+    ensures { IsTrue result }
+{
+    if x == u13::zero() {
+        true
+    } else {
+        (x & (x - u13::new(1))).count_ones() + 1 == x.count_ones()
+    }
+}

@@ -2,6 +2,7 @@
 //! the contracts of the calls carry them, with one set of laws at most.
 #![tactic(auto)]
 
+pub mod assigned_flags;
 pub mod bytes;
 pub mod cleared_fields;
 pub mod fields;

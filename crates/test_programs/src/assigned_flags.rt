@@ -1,0 +1,50 @@
+//! Flags of a word of 24 bits that are set and cleared by `|=` and `&=` behind `&mut self`: under a written mask, and by their place.
+#![tactic(auto, using(arbitrary_int::proofs::BitVector::flags))]
+
+ghost use Rattle.std.specs.Prelude.{◌≡◌, ◌/◌, ◌%◌, ◌^◌, ◌<ℤ◌, pos, unsigned_abs};
+
+use arbitrary_int::prelude::*;
+
+/// The control word of a converter. Its lowest bit starts it.
+pub struct Control {
+    pub word: u24,
+}
+
+impl Control {
+    pub fn start(&mut self)
+        ensures started { unsigned_abs self.new.word % 2 ≡ 1 }
+        ensures others { unsigned_abs self.new.word / 2 ≡ unsigned_abs self.old.word / 2 }
+    {
+        self.word |= u24::new(1);
+    }
+
+    pub fn stop(&mut self)
+        ensures stopped { unsigned_abs self.new.word % 2 ≡ 0 }
+        ensures others { unsigned_abs self.new.word / 2 ≡ unsigned_abs self.old.word / 2 }
+    {
+        self.word &= !u24::new(1);
+    }
+}
+
+/// The lines of a controller of interrupts.
+pub struct Lines {
+    pub enabled: u24,
+}
+
+impl Lines {
+    #[tactic(auto, using(arbitrary_int::proofs::Sets::other_bits))]
+    pub fn insert(&mut self, line: u5)
+        requires { line <ℤ pos 24 }
+        ensures { unsigned_abs self.new.enabled / 2 ^ unsigned_abs line % 2 ≡ 1 }
+    {
+        self.enabled |= u24::new(1) << line.value();
+    }
+
+    #[tactic(auto, using(arbitrary_int::proofs::Sets::other_bits))]
+    pub fn remove(&mut self, line: u5)
+        requires { line <ℤ pos 24 }
+        ensures { unsigned_abs self.new.enabled / 2 ^ unsigned_abs line % 2 ≡ 0 }
+    {
+        self.enabled &= !(u24::new(1) << line.value());
+    }
+}
