@@ -1,4 +1,4 @@
--- Sums and differences that clamp, one after another, where the type has no sign.
+-- Sums and differences that clamp, one after another, where the type has no sign; and a number that tests compare with the ends of a range.
 -- For callers: `#![tactic(auto, using(arbitrary_int::proofs::Saturations::saturations))]`.
 use Rattle.std.specs.Prelude.{◌≡◌, ◌⊎◌, ℕ, ℤ, false, pos, ◌≤◌, ◌≤ℤ◌, ◌<ℤ◌, ◌+ℤ◌, ◌-ℤ◌}
 use Rattle.std.proofs.Common.{sym, ap, ◌∙◌, arith, inl, inr}
@@ -50,4 +50,4 @@ module _ (B : ℕ) (x y z : ℤ) (h : 1 ≤ B) (f : InRange false B x) (g : InRa
           let u = f.high in
           none B (x -ℤ clamp false B (y +ℤ z)) (omega (arith, ints)) ∙ sym (none B (x -ℤ (y +ℤ z)) (omega (arith, ints)))
 
-pub ruleset saturations = (Decides-int_eq, clamped-difference_twice, clamped-differences_exchanged, difference-of_clamped_sum)
+pub ruleset saturations = (Decides-int_eq, clamped-difference_twice, clamped-differences_exchanged, difference-of_clamped_sum, clamp-fits, clamp-below, clamp-above)

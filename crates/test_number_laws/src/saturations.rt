@@ -1,7 +1,8 @@
-//! Laws of differences that clamp, one after another.
+//! Laws of differences that clamp, one after another, and what clamps by tests.
 #![tactic(auto, using(arbitrary_int::proofs::Saturations::saturations))]
 
-ghost use Rattle.std.specs.Prelude.{IsTrue};
+ghost use Rattle.std.specs.Prelude.{◌≡◌, true, IsTrue};
+ghost use Rattle.arbitrary_int.specs.Saturation.{clamp};
 
 use arbitrary_int::prelude::*;
 
@@ -15,4 +16,17 @@ pub fn in_the_other_order(x: u24, y: u24, z: u24) -> bool
     ensures { IsTrue result }
 {
     x.saturating_sub(y).saturating_sub(z) == x.saturating_sub(z).saturating_sub(y)
+}
+
+/// A reading that is clamped by two tests.
+pub fn clamped_reading(value: i32) -> i12
+    ensures { result ≡ clamp true 12 value }
+{
+    if value > 2047 {
+        i12::MAX
+    } else if value < -2048 {
+        i12::MIN
+    } else {
+        i12::new(value as i16)
+    }
 }
