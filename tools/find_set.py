@@ -29,9 +29,10 @@ APART = ['MovedBits::moved_bits', 'RightRotations::right_rotations', 'MovedProdu
          'SignTests::sign_tests', 'SignTests::overflow_tests', 'TurnedSigns::turned_signs', 'JoinedWords::joined_words',
          'JoinedWords::words_read_back', 'MaskDigits::mask_digits', 'PlacedField::placed_fields', 'PlacedField::other_fields',
          'FieldInNumber::fields_in_numbers', 'LowMask::low_masks', 'SignedField::signed_fields', 'SignedField::signs_read_back',
-         'WrappedWords::wrapped_words', 'LowestField::lowest_fields', 'JoinedFields::four_moved_fields', 'Sets::registers', 'Sets::several_bits',
-         'SerialNumbers::serial_numbers', 'WiderRanges::wider_ranges', 'CongruentChains::congruent_chains', 'Distances::distances',
-         'Sets::swapped_bytes', 'FlagTests::one_flag', 'PositiveResults::positive_results', 'TurnedSigns::turned_orders']
+         'WrappedWords::wrapped_words', 'LowestField::lowest_fields', 'JoinedFields::four_moved_fields', 'Sets::registers',
+         'Sets::several_bits', 'SerialNumbers::serial_numbers', 'WiderRanges::wider_ranges', 'CongruentChains::congruent_chains',
+         'Distances::distances', 'Sets::swapped_bytes', 'FoldingOrder::folding_orders', 'FlagTests::one_flag',
+         'PositiveResults::positive_results', 'TurnedSigns::turned_orders']
 # Where a row of a table has two sets, `;` is between them. The head of a table says which module its sets are of.
 HEAD = re.compile(r'\| .* \| The set(?: of `(\w+)`)? \|')
 NAME = re.compile(r'`((?:\w+::)?\w+)`')

@@ -30,7 +30,6 @@ use Rattle.arbitrary_int.proofs.CountBounds.{front-of_numeral}
 use Rattle.arbitrary_int.proofs.LeadingZeros.{tail-of_numeral}
 use Rattle.arbitrary_int.proofs.MaskTests.{and-highest, and-minus_one, and_not-none, or-equal_xor, or-none, or-unchanged, xor-equal_or, within-at_most, xor-none, xor-unchanged}
 use Rattle.arbitrary_int.proofs.OwnBits.{own_bits-in_range}
-use Rattle.arbitrary_int.proofs.FoldingOrder.{folds-exchanged}
 use Rattle.arbitrary_int.proofs.QuotientAndCube.{negated-is_difference, power-thrice, quotient-times}
 use Rattle.arbitrary_int.proofs.ShiftPairs.{further-at_most, left_right-wraps, nearer-at_least, rotated_left-as_sum, rotated_left-as_xor}
 use Rattle.arbitrary_int.proofs.SingleBit.{and-one_bit, left-of_one, low-of_right, low-of_right_not, low-of_right_set, reversed-one, reversed-one_bit}
@@ -51,7 +50,7 @@ pub ruleset shifts = (Decides-int_eq, shifted_left-none, shifted_left-zero, shif
 pub ruleset shifted_xors = (Decides-int_eq, bitwise_xor-zero, bitwise_xor-undoes, bitwise_xor-chain, bitwise_xor-exchanged, shifted_right-xor, shifted_right-twice, shifted_right-past, shifted_left-xor, shifted_left-twice, shifted_left-past)
 
 -- the same once more, by as many places: Gray codes
-pub ruleset folds = (Decides-int_eq, folded-twice, folded-away, folds-exchanged)
+pub ruleset folds = (Decides-int_eq, folded-twice, folded-away)
 
 -- rotations
 pub ruleset rotations = (Decides-int_eq, rotated_left-none, rotated_left-twice, rotated_left-round, rotated_left-zero, rotated_left-highest, rotated_left-minus_one, rotated_left-not_zero, rotated_left-and, rotated_left-or, rotated_left-xor, rotated_left-not, rotated_right-none, rotated_right-as_left, right-undoes_left, left-undoes_right)

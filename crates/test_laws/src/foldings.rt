@@ -24,7 +24,7 @@ pub fn gray_of_four_bits(x: u4) -> bool
 }
 
 /// Of four bits, where the code is shifted by two places first.
-#[tactic(auto, using(arbitrary_int::proofs::BitVector::folds))]
+#[tactic(auto, using(arbitrary_int::proofs::FoldingOrder::folding_orders))]
 pub fn gray_by_two_places_first(x: u4) -> bool
     ensures { IsTrue result }
 {
