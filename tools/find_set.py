@@ -1,10 +1,14 @@
 #!/usr/bin/env python3
 """find_set.py CRATE FUNCTION ..
+find_set.py CRATE --file FILE ..
 find_set.py --listed
 
 Tries each set of laws of docs/PROVING.md on these functions of a crate, and prints the line to put on each: the sets with which the check
 proves it. A function is named as the check names it, without the crate: `module::function`, or `Type::call`. The crate stays as it is: the
 check takes a copy, in which the function stands once for each set. What is below the crate has to be proved (`rt check` in the crate).
+
+`--file` tells which line atop these files of the crate, as `src/words.rt`, proves the most of them: with no set and with each wide set, how
+many of their functions prove, and which stay open. It tries those that stand in no `impl`.
 
 `--listed` tells whether the set of all sets, in AllSets.antt, has the laws of each that the page names, as all_sets.py writes them.
 """
@@ -33,6 +37,8 @@ APART = ['MovedBits::moved_bits', 'RightRotations::right_rotations', 'MovedProdu
          'Sets::several_bits', 'SerialNumbers::serial_numbers', 'WiderRanges::wider_ranges', 'CongruentChains::congruent_chains',
          'Distances::distances', 'Sets::swapped_bytes', 'FoldingOrder::folding_orders', 'FlagTests::one_flag',
          'PositiveResults::positive_results', 'TurnedSigns::turned_orders']
+# Those that a file of several kinds of laws names, and none.
+WIDE = ['', 'AllSets::laws', 'AllSets::words', 'AllSets::all_sets']
 # Where a row of a table has two sets, `;` is between them. The head of a table says which module its sets are of.
 HEAD = re.compile(r'\| .* \| The set(?: of `(\w+)`)? \|')
 NAME = re.compile(r'`((?:\w+::)?\w+)`')
@@ -69,6 +75,19 @@ def text_of(folder, function):
     return (modules or places)[0]
 
 
+def functions_of(crate, file):
+    """The functions of a file of the crate that stand in no `impl` and no module of its own, but for tests."""
+    path = Path(file).relative_to('src').with_suffix('')
+    module = [it for it in path.parts if it not in ('lib', 'main', 'mod')]
+    text = re.sub(r'#\[test\]\n.*', '', (ROOT / 'crates' / crate / file).read_text())
+    return ['::'.join([*module, it]) for it in re.findall(r'^(?:pub(?:\(crate\))? )?fn (\w+)', text, re.M)]
+
+
+def attribute(name):
+    """The line that names a set, or none."""
+    return f'#[tactic(auto, using(arbitrary_int::proofs::{name}))]' if name else '#[tactic(auto)]'
+
+
 def tried(folder, function, names):
     """Puts the function into the copy once for each set. Returns the set by the name that its function has there."""
     file, found = text_of(folder, function)
@@ -76,9 +95,9 @@ def tried(folder, function, names):
     bare = re.sub(r'^ *#\[tactic\(.*\)\]\n', '', found[0], flags=re.M)
     copies, by_name = [], {}
     for it in names:
-        copy = f'{name}_by_{it.replace("::", "_")}'
+        copy = f'{name}_by_{it.replace("::", "_") or "none"}'
         margin = re.match(r' *', bare)[0]
-        line = f'{margin}#[tactic(auto, using(arbitrary_int::proofs::{it}))]\n'
+        line = margin + attribute(it) + '\n'
         # behind the comment, before what follows it
         cut = re.match(r'(?: *///.*\n)*', bare).end()
         copies.append(bare[:cut] + line + re.sub(rf'\bfn {name}\b', f'fn {copy}', bare[cut:], count=1))
@@ -98,7 +117,19 @@ def main():
     if len(sys.argv) < 3:
         sys.exit(__doc__)
     crate, functions = sys.argv[1], sys.argv[2:]
+    if functions[0] == '--file':
+        told(provers(crate, [it for file in functions[1:] for it in functions_of(crate, file)], WIDE))
+        return 0
     names = sets()
+    for function, found in provers(crate, functions, names).items():
+        print(f'{function}: {len(found) or "none"} of {len(names)} sets')
+        for it in found:
+            print(f'    {attribute(it)}')
+    return 0
+
+
+def provers(crate, functions, names):
+    """The sets of these names by which the check proves each function."""
     with tempfile.TemporaryDirectory(prefix='find-set-') as room:
         folder = Path(room) / 'crate'
         for part in PARTS:
@@ -110,12 +141,14 @@ def main():
     proved = set(re.findall(rf'^fn {crate}::(\S+): proved', said, re.M))
     if not re.search(r'^only=', said, re.M):
         sys.exit(f'the check came to no end:\n{said}')
-    for function, copies in sought.items():
-        found = [it for copy, it in copies.items() if copy in proved]
-        print(f'{function}: ' + (f'{len(found)} of {len(names)} sets' if found else f'none of {len(names)} sets'))
-        for it in found:
-            print(f'    #[tactic(auto, using(arbitrary_int::proofs::{it}))]')
-    return 0
+    return {function: [it for copy, it in copies.items() if copy in proved] for function, copies in sought.items()}
+
+
+def told(found):
+    """Prints how many functions prove by each line that a file may have, and which of them do not."""
+    for name in WIDE:
+        left = [function for function, names in found.items() if name not in names]
+        print(f'#!{attribute(name)[1:]}: {len(found) - len(left)} of {len(found)}', *(f'    open: {it}' for it in left), sep='\n')
 
 
 if __name__ == '__main__':
