@@ -77,8 +77,8 @@ def from_rust():
         ('list', '[u12::new(1000), u12::new(7)]'), ('byte', '200u8'),
     ]
     lines = [
-        '//! The table "In Rust you wrote" of docs/DIFFERENCES.md.', '', 'use crate::constants::{LIMIT, TOP, WIDTH, limit};',
-        'use arbitrary_int::prelude::*;',
+        '//! The table "In Rust you wrote" of docs/DIFFERENCES.md.', '',
+        'use crate::constants::{Device, LIMIT, Limits, TOP, WIDTH, greatest, limit};', 'use arbitrary_int::prelude::*;',
     ]
     return '\n'.join(lines + tests('lines_from', known, examples, 'assert_eq!(rt; {}, {});')) + '\n'
 

@@ -33,16 +33,17 @@ fn making_a_value_and_reading_it_9(rt: HostRuntime) {
 fn making_a_value_and_reading_it_17(rt: HostRuntime) {
     same(&rt, u8::from_(u7::new(0x40)), 0x40);
     same(&rt, u14::from(u7::new(100)), u14::new(100));
+    same(&rt, u5::from(UInt::<u32, 5>::new(21)), u5::new(21));
     same(&rt, i17::from(-300i16), i17::new(-300));
     same(&rt, u8::from(u7::new(0x40)), 0x40);
     same(&rt, u5::masked_new(i4::new(-1)), u5::new(31));
     same(&rt, u14::new(200).as_::<i7>(), i7::new(-56));
     same(&rt, i7::new(-1).as_u8(), 255);
-    same(&rt, i4::new(-1).to_unsigned(), u4::new(15));
 }
 
 #[test]
 fn making_a_value_and_reading_it_25(rt: HostRuntime) {
+    same(&rt, i4::new(-1).to_unsigned(), u4::new(15));
     same(&rt, i4::from_unsigned(u4::new(15)), i4::new(-1));
     same(&rt, i7::new(-1).to_u128_bits(), u128::MAX);
     same(&rt, u7::from_u128_bits(300), u7::new(44));
@@ -50,11 +51,11 @@ fn making_a_value_and_reading_it_25(rt: HostRuntime) {
     same(&rt, i3::new(-1).to_bits(), 0b111);
     same(&rt, i3::from_bits(0b111), i3::new(-1));
     same(&rt, i3::from_bits_unchecked(0b111), i3::new(-1));
-    same(&rt, i3::try_from_bits(0b1111), Err(TryNewError));
 }
 
 #[test]
 fn making_a_value_and_reading_it_33(rt: HostRuntime) {
+    same(&rt, i3::try_from_bits(0b1111), Err(TryNewError));
     same(&rt, i7::new(0).is_positive(), false);
     same(&rt, i7::new(-1).is_negative(), true);
     same(&rt, u7::new(3) == u7::new(3), true);
@@ -66,6 +67,10 @@ fn making_a_value_and_reading_it_33(rt: HostRuntime) {
         i7::new(-9),
     );
     same(&rt, u1::from(true), u1::new(1));
+}
+
+#[test]
+fn making_a_value_and_reading_it_41(rt: HostRuntime) {
     same(&rt, bool::from(u1::new(0)), false);
 }
 

@@ -21,6 +21,7 @@ pub mod generic_widths;
 pub mod masks;
 pub mod numbers;
 pub mod other_bits;
+pub mod other_storages;
 pub mod products;
 pub mod quotients;
 pub mod range_iterators;

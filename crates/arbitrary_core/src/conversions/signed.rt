@@ -11,9 +11,11 @@ use arbitrary_base::storage::{BuiltinInteger, SignedStorage, UnsignedOf};
 use arbitrary_base::truncation::cast;
 
 /// The number, in a storage that has room for it.
-fn stored<S: BuiltinInteger + SignedStorage, T: SignedStorage + HasWidth<BITS>, const BITS: usize>(
-    value: Int<S, BITS>,
-) -> T
+pub(super) fn stored<
+    S: BuiltinInteger + SignedStorage,
+    T: SignedStorage + HasWidth<BITS>,
+    const BITS: usize,
+>(value: Int<S, BITS>) -> T
 where
     S::Unsigned: UnsignedOf<S>,
     ensures value { T.number result ≡ value }

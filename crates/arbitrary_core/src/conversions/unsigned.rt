@@ -11,7 +11,7 @@ use arbitrary_base::storage::UnsignedStorage;
 use arbitrary_base::truncation::cast;
 
 /// The number, in a storage that has room for it.
-fn stored<S: UnsignedStorage, T: UnsignedStorage + HasWidth<BITS>, const BITS: usize>(
+pub(super) fn stored<S: UnsignedStorage, T: UnsignedStorage + HasWidth<BITS>, const BITS: usize>(
     value: UInt<S, BITS>,
 ) -> T
     ensures value { T.number result ≡ value }

@@ -1,0 +1,165 @@
+//! `Int` into a narrower storage by std's `From`, at the same width, which both have; `narrower_unsigned` beside this file has
+//! the same of `UInt`, so change both.
+
+ghost use Rattle.std.specs.Prelude.{◌≡◌, true};
+ghost use Rattle.arbitrary_base.specs.Range.{InRange};
+
+use crate::conversions::signed::stored;
+use crate::signed::Int;
+use crate::widths::HasWidth;
+use arbitrary_base::storage::{BuiltinInteger, SignedStorage, UnsignedOf};
+
+/// The number, in another storage that has room for its width.
+fn stored_in<
+    S: BuiltinInteger + SignedStorage,
+    T: BuiltinInteger + SignedStorage + HasWidth<BITS>,
+    const BITS: usize,
+>(value: Int<S, BITS>) -> Int<T, BITS>
+where
+    S::Unsigned: UnsignedOf<S>,
+    T::Unsigned: UnsignedOf<T>,
+    ensures value { result ≡ value }
+    ensures range { InRange true BITS value }
+{
+    Int::<T, BITS>::new(stored(value))
+}
+
+impl<const BITS: usize> From<Int<i16, BITS>> for Int<i8, BITS>
+where
+    i8: HasWidth<BITS>,
+{
+    ghost from_gives = { λ x r. r ≡ x };
+
+    fn from(value: Int<i16, BITS>) -> Int<i8, BITS>
+        ensures value { result ≡ value.entry }
+        ensures range { InRange true BITS value.entry }
+    {
+        stored_in(value)
+    }
+}
+
+impl<const BITS: usize> From<Int<i32, BITS>> for Int<i8, BITS>
+where
+    i8: HasWidth<BITS>,
+{
+    ghost from_gives = { λ x r. r ≡ x };
+
+    fn from(value: Int<i32, BITS>) -> Int<i8, BITS>
+        ensures value { result ≡ value.entry }
+        ensures range { InRange true BITS value.entry }
+    {
+        stored_in(value)
+    }
+}
+
+impl<const BITS: usize> From<Int<i64, BITS>> for Int<i8, BITS>
+where
+    i8: HasWidth<BITS>,
+{
+    ghost from_gives = { λ x r. r ≡ x };
+
+    fn from(value: Int<i64, BITS>) -> Int<i8, BITS>
+        ensures value { result ≡ value.entry }
+        ensures range { InRange true BITS value.entry }
+    {
+        stored_in(value)
+    }
+}
+
+impl<const BITS: usize> From<Int<i128, BITS>> for Int<i8, BITS>
+where
+    i8: HasWidth<BITS>,
+{
+    ghost from_gives = { λ x r. r ≡ x };
+
+    fn from(value: Int<i128, BITS>) -> Int<i8, BITS>
+        ensures value { result ≡ value.entry }
+        ensures range { InRange true BITS value.entry }
+    {
+        stored_in(value)
+    }
+}
+
+impl<const BITS: usize> From<Int<i32, BITS>> for Int<i16, BITS>
+where
+    i16: HasWidth<BITS>,
+{
+    ghost from_gives = { λ x r. r ≡ x };
+
+    fn from(value: Int<i32, BITS>) -> Int<i16, BITS>
+        ensures value { result ≡ value.entry }
+        ensures range { InRange true BITS value.entry }
+    {
+        stored_in(value)
+    }
+}
+
+impl<const BITS: usize> From<Int<i64, BITS>> for Int<i16, BITS>
+where
+    i16: HasWidth<BITS>,
+{
+    ghost from_gives = { λ x r. r ≡ x };
+
+    fn from(value: Int<i64, BITS>) -> Int<i16, BITS>
+        ensures value { result ≡ value.entry }
+        ensures range { InRange true BITS value.entry }
+    {
+        stored_in(value)
+    }
+}
+
+impl<const BITS: usize> From<Int<i128, BITS>> for Int<i16, BITS>
+where
+    i16: HasWidth<BITS>,
+{
+    ghost from_gives = { λ x r. r ≡ x };
+
+    fn from(value: Int<i128, BITS>) -> Int<i16, BITS>
+        ensures value { result ≡ value.entry }
+        ensures range { InRange true BITS value.entry }
+    {
+        stored_in(value)
+    }
+}
+
+impl<const BITS: usize> From<Int<i64, BITS>> for Int<i32, BITS>
+where
+    i32: HasWidth<BITS>,
+{
+    ghost from_gives = { λ x r. r ≡ x };
+
+    fn from(value: Int<i64, BITS>) -> Int<i32, BITS>
+        ensures value { result ≡ value.entry }
+        ensures range { InRange true BITS value.entry }
+    {
+        stored_in(value)
+    }
+}
+
+impl<const BITS: usize> From<Int<i128, BITS>> for Int<i32, BITS>
+where
+    i32: HasWidth<BITS>,
+{
+    ghost from_gives = { λ x r. r ≡ x };
+
+    fn from(value: Int<i128, BITS>) -> Int<i32, BITS>
+        ensures value { result ≡ value.entry }
+        ensures range { InRange true BITS value.entry }
+    {
+        stored_in(value)
+    }
+}
+
+impl<const BITS: usize> From<Int<i128, BITS>> for Int<i64, BITS>
+where
+    i64: HasWidth<BITS>,
+{
+    ghost from_gives = { λ x r. r ≡ x };
+
+    fn from(value: Int<i128, BITS>) -> Int<i64, BITS>
+        ensures value { result ≡ value.entry }
+        ensures range { InRange true BITS value.entry }
+    {
+        stored_in(value)
+    }
+}
