@@ -26,8 +26,8 @@ from wrong_bodies import PARTS, command, libraries
 PAGE = ROOT / 'docs/PROVING.md'
 ALL = 'AllSets::'
 ALL_FILE = ROOT / 'crates/arbitrary_int/proofs/AllSets.antt'
-# What is not among all sets: beside so many laws the search comes to its limit in most of what these close alone. The last four weren't
-# tried among all; `laws` has three of them.
+# What is not among all sets: beside so many laws the search comes to its limit in most of what these close alone. Those
+# from `folding_orders` on weren't tried among all; `laws` has three of them.
 APART = ['MovedBits::moved_bits', 'RightRotations::right_rotations', 'MovedProducts::moved_products', 'VariableMasks::variable_masks',
          'VariableMasks::variable_parts', 'VariablePlaces::variable_places', 'VariableAmounts::variable_amounts', 'SignMasks::sign_masks',
          'SignTests::sign_tests', 'SignTests::overflow_tests', 'TurnedSigns::turned_signs', 'JoinedWords::joined_words',
@@ -36,7 +36,7 @@ APART = ['MovedBits::moved_bits', 'RightRotations::right_rotations', 'MovedProdu
          'WrappedWords::wrapped_words', 'LowestField::lowest_fields', 'JoinedFields::four_moved_fields', 'Sets::registers',
          'Sets::several_bits', 'SerialNumbers::serial_numbers', 'WiderRanges::wider_ranges', 'CongruentChains::congruent_chains',
          'Distances::distances', 'Sets::swapped_bytes', 'FoldingOrder::folding_orders', 'FlagTests::one_flag',
-         'PositiveResults::positive_results', 'TurnedSigns::turned_orders']
+         'PositiveResults::positive_results', 'TurnedSigns::turned_orders', 'KnownCalls::known_calls']
 # Those that a file of several kinds of laws names, and none.
 WIDE = ['', 'AllSets::laws', 'AllSets::words', 'AllSets::all_sets']
 # Where a row of a table has two sets, `;` is between them. The head of a table says which module its sets are of.

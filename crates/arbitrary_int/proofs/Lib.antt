@@ -39,6 +39,8 @@ pub mod WrittenParts
 pub mod QuotientAndCube
 pub mod KnownCount
 pub mod KnownNumbers
+pub mod KnownBytes
+pub mod KnownCalls
 pub mod Truncations
 pub mod CountBounds
 pub mod Population

@@ -121,6 +121,8 @@ pub trait ByteOrders<const N: usize>: Numbered {
     /// The value that has the same bytes in the other order.
     final fn swap_bytes(self) -> Self
         ensures bytes { bytes N (Self.number result) ≡ reverse (bytes N (Self.number self)) }
+        ensures number { let spelled = pos (bytes_number (reverse (bytes N (Self.number self)))) in
+            Self.number result ≡ wrap Self.IS_SIGNED Self.BITS spelled }
         ensures undo { (y : ℤ) → let turned = reverse (bytes N y) in
             InRange Self.IS_SIGNED Self.BITS y → bytes N (Self.number self) ≡ turned
             → Self.number result ≡ y }
@@ -139,6 +141,8 @@ pub trait ByteOrders<const N: usize>: Numbered {
     /// `swap_bytes`, as the machine is little-endian.
     final fn to_be(self) -> Self
         ensures bytes { bytes N (Self.number result) ≡ reverse (bytes N (Self.number self)) }
+        ensures number { let spelled = pos (bytes_number (reverse (bytes N (Self.number self)))) in
+            Self.number result ≡ wrap Self.IS_SIGNED Self.BITS spelled }
         ensures undo { (y : ℤ) → let turned = reverse (bytes N y) in
             InRange Self.IS_SIGNED Self.BITS y → bytes N (Self.number self) ≡ turned
             → Self.number result ≡ y }
@@ -157,6 +161,8 @@ pub trait ByteOrders<const N: usize>: Numbered {
     /// `swap_bytes`, as the machine is little-endian.
     final fn from_be(value: Self) -> Self
         ensures bytes { bytes N (Self.number result) ≡ reverse (bytes N (Self.number value)) }
+        ensures number { let spelled = pos (bytes_number (reverse (bytes N (Self.number value)))) in
+            Self.number result ≡ wrap Self.IS_SIGNED Self.BITS spelled }
         ensures undo { (y : ℤ) → let turned = reverse (bytes N y) in
             InRange Self.IS_SIGNED Self.BITS y → bytes N (Self.number value) ≡ turned
             → Self.number result ≡ y }

@@ -10,6 +10,7 @@ pub mod counters;
 pub mod counts;
 pub mod defaults;
 pub mod differences;
+pub mod documented_calls;
 pub mod ends;
 pub mod generic;
 pub mod generic_calls;

@@ -1,0 +1,157 @@
+//! What the Rust crate's documentation shows of its calls on written numbers, where the contracts alone don't tell it: the other
+//! examples prove with no set.
+#![tactic(auto, using(arbitrary_int::proofs::KnownCalls::known_calls))]
+
+ghost use Rattle.std.specs.Prelude.{IsTrue};
+
+use arbitrary_int::prelude::*;
+
+pub fn shifted_right_below_zero() -> bool
+    ensures { IsTrue result }
+{
+    i14::new(-128).wrapping_shr(7) == i14::new(-1)
+}
+
+pub fn shifted_by_more_than_the_width() -> bool
+    ensures { IsTrue result }
+{
+    i14::new(-128).wrapping_shr(60) == i14::new(-8)
+}
+
+pub fn reversed() -> bool
+    ensures { IsTrue result }
+{
+    u6::new(0b10_1010).reverse_bits() == u6::new(0b01_0101)
+}
+
+pub fn reversed_nothing() -> bool
+    ensures { IsTrue result }
+{
+    u6::new(0) == u6::new(0).reverse_bits()
+}
+
+pub fn reversed_signed() -> bool
+    ensures { IsTrue result }
+{
+    i6::from_bits(0b10_1010).reverse_bits() == i6::from_bits(0b01_0101)
+}
+
+pub fn rotated_left() -> bool
+    ensures { IsTrue result }
+{
+    u6::new(0b10_1010).rotate_left(1) == u6::new(0b01_0101)
+}
+
+pub fn rotated_right() -> bool
+    ensures { IsTrue result }
+{
+    u6::new(0b10_1010).rotate_right(1) == u6::new(0b01_0101)
+}
+
+pub fn rotated_left_signed() -> bool
+    ensures { IsTrue result }
+{
+    i6::from_bits(0b10_1010).rotate_left(1) == i6::from_bits(0b01_0101)
+}
+
+pub fn rotated_right_signed() -> bool
+    ensures { IsTrue result }
+{
+    i6::from_bits(0b10_1010).rotate_right(1) == i6::from_bits(0b01_0101)
+}
+
+pub fn ones() -> bool
+    ensures { IsTrue result }
+{
+    u7::new(0b100_1100).count_ones() == 3
+}
+
+pub fn ones_signed() -> bool
+    ensures { IsTrue result }
+{
+    i6::from_bits(0b00_1000).count_ones() == 1
+}
+
+pub fn zeros_of_the_greatest() -> bool
+    ensures { IsTrue result }
+{
+    i6::MAX.count_zeros() == 1
+}
+
+pub fn leading_ones_of_a_complement() -> bool
+    ensures { IsTrue result }
+{
+    (!(u7::MAX >> 2)).leading_ones() == 2
+}
+
+pub fn leading_zeros_after_a_shift() -> bool
+    ensures { IsTrue result }
+{
+    (u7::MAX >> 2).leading_zeros() == 2
+}
+
+pub fn trailing_ones() -> bool
+    ensures { IsTrue result }
+{
+    u7::new(0b1010111).trailing_ones() == 3
+}
+
+pub fn trailing_ones_signed() -> bool
+    ensures { IsTrue result }
+{
+    i6::new(3).trailing_ones() == 2
+}
+
+pub fn trailing_zeros() -> bool
+    ensures { IsTrue result }
+{
+    u7::new(0b010_1000).trailing_zeros() == 3
+}
+
+pub fn trailing_zeros_below_zero() -> bool
+    ensures { IsTrue result }
+{
+    i6::new(-4).trailing_zeros() == 2
+}
+
+pub fn swapped_bytes() -> bool
+    ensures { IsTrue result }
+{
+    u24::new(0x12_34_56).swap_bytes() == u24::new(0x56_34_12)
+}
+
+pub fn swapped_bytes_below_zero() -> bool
+    ensures { IsTrue result }
+{
+    i24::new(-5).swap_bytes() == i24::new(-262145)
+}
+
+pub fn swapped_bytes_in_a_wider_storage() -> bool
+    ensures { IsTrue result }
+{
+    UInt::<u64, 24>::new(1).swap_bytes() == UInt::<u64, 24>::new(0x01_00_00)
+}
+
+pub fn seven_swapped_bytes() -> bool
+    ensures { IsTrue result }
+{
+    u56::new(0x12_34_56_78_9A_BC_DE).swap_bytes() == u56::new(0xDE_BC_9A_78_56_34_12)
+}
+
+pub fn into_network_order() -> bool
+    ensures { IsTrue result }
+{
+    u24::new(0x12_34_56).to_be() == u24::new(0x56_34_12)
+}
+
+pub fn from_network_order() -> bool
+    ensures { IsTrue result }
+{
+    u24::from_be(u24::new(0x12_34_56)) == u24::new(0x56_34_12)
+}
+
+pub fn bytes_below_zero() -> bool
+    ensures { IsTrue result }
+{
+    i24::new(-5).to_be_bytes() == [0xFF, 0xFF, 0xFB]
+}
