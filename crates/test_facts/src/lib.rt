@@ -10,7 +10,6 @@ pub mod counters;
 pub mod counts;
 pub mod defaults;
 pub mod differences;
-pub mod documented_calls;
 pub mod ends;
 pub mod generic;
 pub mod generic_calls;

@@ -9,6 +9,7 @@ pub mod converted_counts;
 pub mod count_bounds;
 pub mod differences_or_zero;
 pub mod distances;
+pub mod documented_calls;
 pub mod ends;
 pub mod exact_sums;
 pub mod extensions;
