@@ -34,7 +34,7 @@ pub fn there_and_back(x: u15) -> bool
     u15::from(UInt::<u64, 15>::from_(x)) == x
 }
 
-pub fn order_is_kept(x: Int<i32, 7>, y: Int<i32, 7>) -> bool
+pub fn order_stays(x: Int<i32, 7>, y: Int<i32, 7>) -> bool
     ensures { IsTrue result }
 {
     (i7::from(x) < i7::from(y)) == (x < y)

@@ -60,7 +60,7 @@ pub fn rotated_right_signed() -> bool
     i6::from_bits(0b10_1010).rotate_right(1) == i6::from_bits(0b01_0101)
 }
 
-pub fn ones() -> bool
+pub fn ones_of_a_number() -> bool
     ensures { IsTrue result }
 {
     u7::new(0b100_1100).count_ones() == 3
