@@ -81,6 +81,8 @@ pub mod CongruentChains
 pub mod SerialNumbers
 pub mod WiderRanges
 pub mod Distances
+pub mod Averages
+pub mod QuotientParts
 pub mod ComplementParts
 pub mod NegatedParts
 pub mod LowestMasks

@@ -16,7 +16,7 @@ pub quotient-orders : (a b c : ℕ) → a ≤ b → a / c ≤ b / c
 quotient-orders a b zero h = omega arith
 quotient-orders a b (suc c) h = (le-div_iff_mul-le {k = suc c} {x = a / suc c} {y = b} (omega arith)).1 (le_trans (div-mul-le_self a (suc c)) h)
 
-quotient-by_more : (a b c : ℕ) → 0 < b → b ≤ c → a / c ≤ a / b
+pub quotient-by_more : (a b c : ℕ) → 0 < b → b ≤ c → a / c ≤ a / b
 quotient-by_more a b c g h =
     (le-div_iff_mul-le {k = b} {x = a / c} {y = a} g).1 (le_trans (mul-le-mul (le_refl (a / c)) h) (div-mul-le_self a c))
 

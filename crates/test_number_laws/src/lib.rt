@@ -3,6 +3,7 @@
 #![tactic(auto)]
 
 pub mod any_width;
+pub mod averages;
 pub mod congruences;
 pub mod congruent_chains;
 pub mod converted_counts;
@@ -22,6 +23,7 @@ pub mod normal_shifts;
 pub mod parities;
 pub mod population;
 pub mod quotient_order;
+pub mod quotient_parts;
 pub mod runs_of_two;
 pub mod saturations;
 pub mod scaled_numbers;
