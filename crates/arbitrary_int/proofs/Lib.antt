@@ -92,6 +92,9 @@ pub mod MovedProducts
 pub mod VariableMasks
 pub mod VariablePlaces
 pub mod VariableAmounts
+pub mod LowSums
+pub mod BackRotations
+pub mod SignExtensions
 pub use Rattle.arbitrary_base.proofs.integers.Ring
 pub use Rattle.arbitrary_base.proofs.modular.Truncation
 pub use Rattle.arbitrary_base.proofs.modular.Residue

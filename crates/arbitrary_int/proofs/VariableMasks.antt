@@ -110,7 +110,7 @@ pub low-exact : (B k : ℕ) → k < B → (shifted_left false B (pos 1) k ≡ sh
     × (shifted_left false B (pos 1) k -ℤ pos 1 ≡ wrapped_difference false B (shifted_left false B (pos 1) k) (pos 1))
 low-exact B k g = let p = pow_pos k in let e = left-of_one B k g in let d = low-number false B k g in (refl, omega (arith, ints))
 
-left-in_range : (s : Bool) (B : ℕ) (x : ℤ) (k : ℕ) → 1 ≤ B → k ≤ B → InRange s B (shifted_left s B x k)
+pub left-in_range : (s : Bool) (B : ℕ) (x : ℤ) (k : ℕ) → 1 ≤ B → k ≤ B → InRange s B (shifted_left s B x k)
 left-in_range s B x k h g = subst (InRange s B) (sym (shifted_left-is_product s B x k h g)) (product-in_range s B x (pos (2 ^ k)) h)
 
 -- ---- what it leaves and clears

@@ -5,6 +5,7 @@
 
 pub mod all_sets;
 pub mod at_most_sums;
+pub mod back_rotations;
 pub mod bit_by_bit;
 pub mod bit_places;
 pub mod bit_sums;
@@ -23,6 +24,7 @@ pub mod generic;
 pub mod generic_calls;
 pub mod joined_words;
 pub mod known_counts;
+pub mod low_sums;
 pub mod lowest_masks;
 pub mod lowest_place;
 pub mod mask_digits;
@@ -45,6 +47,7 @@ pub mod right_rotations;
 pub mod ring;
 pub mod rotations;
 pub mod shifts;
+pub mod sign_extensions;
 pub mod sign_masks;
 pub mod sign_tests;
 pub mod signed;
