@@ -1,5 +1,5 @@
 -- What becomes of a quotient where the dividend is moved on by the divisor, negated, a product or a quotient, and where it is 0; and two quotients
--- in order whose divisors vary. `QuotientOrder` has a quotient beside its dividend: with these laws there too most of what they close stays open.
+-- in order whose divisors vary. `QuotientOrder` has a quotient beside its dividend: beside its laws a checked product and a negated dividend stay open.
 -- For callers: `#![tactic(auto, using(arbitrary_int::proofs::QuotientParts::quotient_parts))]`.
 use Rattle.std.specs.Prelude.{◌≡◌, ◌≢◌, ℕ, ℤ, zero, suc, pos, negsuc, neg_ℤ, int_div, ◌+◌, ◌*◌, ◌/◌, ◌≤◌, ◌<◌, ◌≤ℤ◌, ◌<ℤ◌}
 use Rattle.std.proofs.Common.{refl, sym, ap, arith, ◌∙◌, div-add-mod', le_trans}
