@@ -1,10 +1,13 @@
 -- For callers: a conversion before a sum, a difference or a product, of which the low bits are what counts.
 -- You name the set at the end by `#[tactic(auto, using(arbitrary_int::proofs::Conversions::conversions))]`; only a lemma that is in it is found.
 -- Beside it stand the sets of Everyday.antt, on words of clauses, and of BitVector.antt, on bits.
-use Rattle.std.specs.Prelude.{◌≡◌, ℕ, ℤ, zero, suc, Bool, false, pos, negsuc, unsigned_abs, ◌+ℤ◌, ◌-ℤ◌, ◌*ℤ◌, ◌+◌, ◌*◌, ◌/◌, ◌%◌, ◌^◌, ◌≤◌}
-use Rattle.std.proofs.Common.{arith, refl, ap, sym, subst, ◌∙◌, div-add-mod'}
+use Rattle.std.specs.Prelude.{◌≡◌, ℕ, ℤ, zero, suc, Bool, false, pos, negsuc, unsigned_abs, ◌+ℤ◌, ◌-ℤ◌, ◌*ℤ◌, ◌+◌, ◌*◌, ◌/◌, ◌%◌, ◌^◌, ◌≤◌, ◌<◌}
+use Rattle.std.specs.Int.{Width, cast_signed, cast_unsigned}
+use Rattle.std.proofs.Common.{arith, refl, ap, sym, subst, ◌∙◌, div-add-mod', to_z-of_z}
 use Rattle.std.proofs.lemmas.Grind.{and_numeral}
 use Rattle.std.proofs.lemmas.Int.{ints}
+use lib.Signed.{mag}
+use mir.Val.{hbits}
 use Rattle.arbitrary_base.specs.Range.{lo}
 use Rattle.arbitrary_base.specs.Residue.{Congruent, wrap}
 use Rattle.arbitrary_base.proofs.modular.Congruence.{Congruent-refl, Congruent-sym, Congruent-add, Congruent-sub, Congruent-mul, Congruent-narrower}
@@ -63,7 +66,11 @@ congruent-by_remainder B x y e = by-sign (x -ℤ y) refl e
         let q : suc n ≡ suc n / 2 ^ B * 2 ^ B = omega (arith, div-add-mod' (suc n) (2 ^ B)) in
         Congruent-sym B y x (record { times = pos (suc n / 2 ^ B); apart = omega (arith, ints) })
 
-pub ruleset conversions = (wrap-congruent, sum-right, sum-left, difference-right, difference-left, product-right, product-left, word_sum-right, congruent-by_remainder)
+-- a primitive with a sign, as a generic call takes it and as a function gives it
+pub signed_primitive : (w : Width) (x : ℤ) → mag x < 2 ^ hbits w → cast_signed w (cast_unsigned w x) ≡ x
+signed_primitive w x h = to_z-of_z (record { sfits = h })
+
+pub ruleset conversions = (wrap-congruent, signed_primitive, sum-right, sum-left, difference-right, difference-left, product-right, product-left, word_sum-right, congruent-by_remainder)
 
 -- steps that wrap, one after another, and the low bits under a written mask, up to a multiple of the numbers of the type
 pub ruleset congruences = (congruent-by_remainder, and_numeral, ints)

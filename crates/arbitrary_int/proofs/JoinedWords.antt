@@ -93,7 +93,7 @@ or_numeral_between a m b e f g i =
 -- ---- what a written mask lets through
 
 -- what a mask lets through has no bit below the mask
-masked-multiple : (n m k : ℕ) → suc m % 2 ^ k ≡ 0 → bit_and n (suc m) % 2 ^ k ≡ 0
+pub masked-multiple : (n m k : ℕ) → suc m % 2 ^ k ≡ 0 → bit_and n (suc m) % 2 ^ k ≡ 0
 masked-multiple n m k f =
     let z : bit_and (n % 2 ^ k) 0 ≡ 0 = omega (arith, and_le_r (n % 2 ^ k) 0) in
     and_mod n (suc m) k ∙ ap (bit_and (n % 2 ^ k)) f ∙ z

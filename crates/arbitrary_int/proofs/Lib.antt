@@ -11,6 +11,7 @@ pub mod SideBySide
 pub mod JoinedFields
 pub mod ReadBack
 pub mod JoinedWords
+pub mod MaskedField
 pub mod MovedIn
 pub mod ReplacedField
 pub mod PlacedField

@@ -10,6 +10,7 @@ use Rattle.arbitrary_base.specs.Residue.{Congruent, wrap}
 use Rattle.arbitrary_base.proofs.modular.Congruence.{Congruent-add, Congruent-from_apart, Congruent-refl, Congruent-sub, Congruent-trans}
 use Rattle.arbitrary_base.proofs.modular.Residue.{wrap-congruent, wrap-same}
 use Rattle.arbitrary_base.proofs.storages.Primitive.{mod-congruent}
+use Rattle.arbitrary_int.proofs.Conversions.{signed_primitive}
 
 remainder : (B n m : ℕ) → m ≡ 2 ^ B → Congruent B (pos (n % m)) (pos n)
 remainder B n m e = subst (λ (i : ℕ). Congruent B (pos (n % i)) (pos n)) (sym e) (mod-congruent B n)
@@ -64,4 +65,9 @@ pub word_difference-right : (B a b m : ℕ) (y : ℤ) → m ≡ 2 ^ B → b ≤ 
     → Congruent B (pos ((a + (m - b)) % m)) (pos a -ℤ y)
 word_difference-right B a b m y e l f = difference B a b m (pos a) y e l (same B a) (converted B b y f)
 
-pub ruleset wrapped_words = (wrap-remainder, wrap-masked, word_sum-left, word_sum-before, word_sum-after, word_difference-right)
+-- a difference that is read with a sign, or with fewer bits
+pub wrap-word_difference : (s : Bool) (B a b m : ℕ) → 1 ≤ B → m ≡ 2 ^ B → b ≤ m → wrap s B (pos ((a + (m - b)) % m)) ≡ wrap s B (pos a -ℤ pos b)
+wrap-word_difference s B a b m h e l =
+    wrap-same s B (pos ((a + (m - b)) % m)) (pos a -ℤ pos b) h (difference B a b m (pos a) (pos b) e l (same B a) (same B b))
+
+pub ruleset wrapped_words = (wrap-congruent, signed_primitive, wrap-remainder, wrap-masked, word_sum-left, word_sum-before, word_sum-after, word_difference-right, wrap-word_difference)

@@ -1,0 +1,83 @@
+//! Primitives with a sign beside numbers that wrap: how far two moments are apart, and steps by an `i8` or an `i16`.
+//! None has a proof of its own: the file names one set of laws.
+#![tactic(auto, using(arbitrary_int::proofs::Conversions::conversions))]
+
+ghost use Rattle.std.specs.Prelude.{◌+ℤ◌, ◌-ℤ◌, ◌*ℤ◌, pos};
+ghost use Rattle.arbitrary_int.specs.Residue.{Congruent};
+
+use arbitrary_int::prelude::*;
+
+// ---- steps by a primitive with a sign
+
+pub fn branch(counter: u13, offset: i8) -> u13
+    ensures { Congruent 13 result (counter +ℤ offset) }
+{
+    counter.wrapping_add(u13::masked_new(offset))
+}
+
+pub fn branch_by_as(counter: u24, offset: i16) -> u24
+    ensures { Congruent 24 result (counter +ℤ offset) }
+{
+    counter.wrapping_add(offset.as_::<u24>())
+}
+
+pub fn turned_back(position: u12, steps: i8) -> u12
+    ensures { Congruent 12 result (position -ℤ steps) }
+{
+    position.wrapping_sub(u12::masked_new(steps))
+}
+
+pub fn branch_past_the_offset(counter: u16, offset: i8) -> u16
+    ensures { Congruent 16 (pos result) (pos counter +ℤ offset) }
+{
+    counter.wrapping_add(offset.as_u16())
+}
+
+pub fn std_branch(counter: u32, offset: i13) -> u32
+    ensures { Congruent 32 (pos result) (pos counter +ℤ offset) }
+{
+    counter.wrapping_add_signed(i32::from(offset))
+}
+
+pub fn low_part(number: i32) -> i12
+    ensures { Congruent 12 result number }
+{
+    i12::masked_new(number)
+}
+
+// ---- differences of two moments, read with a sign
+
+#[tactic(auto, using(arbitrary_int::proofs::AllSets::words))]
+pub fn ticks_apart(now: u16, then: u16) -> i16
+    ensures { Congruent 16 result (pos now -ℤ pos then) }
+{
+    now.wrapping_sub(then).as_i16()
+}
+
+#[tactic(auto, using(arbitrary_int::proofs::WrappedWords::wrapped_words))]
+pub fn milliseconds_apart(after: u32, before: u32) -> i32
+    ensures { Congruent 32 result (pos after -ℤ pos before) }
+{
+    after.wrapping_sub(before).as_i32()
+}
+
+#[tactic(auto, using(arbitrary_int::proofs::AllSets::words))]
+pub fn delta(after: u8, before: u8) -> i8
+    ensures { Congruent 8 result (pos after -ℤ pos before) }
+{
+    after.wrapping_sub(before).as_i8()
+}
+
+#[tactic(auto, using(arbitrary_int::proofs::AllSets::words))]
+pub fn delta_as(after: u8, before: u8) -> i8
+    ensures { Congruent 8 result (pos after -ℤ pos before) }
+{
+    after.wrapping_sub(before).as_::<i8>()
+}
+
+#[tactic(auto, using(arbitrary_int::proofs::AllSets::words))]
+pub fn sequence_apart(after: u12, before: u12) -> i16
+    ensures { Congruent 12 result (after -ℤ before) }
+{
+    after.wrapping_sub(before).as_i16()
+}
