@@ -10,6 +10,7 @@ ghost use Rattle.arbitrary_base.specs.Operation.{bitwise_and, bitwise_not, bitwi
 ghost use Rattle.arbitrary_base.specs.BitList.{bits};
 ghost use Rattle.arbitrary_base.proofs.operations.Amount.{Amount, amount, none, rest};
 ghost use Rattle.arbitrary_base.proofs.operations.BitByBit.{Place};
+ghost use Rattle.arbitrary_calls.specs.GenericLaws.{BitSumLaws, CountLaws, OrderLaws, SumLaws};
 
 use crate::calls::FixedWidthCalls;
 use arbitrary_traits::integer::Integer;
@@ -445,4 +446,14 @@ pub trait FixedWidth: Integer + FixedWidthCalls {
 
     ghost shl_of_sum: { (a b c : Self) (t : Amount Self.BITS) → Self.valid → c ≡ sum_of a b
         → shl_of c t ≡ sum_of (shl_of a t) (shl_of b t) };
+
+    // Groups of further laws, each shut until a file opens it by `unfolding`: so they take nothing from the search of another.
+    ghost sum_laws: { SumLaws Self.valid fits sum_of difference_of };
+
+    ghost bit_sum_laws: { let zero = value_of (pos 0) in let one = value_of (pos 1) in
+        BitSumLaws Self.valid zero one and_of or_of xor_of not_of sum_of difference_of };
+
+    ghost count_laws: { CountLaws and_of or_of ones_of };
+
+    ghost order_laws: { OrderLaws Self.valid fits not_of Self.cmp };
 }

@@ -4,6 +4,7 @@ pub mod Widths
 pub mod Reading
 pub mod Row
 pub mod Total
+pub mod GenericLaws
 -- The words that the contracts of this crate, and of those that it passes on, cite.
 pub use Rattle.arbitrary_base.specs.Range
 pub use Rattle.arbitrary_base.specs.Residue

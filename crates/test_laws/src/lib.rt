@@ -22,6 +22,7 @@ pub mod foldings;
 pub mod former_names;
 pub mod generic;
 pub mod generic_calls;
+pub mod generic_groups;
 pub mod joined_words;
 pub mod known_counts;
 pub mod low_sums;

@@ -15,6 +15,7 @@ ghost use Rattle.arbitrary_base.proofs.operations.OperatorOrder.{and-at_most, an
 ghost use Rattle.arbitrary_core.proofs.UnsignedQuotient.{quotient-in_range};
 ghost use Rattle.arbitrary_core.proofs.SingleBits.{and-one, one-moved, rest-is_complement};
 ghost use Rattle.arbitrary_core.proofs.EndOfTwo.{greater-at_least, lesser-at_most};
+ghost use Rattle.arbitrary_calls.specs.GenericLaws.{bit_sums-hold, counts-hold, orders-hold, sums-hold};
 
 use crate::fixed_width::FixedWidth;
 use arbitrary_base::storage::{BuiltinInteger, SignedOf, UnsignedOf, UnsignedStorage};
@@ -343,4 +344,12 @@ where
     ghost product_zero = { λ a h. wrapped_product-zero _ _ _ h.0 };
 
     ghost shl_of_sum = { λ a b c t h e. left-of_sum T.SIGNED BITS a b c t h.0 e };
+
+    ghost sum_laws = { sums-hold T.SIGNED BITS _ (λ v. v.0) };
+
+    ghost bit_sum_laws = { bit_sums-hold T.SIGNED BITS _ (λ v. v.0) };
+
+    ghost count_laws = { counts-hold T.SIGNED BITS };
+
+    ghost order_laws = { orders-hold T.SIGNED BITS _ (λ v. v.0) };
 }

@@ -1,0 +1,6 @@
+//! Laws of generic code that prove where a file opens a group of `GenericLaws`. A module a group.
+
+pub mod bit_sums;
+pub mod counts;
+pub mod orders;
+pub mod sums;
