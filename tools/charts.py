@@ -233,7 +233,10 @@ def layers():
             crate(10 + across * (third + gap), 10 + down * (high + gap), third - gap / 2, name, what, (ORANGE, GREEN)[across])
     x, width = 10 + 2 * (third + gap), full - 2 * (third + gap)
     parts.append(box(x, 10, width, 3 * high + 2 * gap, 'none', GREY, 5))
-    others = ['tests and a benchmark', 'test_facts, test_programs', 'test_laws, test_number_laws', 'test_pages, test_bounds, test_bounds_core', 'test_widths, test_differential', 'test_vectors_.., test_call_examples', 'bench_calls']
+    others = [
+        'tests and a benchmark', 'test_facts, test_.._facts', 'test_programs, test_words', 'test_laws, test_.._laws',
+        'test_pages, test_bounds, test_bounds_core', 'test_widths, test_differential', 'test_vectors_.., test_call_examples', 'bench_calls',
+    ]
     for place, said in enumerate(others):
         parts.append(text(x + width / 2, 34 + 22 * place, said, 'middle', 12, GREY, 'normal' if place else 'bold'))
     for down, (name, what) in enumerate(libraries):

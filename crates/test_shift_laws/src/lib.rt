@@ -1,0 +1,15 @@
+//! Laws of shifts, rotations and reversals, also by amounts that vary, most at `u12` and `i12`: each function tells whether the two sides are
+//! equal, and ensures that they are. None has a proof of its own: each file or function names one set of laws, and one function two.
+#![tactic(auto)]
+
+pub mod back_rotations;
+pub mod foldings;
+pub mod moved_bits;
+pub mod reversals;
+pub mod right_rotations;
+pub mod rotations;
+pub mod shifts;
+pub mod variable_amounts;
+pub mod variable_masks;
+pub mod variable_parts;
+pub mod variable_places;

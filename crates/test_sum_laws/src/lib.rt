@@ -1,0 +1,25 @@
+//! Laws of sums, differences and products that wrap, beside bits, signs and orders, most at `u12` and `i12`: each function tells whether the
+//! two sides are equal, and ensures that they are. None has a proof of its own: each file or function names one set of laws.
+#![tactic(auto)]
+
+pub mod at_most_sums;
+pub mod bit_sums;
+pub mod cancellations;
+pub mod carries;
+pub mod complement_parts;
+pub mod complements;
+pub mod exact;
+pub mod low_sums;
+pub mod mixed;
+pub mod multiples;
+pub mod negated_parts;
+pub mod offsets;
+pub mod order;
+pub mod overflow_bits;
+pub mod products;
+pub mod ring;
+pub mod sign_extensions;
+pub mod sign_masks;
+pub mod sign_tests;
+pub mod signed_order;
+pub mod signs;
