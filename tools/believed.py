@@ -7,7 +7,7 @@ blank lines and imports are not counted. With --words it prints every word, its 
 docs/ARCHITECTURE.md gives another figure; with --write it writes the figure there.
 
 What is proved need not be believed: lemmas, and the statements of laws, which are words without arguments whose type is
-`Type 0`. Nor need the words that only the contracts inside a crate cite.
+`Type 0`, or groups of laws, whose names end in `Laws`. Nor need the words that only the contracts inside a crate cite.
 """
 import re
 import sys
@@ -58,14 +58,15 @@ def meant(known, file, words):
             crate, module = at[word]
             named = [key for key in known if key[1] == word and key[0].stem == module]
             found.update([key for key in named if ROOT / 'crates' / crate in key[0].parents] or named)
-    if any(key[0] == file for key in found) and (file, 'module') in known:
+    if any(key[0] == file and not is_proved(known[key]) for key in found) and (file, 'module') in known:
         found.add((file, 'module'))
     return found
 
 
 def is_proved(lines):
     """Whether it is a lemma, or the statement of a law."""
-    return not re.match(rf'\s*(abbrev|unfoldable|{PUBLIC}record|module)', lines[0]) or re.match(r'\s*abbrev pub \S+ : Type 0$', lines[0])
+    is_stated = re.match(r'\s*(abbrev pub \S+ : Type 0$|unfoldable pub \S+Laws :)', lines[0])
+    return is_stated or not re.match(rf'\s*(abbrev|unfoldable|{PUBLIC}record|module)', lines[0])
 
 
 def contracts(file):

@@ -35,7 +35,7 @@ def head(lines):
     first = [word for word in lines[0].replace('(crate)', '').split() if word != 'pub']
     if first[0] not in STARTS:
         return first[0].strip('◌'), first[0] == 'module'
-    return first[1].strip('◌'), first[2:] != [':', 'Type', '0']
+    return first[1].strip('◌'), first[2:] != [':', 'Type', '0'] and not first[1].endswith('Laws')
 
 
 def words(text):
@@ -96,7 +96,7 @@ def main():
                     found.update([key for key in keys if key[0] == at] or keys)
         for key in found - seen:
             seen.add(key)
-            if (*key[:2], 'module') in size:
+            if size[key] and (*key[:2], 'module') in size:
                 seen.add((*key[:2], 'module'))
             follow(text[key], text[key[:2]], key[0])
 

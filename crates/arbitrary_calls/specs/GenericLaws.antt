@@ -1,5 +1,6 @@
 -- Further laws of `FixedWidth` for generic code, in groups. A group is shut, and takes nothing from a search, until a file opens it by
--- `#![tactic(auto, unfolding(arbitrary_int::specs::GenericLaws::SumLaws))]`. Each group is over the functions of values that `FixedWidth` has.
+-- `#![tactic(auto, unfolding(arbitrary_int::specs::GenericLaws::SumLaws))]`. Each group is over the functions of values that `FixedWidth`
+-- has, and names no value: laws of 0 would be tried at it.
 use Rattle.std.specs.Prelude.{◌≡◌, ◌+◌, ◌≤◌, ℕ, ℤ, Bool, true, pos}
 use Rattle.std.specs.Ordering.{int_cmp}
 use Rattle.std.proofs.Common.{ap, ap₂, refl, sym, ◌∙◌}
@@ -20,18 +21,18 @@ SumLaws {S} valid fits sum difference =
     × ((a b c d : S) → valid → d ≡ difference a b → difference d c ≡ difference (difference a c) b)
 
 -- sums and differences of bits, wrapped
-unfoldable pub BitSumLaws : {S : Type 0} (valid : Type 0) (zero one : S) (both either apart : S → S → S) (complement : S → S) (sum difference : S → S → S) → Type 0
-BitSumLaws {S} valid zero one both either apart complement sum difference =
+unfoldable pub BitSumLaws : {S : Type 0} (valid : Type 0) (value_of : ℤ → S) (both either apart : S → S → S) (complement : S → S) (sum difference : S → S → S) → Type 0
+BitSumLaws {S} valid value_of both either apart complement sum difference =
     ((a b c : S) → valid → c ≡ both a b → sum c (either a b) ≡ sum a b)
     × ((a b c : S) → valid → c ≡ either a b → sum c (both a b) ≡ sum a b)
     × ((a b c d : S) → valid → c ≡ both a b → d ≡ either a b → difference d c ≡ apart a b)
-    × ((a b : S) → valid → b ≡ complement a → sum a b ≡ complement zero)
-    × ((a b c : S) → valid → b ≡ complement a → c ≡ one → sum b c ≡ difference zero a)
+    × ((a b : S) → valid → b ≡ complement a → sum a b ≡ complement (value_of (pos 0)))
+    × ((a b c : S) → valid → b ≡ complement a → c ≡ value_of (pos 1) → sum b c ≡ difference (value_of (pos 0)) a)
     × ((a b c : S) → valid → c ≡ either a b → difference c a ≡ both b (complement a))
 
 -- how many bits are one
-unfoldable pub CountLaws : {S : Type 0} (both either : S → S → S) (ones : S → ℕ) → Type 0
-CountLaws {S} both either ones = (a b : S) → ones (both a b) + ones (either a b) ≡ ones a + ones b
+unfoldable pub CountLaws : {S : Type 0} (both either : S → S → S) (count : S → ℕ) → Type 0
+CountLaws {S} both either count = (a b : S) → count (both a b) + count (either a b) ≡ count a + count b
 
 -- the order of complements
 unfoldable pub OrderLaws : {S R : Type 0} (valid : Type 0) (fits : S → Bool) (complement : S → S) (order : S → S → R) → Type 0
@@ -59,7 +60,7 @@ module _ (s : Bool) (B : ℕ) (valid : Type 0) (some : valid → 1 ≤ B) where
         ∙ sym (difference-twice s B a c b (some v)),
   )
 
-  pub bit_sums-hold : BitSumLaws valid (pos 0) (pos 1) (bitwise_and s B) (bitwise_or s B) (bitwise_xor s B) (bitwise_not s B) (wrapped_sum s B) (wrapped_difference s B)
+  pub bit_sums-hold : BitSumLaws valid (λ x. x) (bitwise_and s B) (bitwise_or s B) (bitwise_xor s B) (bitwise_not s B) (wrapped_sum s B) (wrapped_difference s B)
   unfolding BitSumLaws
   bit_sums-hold = (
     λ a b c v e. ap (λ (x : ℤ). wrapped_sum s B x (bitwise_or s B a b)) e

@@ -450,8 +450,8 @@ pub trait FixedWidth: Integer + FixedWidthCalls {
     // Groups of further laws, each shut until a file opens it by `unfolding`: so they take nothing from the search of another.
     ghost sum_laws: { SumLaws Self.valid fits sum_of difference_of };
 
-    ghost bit_sum_laws: { let zero = value_of (pos 0) in let one = value_of (pos 1) in
-        BitSumLaws Self.valid zero one and_of or_of xor_of not_of sum_of difference_of };
+    ghost bit_sum_laws: { let laws = BitSumLaws Self.valid value_of in
+        laws and_of or_of xor_of not_of sum_of difference_of };
 
     ghost count_laws: { CountLaws and_of or_of ones_of };
 
