@@ -11,3 +11,4 @@ pub mod LongNumbers
 pub mod Names
 pub mod ShortNumbers
 pub mod Places
+pub mod DigitWords

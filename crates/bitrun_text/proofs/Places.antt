@@ -10,7 +10,7 @@ use Rattle.bitrun_text.specs.Fast.{IsName, BeginsWithName, EndsLine, EndsWithNum
 use Rattle.bitrun_text.specs.declared.operation.Operation.{Operation}
 use Rattle.bitrun_text.proofs.Lines.{left-blank, left-line}
 use Rattle.bitrun_text.proofs.Operands.{digits-taken, digits-later, reads-digit}
-use Rattle.bitrun_text.proofs.ShortNumbers.{digits_there}
+use Rattle.bitrun_text.proofs.ShortNumbers.{digits_there, leading_zero}
 use Rattle.bitrun_text.proofs.FastLines.{begins_with_name, blank_ends, lf_ends}
 
 module _ (text : List ℕ) (at : ℕ) where
@@ -140,3 +140,19 @@ same_end text other rest number same number_there = record {
   taken = λ limit below. rw same at (number_there.taken limit below);
   later = rw same at number_there.later;
 }
+
+-- four zeros before a number
+module _ (text : List ℕ) (at number : ℕ) (rest : List ℕ) where
+  zero_before : at < length text → get_or text at 0 ≡ 48 → BeginsWithDigits (drop (at + 1) text) number rest → BeginsWithDigits (drop at text) number rest
+  zero_before within zero digits = rw (drop_more text at 0 within, zero) (leading_zero (drop (at + 1) text) number rest digits)
+
+pub zeros_before : (text : List ℕ) (at number : ℕ) (rest : List ℕ) → at + 4 ≤ length text → ((k : ℕ) → k < 4 → get_or text (at + k) 0 ≡ 48)
+    → BeginsWithDigits (drop (at + 4) text) number rest → BeginsWithDigits (drop at text) number rest
+zeros_before text at number rest room zeros digits =
+    let four : at + 3 + 1 ≡ at + 4 = omega arith in
+    let three : at + 2 + 1 ≡ at + 3 = omega arith in
+    let two : at + 1 + 1 ≡ at + 2 = omega arith in
+    let last = zero_before text (at + 3) number rest (omega (arith, room)) (zeros 3 (omega arith)) (rw four digits) in
+    let third = zero_before text (at + 2) number rest (omega (arith, room)) (zeros 2 (omega arith)) (rw three last) in
+    let second = zero_before text (at + 1) number rest (omega (arith, room)) (zeros 1 (omega arith)) (rw two third) in
+    zero_before text at number rest (omega (arith, room)) (rw add-zero at (zeros 0 (omega arith))) second

@@ -1,6 +1,7 @@
 -- The few digits at a place of a text.
-use Rattle.std.proofs.Common.{◌≡◌, ℕ, ◌+◌, ◌*◌, ◌<◌, ◌≤◌, List, ◌∷◌, length, drop, get_or, sym, ◌∙◌, arith, add-zero, length-drop, drop-drop}
+use Rattle.std.proofs.Common.{◌≡◌, ℕ, zero, suc, true, refl, ◌+◌, ◌*◌, ◌<◌, ◌≤◌, List, ◌∷◌, length, drop, get_or, sym, ◌∙◌, arith, add-zero, length-drop, drop-drop}
 use Rattle.std.proofs.lemmas.List.{get_or-drop}
+use Rattle.std.specs.Char.{is_ascii_digit}
 use Rattle.bitrun_text.specs.Numeral.{Reads, BeginsWithDigits}
 use Rattle.bitrun_text.proofs.Operands.{reads-first, reads-digit, digits-byte}
 
@@ -25,3 +26,20 @@ module _ (text : List ℕ) (at : ℕ) (room : at + 4 ≤ length text) where
 -- the digits, and what follows them
 pub digits_there : (text : List ℕ) (at k number : ℕ) → 0 < k → Reads (drop at text) k number → BeginsWithDigits (drop at text) number (drop (at + k) text)
 digits_there text at k number some reads = record { count = k; some = some; reads = reads; follows = sym (drop-drop k at text) }
+
+-- a zero before the digits
+pub leading_zero : (text : List ℕ) (number : ℕ) (rest : List ℕ) → BeginsWithDigits text number rest → BeginsWithDigits (48 ∷ text) number rest
+leading_zero text number rest digits = record {
+  count = suc digits.count;
+  some = omega arith;
+  reads = record {
+    digits = each digits.reads.digits;
+    value = digits.reads.value;
+    within = omega (arith, digits.reads.within);
+  };
+  follows = digits.follows;
+}
+  where
+    each : ((k : ℕ) → k < digits.count → is_ascii_digit (get_or text k 0) ≡ true) → (k : ℕ) → k < suc digits.count → is_ascii_digit (get_or (48 ∷ text) k 0) ≡ true
+    each before zero below = refl
+    each before (suc k) below = before k (omega (arith, below))

@@ -1,5 +1,5 @@
 -- The numbers that words write.
-use Rattle.std.specs.Prelude.{◌≡◌, ℕ, ◌≤◌, ◌<◌, ◌^◌, ◌&&◌, List, [], ◌∷◌, length, take, drop, get_or, Bool, true, Option, Some, None, option_map, option_and_then, ℤ, pos, neg_ℤ, unsigned_abs, ◌==◌, nat_lt, if◌then◌else◌, ⊤}
+use Rattle.std.specs.Prelude.{◌≡◌, ℕ, ◌+◌, ◌*◌, ◌≤◌, ◌<◌, ◌^◌, ◌&&◌, List, [], ◌∷◌, length, take, drop, get_or, Bool, true, Option, Some, None, option_map, option_and_then, ℤ, pos, neg_ℤ, unsigned_abs, ◌==◌, nat_lt, if◌then◌else◌, ⊤}
 use Rattle.std.specs.Bool.{then_some}
 use Rattle.std.specs.Char.{is_ascii_digit}
 use Rattle.std.specs.Str.{all_ascii_digits}
@@ -48,3 +48,7 @@ pub record BeginsWithDigits (text : List ℕ) (number : ℕ) (rest : List ℕ) :
   pub some : 0 < count
   pub reads : Reads text count number
   pub follows : rest ≡ drop count text
+
+-- four bytes as a number, the lowest first
+abbrev pub word_of : ℕ → ℕ → ℕ → ℕ → ℕ
+word_of a b c d = a + 256 * b + 65536 * c + 16777216 * d

@@ -1,13 +1,13 @@
 //! Lines of steps, read by an index from the start of the text. Nothing here makes a call, so that no part of a line need be stored in
 //! memory. As a rule a line has a name, one blank before each operand, registers of one to three digits, and the LF: these are tried first.
-//! More blanks, more digits, and blanks at the end of the line have arms of their own.
+//! More blanks, more digits, and blanks at the end of the line have arms of their own. There is a copy for each blank that may follow a name.
 //!
 //! A result of `None` says nothing of a line, so whoever asks goes on with its words. It is given for a line that is bad, begins with a
-//! blank or is one of the last two of a text, and where a number has 18 digits or more, several blanks before an operand are not all of
-//! the kind that follows the name, or a CR follows a name of two or three letters.
+//! space or is one of the last two of a text, and where a number has 18 digits or more, another blank follows the name, or several blanks
+//! before an operand are not all of that kind.
 
-ghost use Rattle.std.specs.Prelude.{◌≡◌, ◌≤◌, ◌<◌, ◌+◌, ◌^◌, [], true, length, drop, get_or, take, Some, IfSome, MatchOption, ⊤};
-ghost use Rattle.std.specs.Int.{w32, to_be_bytes};
+ghost use Rattle.std.specs.Prelude.{◌≡◌, ◌≤◌, ◌<◌, ◌+◌, ◌-◌, ◌^◌, [], ◌∷◌, true, length, drop, get_or, take, Some, IfSome, MatchOption, ⊤};
+ghost use Rattle.std.specs.Int.{w32, from_be_bytes, to_be_bytes};
 ghost use Rattle.arbitrary_int.specs.Step.{StepWithin};
 ghost use Rattle.bitrun_text.specs.Text.{is_blank, left_of, word_lines};
 ghost use Rattle.bitrun_text.specs.Numeral.{first_number};
@@ -16,7 +16,6 @@ ghost use Rattle.bitrun_text.specs.Fast.{IsName, BeginsNoName, BeginsWithName, N
 
 use crate::operand::{below, last_number, next_register};
 use crate::operation::Operation;
-use crate::text::is_blank;
 use arbitrary_int::{ByOp, OneOp, Step, TwoOp};
 
 /// The bytes that the operands take at most without a test of their own: three of up to three digits with a blank before each, and the
@@ -24,24 +23,30 @@ use arbitrary_int::{ByOp, OneOp, Step, TwoOp};
 const OPERANDS: usize = 16;
 
 /// With its name and a blank, a line has so many.
-const LINE: usize = OPERANDS + 5;
+pub const LINE: usize = OPERANDS + 5;
 
 /// The step on so many registers of the line at the place, and the place after the line, or nothing where the line isn't a fast one or
-/// names no step.
+/// names no step. From each place below the limit on, the text has `LINE` bytes.
 #[inline(always)]
-pub fn fast_line(text: &[u8], at: usize, count: usize) -> Option<(Step, usize)>
-    requires { at ≤ length text.now }
+pub fn fast_line<const BLANK: u8>(
+    text: &[u8],
+    at: usize,
+    limit: usize,
+    count: usize,
+) -> Option<(Step, usize)>
+    requires blank { is_blank BLANK ≡ true }
+    requires limit { limit ≤ length text.now - 20 }
     ensures step { IfSome result (λ p. NamesLine count (drop at text.now) p.0 (drop p.1 text.now)) }
     ensures within { IfSome result (λ p. StepWithin count p.0) }
     ensures order { IfSome result (λ p. at < p.1) }
     ensures room { IfSome result (λ p. p.1 ≤ length text.now) }
 {
     // With this one test no part has one of its own.
-    if at + LINE > text.len() {
+    if at >= limit {
         return None;
     }
     let (operation, name_end) = name_at(text, at)?;
-    let (step, end) = fast_operands(operation, text, name_end, count)?;
+    let (step, end) = fast_operands::<BLANK>(operation, text, name_end, count)?;
     Some((step, end))
 }
 
@@ -49,13 +54,14 @@ pub fn fast_line(text: &[u8], at: usize, count: usize) -> Option<(Step, usize)>
 /// of the operation is told first, so that the compiler goes on to its operands from each name.
 #[tactic(auto, using(crate::proofs::StepWords::taken))]
 #[inline(always)]
-fn fast_operands(
+fn fast_operands<const BLANK: u8>(
     operation: Operation,
     text: &[u8],
     at: usize,
     count: usize,
 ) -> Option<(Step, usize)>
-    requires { at + 17 ≤ length text.now }
+    requires blank { is_blank BLANK ≡ true }
+    requires room { at + 17 ≤ length text.now }
     ensures blank { IfSome result (λ p. is_blank (get_or text.now at 0) ≡ true) }
     ensures step { IfSome result (λ p. step_with count operation (left_of (drop (at + 1) text.now)).words ≡ Some p.0) }
     ensures within { IfSome result (λ p. StepWithin count p.0) }
@@ -65,10 +71,12 @@ fn fast_operands(
 {
     match operation {
         Operation::Two(op) => {
-            let blank = blank_at(text, at)?;
-            let (to, at) = next_register(text, at + 1, count, blank, OPERANDS)?;
-            let (left, at) = next_register(text, at, count, blank, OPERANDS - 5)?;
-            let (right, end) = last_register(text, at, count, blank)?;
+            if text[at] != BLANK {
+                return None;
+            }
+            let (to, at) = next_register(text, at + 1, count, BLANK, OPERANDS)?;
+            let (left, at) = next_register(text, at, count, BLANK, OPERANDS - 5)?;
+            let (right, end) = last_register(text, at, count, BLANK)?;
             Some((
                 Step::Two {
                     op,
@@ -80,16 +88,20 @@ fn fast_operands(
             ))
         }
         Operation::One(op) => {
-            let blank = blank_at(text, at)?;
-            let (to, at) = next_register(text, at + 1, count, blank, OPERANDS)?;
-            let (src, end) = last_register(text, at, count, blank)?;
+            if text[at] != BLANK {
+                return None;
+            }
+            let (to, at) = next_register(text, at + 1, count, BLANK, OPERANDS)?;
+            let (src, end) = last_register(text, at, count, BLANK)?;
             Some((Step::One { op, to, src }, end))
         }
         Operation::By(op) => {
-            let blank = blank_at(text, at)?;
-            let (to, at) = next_register(text, at + 1, count, blank, OPERANDS)?;
-            let (src, at) = next_register(text, at, count, blank, OPERANDS - 5)?;
-            let (amount, end) = fast_amount(text, at, blank)?;
+            if text[at] != BLANK {
+                return None;
+            }
+            let (to, at) = next_register(text, at + 1, count, BLANK, OPERANDS)?;
+            let (src, at) = next_register(text, at, count, BLANK, OPERANDS - 5)?;
+            let (amount, end) = fast_amount(text, at, BLANK)?;
             Some((
                 Step::By {
                     op,
@@ -101,17 +113,6 @@ fn fast_operands(
             ))
         }
     }
-}
-
-/// The blank at the place.
-#[inline(always)]
-fn blank_at(text: &[u8], at: usize) -> Option<u8>
-    requires { at < length text.now }
-    ensures there { IfSome result (λ blank. get_or text.now at 0 ≡ blank) }
-    ensures blank { IfSome result (λ blank. is_blank blank ≡ true) }
-{
-    let blank = text[at];
-    if is_blank(blank) { Some(blank) } else { None }
 }
 
 /// The number of one of so many registers, which is the last word of the line, and the place after the line.
@@ -154,9 +155,21 @@ fn name_at(text: &[u8], at: usize) -> Option<(Operation, usize)>
     ensures order { IfSome result (λ p. at ≤ p.1) }
     ensures room { IfSome result (λ p. p.1 ≤ at + 4) }
 {
-    let word = u32::from_be_bytes([text[at], text[at + 1], text[at + 2], text[at + 3]]);
-    let (operation, size) = short_name(word)?;
+    // So no search among the names is made where spaces stand in front.
+    if text[at] == b' ' {
+        return None;
+    }
+    let (operation, size) = short_name(name_word(text, at))?;
     Some((operation, at + size))
+}
+
+/// The four bytes at the place, of which the first is the highest. As `word_at` it isn't `always` in line.
+#[inline]
+fn name_word(text: &[u8], at: usize) -> u32
+    requires { at + 4 ≤ length text.now }
+    ensures word { result ≡ from_be_bytes w32 (get_or text.now at 0 ∷ get_or text.now (at + 1) 0 ∷ get_or text.now (at + 2) 0 ∷ get_or text.now (at + 3) 0 ∷ []) }
+{
+    u32::from_be_bytes([text[at], text[at + 1], text[at + 2], text[at + 3]])
 }
 
 /// The operation that the first letters of four bytes name, and how many letters it has. The first

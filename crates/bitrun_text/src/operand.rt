@@ -6,8 +6,17 @@ ghost use Rattle.bitrun_text.specs.Text.{is_blank, left_of};
 ghost use Rattle.bitrun_text.specs.Numeral.{Reads, first_number};
 ghost use Rattle.bitrun_text.specs.Fast.{EndsLine, EndsWithNumber};
 
-use crate::short_number::{eight_digits, few_digits, more_digits};
+use crate::short_number::{
+    digit, eight_digits, few_digits, more_digits, one_digit, three_digits, two_digits, word_at,
+    zeros_end,
+};
 use crate::text::is_blank;
+
+/// The bit that each digit has, and no blank and no LF, in the second of four bytes.
+const SECOND: u32 = 0x1000;
+
+/// In the third of them.
+const THIRD: u32 = 0x10_0000;
 
 /// The number of one of so many registers, which is the next word of the line, and the place after the blank that follows it. The text has
 /// so many bytes from the place on, and at most five of them fewer after the word.
@@ -28,18 +37,53 @@ pub fn next_register(
     ensures order { IfSome result (λ p. at < p.1) }
     ensures room { IfSome result (λ p. p.1 + room ≤ length text.now + 5) }
 {
-    if let Some((number, end, followed)) = few_digits(text, at, blank) {
-        if followed {
-            return below(number, end, count);
+    if word_at(text, at) & SECOND == 0 {
+        if let Some(number) = one_digit(text, at, blank) {
+            return below(number, at + 2, count);
         }
-        return long_register(text, at, number, end, count, room);
+    } else if let Some(number) = three_digits(text, at, blank) {
+        return below(number, at + 4, count);
+    } else if text[at] == blank {
+        if let Some(number) = one_digit(text, at + 1, blank) {
+            return below(number, at + 3, count);
+        }
+        if let Some(number) = two_digits(text, at + 1, blank) {
+            return below(number, at + 4, count);
+        }
+        if let Some(number) = three_digits(text, at + 1, blank) {
+            return below(number, at + 5, count);
+        }
+    } else if let Some(number) = two_digits(text, at, blank) {
+        return below(number, at + 3, count);
     }
-    let at = after_blanks(text, at, blank, room)?;
-    let (number, end, followed) = few_digits(text, at, blank)?;
-    if followed {
-        return below(number, end, count);
+    other_register(text, at, count, blank, room)
+}
+
+/// The same of a word with more blanks before it, with more digits, or with a blank of another kind after it.
+#[inline(always)]
+fn other_register(
+    text: &[u8],
+    at: usize,
+    count: usize,
+    blank: u8,
+    room: usize,
+) -> Option<(usize, usize)>
+    requires blank { is_blank blank ≡ true }
+    requires some { 5 ≤ room }
+    requires room { at + room ≤ length text.now }
+    ensures number { IfSome result (λ p. first_number count (left_of (drop at text.now)).words ≡ Some (p.0, (left_of (drop p.1 text.now)).words)) }
+    ensures below { IfSome result (λ p. p.0 < count) }
+    ensures later { IfSome result (λ p. (left_of (drop p.1 text.now)).later ≡ (left_of (drop at text.now)).later) }
+    ensures order { IfSome result (λ p. at < p.1) }
+    ensures room { IfSome result (λ p. p.1 + room ≤ length text.now + 5) }
+{
+    let start = after_blanks(text, at, blank, room)?;
+    let place = zeros_end(text, start, room);
+    if let Some(number) = one_digit(text, place, blank) {
+        return below(number, place + 2, count);
     }
-    long_register(text, at, number, end, count, room - 1)
+    let (number, end) = few_digits(text, start)?;
+    long_register(text, start, number, end, count, room - 1)
 }
 
 /// The number of one of so many registers at the place, of which these digits are read, and the place after the blank that follows it.
@@ -95,18 +139,51 @@ pub fn last_number(text: &[u8], at: usize, blank: u8) -> Option<(u64, usize)>
     ensures order { IfSome result (λ p. at < p.1) }
     ensures room { IfSome result (λ p. p.1 ≤ length text.now) }
 {
-    if let Some((number, end, followed)) = few_digits(text, at, b'\n') {
-        if followed {
+    let word = word_at(text, at);
+    if word & SECOND == 0 {
+        if let Some(number) = one_digit(text, at, b'\n') {
+            return Some((number, at + 2));
+        }
+        let number = digit(text[at]);
+        if number < 10 {
+            let end = after_line_end(text, at + 1)?;
             return Some((number, end));
         }
-        return long_last_number(text, at, number, end);
+    } else if word & THIRD != 0 {
+        if let Some(number) = three_digits(text, at, b'\n') {
+            return Some((number, at + 4));
+        }
+        if text[at] == blank {
+            if let Some(number) = two_digits(text, at + 1, b'\n') {
+                return Some((number, at + 4));
+            }
+        }
+    } else if text[at] == blank {
+        if let Some(number) = one_digit(text, at + 1, b'\n') {
+            return Some((number, at + 3));
+        }
+    } else if let Some(number) = two_digits(text, at, b'\n') {
+        return Some((number, at + 3));
+    } else if let Some(number) = two_digits(text, at, b'\r') {
+        if text[at + 3] == b'\n' {
+            return Some((number, at + 4));
+        }
     }
-    let at = after_blanks(text, at, blank, 6)?;
-    let (number, end, followed) = few_digits(text, at, b'\n')?;
-    if followed {
-        return Some((number, end));
-    }
-    long_last_number(text, at, number, end)
+    other_last_number(text, at, blank)
+}
+
+/// The same of a word with more blanks before it, with more digits, or with other blanks before the end of the line.
+#[inline(always)]
+fn other_last_number(text: &[u8], at: usize, blank: u8) -> Option<(u64, usize)>
+    requires blank { is_blank blank ≡ true }
+    requires room { at + 6 ≤ length text.now }
+    ensures number { IfSome result (λ p. EndsWithNumber (drop at text.now) p.0 (drop p.1 text.now)) }
+    ensures order { IfSome result (λ p. at < p.1) }
+    ensures room { IfSome result (λ p. p.1 ≤ length text.now) }
+{
+    let start = after_blanks(text, at, blank, 6)?;
+    let (number, end) = few_digits(text, start)?;
+    long_last_number(text, start, number, end)
 }
 
 /// The number of the word at the place, of which these digits are read, and the place after the line.
@@ -115,7 +192,7 @@ fn long_last_number(text: &[u8], at: usize, number: u64, end: usize) -> Option<(
     requires reads { Reads (drop at text.now) (end - at) number }
     requires some { at < end }
     requires short { end ≤ at + 3 }
-    requires room { at + 5 ≤ length text.now }
+    requires room { end + 2 ≤ length text.now }
     ensures number { IfSome result (λ p. EndsWithNumber (drop at text.now) p.0 (drop p.1 text.now)) }
     ensures order { IfSome result (λ p. at < p.1) }
     ensures room { IfSome result (λ p. p.1 ≤ length text.now) }
@@ -131,28 +208,22 @@ fn long_last_number(text: &[u8], at: usize, number: u64, end: usize) -> Option<(
     Some((number, after_line_end(text, end)?))
 }
 
-/// The place after the blanks of one kind, where such a one stands at the place. As a rule it is one. The text has so many bytes from the
-/// place on, and at most one of them fewer after the blanks.
+/// The place after the blanks of one kind at the place. The text has so many bytes from the place on, and at most one of them fewer after the
+/// blanks.
 #[inline(always)]
 fn after_blanks(text: &[u8], at: usize, blank: u8, room: usize) -> Option<usize>
     requires blank { is_blank blank ≡ true }
     requires some { 2 ≤ room }
     requires room { at + room ≤ length text.now }
     ensures same { IfSome result (λ next. left_of (drop next text.now) ≡ left_of (drop at text.now)) }
-    ensures order { IfSome result (λ next. at < next) }
+    ensures order { IfSome result (λ next. at ≤ next) }
     ensures room { IfSome result (λ next. next + room ≤ length text.now + 1) }
 {
-    if text[at] != blank {
-        return None;
-    }
-    if text[at + 1] != blank {
-        return Some(at + 1);
-    }
-    let mut next = at + 2;
+    let mut next = at;
     while next < text.len() && text[next] == blank {
         next += 1;
     }
-    if next + room > text.len() {
+    if next + room > text.len() + 1 {
         return None;
     }
     Some(next)

@@ -1,17 +1,17 @@
 //! The registers and the steps from their lines.
 
-ghost use Rattle.std.specs.Prelude.{◌≡◌, ◌≤◌, ◌+◌, ◌-◌, ℕ, List, length, drop, map, filter, IfOk, IfErr, IfSome, MatchOption, All};
+ghost use Rattle.std.specs.Prelude.{◌≡◌, true, ◌≤◌, ◌+◌, ◌-◌, ℕ, List, length, drop, map, filter, IfOk, IfErr, IfSome, MatchOption, All};
 ghost use Rattle.arbitrary_int.specs.Step.{StepWithin};
 ghost use Rattle.std.specs.List.{AllZip};
-ghost use Rattle.bitrun_text.specs.Text.{Left, has_items, word_lines};
+ghost use Rattle.bitrun_text.specs.Text.{Left, has_items, is_blank, word_lines};
 ghost use Rattle.bitrun_text.specs.Form.{IsValue, IsStep, HasRegistersForm, StepsFault, ReadSoFar};
 
-use crate::fast::fast_line;
+use crate::fast::{LINE, fast_line};
 use crate::fast_value::fast_value;
 use crate::fault::Fault;
 use crate::numeral::value_named;
 use crate::operation::step_named;
-use crate::text::{Cursor, after_line, is_blank};
+use crate::text::{Cursor, after_line};
 use arbitrary_int::Step;
 use arbitrary_int::traits::FixedWidth;
 use std::alloc::{AllocError, Allocator};
@@ -89,8 +89,8 @@ pub fn steps<'a, A: Allocator>(
 }
 
 /// Adds the steps of the fast lines with which the text begins, as far as there is room for them, and the number of these lines, and gives
-/// what follows them. Nothing that reads a line here takes a call, so that what goes on need not be stored in memory.
-#[inline(never)]
+/// what follows them.
+#[inline(always)]
 fn fast_steps<'a, 't, A: Allocator>(
     count: usize,
     text: &'t [u8],
@@ -102,16 +102,85 @@ fn fast_steps<'a, 't, A: Allocator>(
     ensures order { number.old ≤ number.new }
 {
     let before = steps.len();
+    let mut passed = 0;
+    let mut rest = text;
+    // Once more where lines with tabs were read, after which others with spaces may come.
+    loop {
+        let tabs = space_steps(count, rest, steps, &mut passed);
+        rest = tab_steps(count, tabs, steps, &mut passed);
+        if rest.len() == tabs.len() {
+            break;
+        }
+    }
+    *number += steps.len() - before + passed;
+    rest
+}
+
+/// Adds the steps of the fast lines with spaces between their words with which the text begins, as far as there is room for them, and the
+/// number of the empty lines among these, and gives what follows them.
+#[inline(never)]
+fn space_steps<'a, 't, A: Allocator>(
+    count: usize,
+    text: &'t [u8],
+    steps: &mut Vec<Step, &'a A>,
+    passed: &mut usize,
+) -> &'t [u8]
+    requires { passed.old + length (word_lines text.now) ≤ 65538 }
+    ensures read { (all : List (List (List ℕ))) → (number : ℕ) → ReadSoFar count all steps.old.items number (word_lines text.now) → ReadSoFar count all steps.new.items (number + (length steps.new.items - length steps.old.items + (passed.new - passed.old))) (word_lines result.now) }
+    ensures counted { (length steps.new.items - length steps.old.items + (passed.new - passed.old)) + length (word_lines result.now) ≡ length (word_lines text.now) }
+    ensures steps { length steps.old.items ≤ length steps.new.items }
+    ensures passed { passed.old ≤ passed.new }
+    ensures order { length result.now ≤ length text.now }
+{
+    steps_with::<A, b' '>(count, text, steps, passed)
+}
+
+/// The same of lines with tabs.
+#[inline(never)]
+fn tab_steps<'a, 't, A: Allocator>(
+    count: usize,
+    text: &'t [u8],
+    steps: &mut Vec<Step, &'a A>,
+    passed: &mut usize,
+) -> &'t [u8]
+    requires { passed.old + length (word_lines text.now) ≤ 65538 }
+    ensures read { (all : List (List (List ℕ))) → (number : ℕ) → ReadSoFar count all steps.old.items number (word_lines text.now) → ReadSoFar count all steps.new.items (number + (length steps.new.items - length steps.old.items + (passed.new - passed.old))) (word_lines result.now) }
+    ensures counted { (length steps.new.items - length steps.old.items + (passed.new - passed.old)) + length (word_lines result.now) ≡ length (word_lines text.now) }
+    ensures steps { length steps.old.items ≤ length steps.new.items }
+    ensures passed { passed.old ≤ passed.new }
+    ensures order { length result.now ≤ length text.now }
+{
+    steps_with::<A, b'\t'>(count, text, steps, passed)
+}
+
+/// The same of lines with this blank. Nothing that reads a line here takes a call, so that what goes on need not be stored in memory; nor is
+/// there a test for another blank.
+#[inline(always)]
+fn steps_with<'a, 't, A: Allocator, const BLANK: u8>(
+    count: usize,
+    text: &'t [u8],
+    steps: &mut Vec<Step, &'a A>,
+    passed: &mut usize,
+) -> &'t [u8]
+    requires blank { is_blank BLANK ≡ true }
+    requires lines { passed.old + length (word_lines text.now) ≤ 65538 }
+    ensures read { (all : List (List (List ℕ))) → (number : ℕ) → ReadSoFar count all steps.old.items number (word_lines text.now) → ReadSoFar count all steps.new.items (number + (length steps.new.items - length steps.old.items + (passed.new - passed.old))) (word_lines result.now) }
+    ensures counted { (length steps.new.items - length steps.old.items + (passed.new - passed.old)) + length (word_lines result.now) ≡ length (word_lines text.now) }
+    ensures steps { length steps.old.items ≤ length steps.new.items }
+    ensures passed { passed.old ≤ passed.new }
+    ensures order { length result.now ≤ length text.now }
+{
+    // Lines that begin later are left to whoever asks.
+    let limit = text.len().saturating_sub(LINE - 1);
     let mut at = 0;
-    let mut empty = 0;
     while steps.len() < steps.capacity() {
-        match fast_line(text, at, count) {
+        match fast_line::<BLANK>(text, at, limit, count) {
             Some((step, end)) => {
                 steps.push_reserved(step);
                 at = end;
             }
             None => {
-                let start = after_indent(text, at);
+                let start = after_indent(text, at, BLANK);
                 if start != at {
                     at = start;
                 } else {
@@ -119,27 +188,27 @@ fn fast_steps<'a, 't, A: Allocator>(
                     if end == at {
                         break;
                     }
-                    empty += end - at;
+                    *passed += end - at;
                     at = end;
                 }
             }
         }
     }
-    *number += steps.len() - before + empty;
     let (_, rest) = text.split_at(at);
     rest
 }
 
-/// The place after the blanks at the place, unless nothing follows them.
+/// The place after the blanks of this kind at the place, unless nothing follows them.
 #[inline(always)]
-fn after_indent(text: &[u8], at: usize) -> usize
-    requires { at ≤ length text.now }
+fn after_indent(text: &[u8], at: usize, blank: u8) -> usize
+    requires blank { is_blank blank ≡ true }
+    requires room { at ≤ length text.now }
     ensures same { word_lines (drop result text.now) ≡ word_lines (drop at text.now) }
     ensures order { at ≤ result }
     ensures room { result ≤ length text.now }
 {
     let mut next = at;
-    while next < text.len() && is_blank(text[next]) {
+    while next < text.len() && text[next] == blank {
         next += 1;
     }
     if next == text.len() { at } else { next }

@@ -1,47 +1,108 @@
-//! The digits of most numbers, read one by one at a place of the text. The place alone goes on from number to number, so that no slice of
-//! its own is made for each.
+//! The digits of most numbers, at a place of the text. The place alone goes on from number to number, so that no slice of its own is made
+//! for each. One to three digits with a known byte after them are told at once from four bytes as one number, others one by one.
 
-ghost use Rattle.std.specs.Prelude.{◌≡◌, ◌≤◌, ◌<◌, ◌+◌, ◌-◌, ◌*◌, ◌^◌, ◌∷◌, ℕ, true, false, length, drop, get_or, IfSome};
-ghost use Rattle.bitrun_text.specs.Numeral.{Reads, BeginsWithDigits};
+ghost use Rattle.std.specs.Prelude.{◌≡◌, ◌≤◌, ◌<◌, ◌+◌, ◌-◌, ◌*◌, ◌^◌, ◌∷◌, ℕ, List, true, length, drop, get_or, IfSome};
+ghost use Rattle.bitrun_text.specs.Numeral.{word_of, Reads, BeginsWithDigits};
 
 /// So many digits that 64 bits have each number that they write.
 const MOST_DIGITS: usize = 18;
 
-/// The number of the one to three digits at the place, and whether the byte follows them: then the place after the byte, else the place
-/// after the digits, where a further one may follow.
+/// The number of the one digit at the place, where the byte follows it.
 #[inline(always)]
-pub fn few_digits(text: &[u8], at: usize, byte: u8) -> Option<(u64, usize, bool)>
+pub fn one_digit(text: &[u8], at: usize, byte: u8) -> Option<u64>
     requires { at + 4 ≤ length text.now }
-    ensures followed { IfSome result (λ p. p.2 ≡ true → BeginsWithDigits (drop at text.now) p.0 (byte ∷ drop p.1 text.now)) }
-    ensures other { IfSome result (λ p. p.2 ≡ false → Reads (drop at text.now) (p.1 - at) p.0) }
+    ensures { IfSome result (λ n. BeginsWithDigits (drop at text.now) n (byte ∷ drop (at + 2) text.now)) }
+{
+    let first_two = (word_at(text, at) % 0x1_0000) as u16;
+    let number = first_two.wrapping_sub(u16::from(byte) * 0x100 + 0x30);
+    if number >= 10 {
+        return None;
+    }
+    Some(u64::from(number))
+}
+
+/// The number of the two digits at the place, where the byte follows them.
+#[inline(always)]
+pub fn two_digits(text: &[u8], at: usize, byte: u8) -> Option<u64>
+    requires { at + 4 ≤ length text.now }
+    ensures { IfSome result (λ n. BeginsWithDigits (drop at text.now) n (byte ∷ drop (at + 3) text.now)) }
+{
+    let word = word_at(text, at);
+    // With digits and the byte there, `low` has what the digits are worth, and in neither number a byte has its highest bit.
+    let low = word.wrapping_sub(u32::from(byte) * 0x1_0000 + 0x3030);
+    let high = word.wrapping_add((0x100 - u32::from(byte)) * 0x1_0000 + 0x4646);
+    if (low | high) & 0xff_8080 != 0 {
+        return None;
+    }
+    Some(u64::from(low.wrapping_mul(0xa01) / 0x100 % 0x100))
+}
+
+/// The number of the three digits at the place, where the byte follows them.
+#[inline(always)]
+pub fn three_digits(text: &[u8], at: usize, byte: u8) -> Option<u64>
+    requires { at + 4 ≤ length text.now }
+    ensures { IfSome result (λ n. BeginsWithDigits (drop at text.now) n (byte ∷ drop (at + 4) text.now)) }
+{
+    let word = word_at(text, at);
+    let last = u32::from(byte) * 0x100_0000;
+    let low = word.wrapping_sub(last + 0x30_3030);
+    let high = word.wrapping_sub(last).wrapping_add(0x46_4646);
+    if (low | high) & 0xff80_8080 != 0 {
+        return None;
+    }
+    let first_two = low.wrapping_mul(0xa01) / 0x100 % 0x100;
+    Some(10 * u64::from(first_two) + u64::from(low / 0x1_0000))
+}
+
+/// Four bytes as a number, of which the first is the lowest byte. Not `always` in line: then the compiler makes one load of the four before it
+/// knows what becomes of each.
+#[inline]
+pub fn word_at(text: &[u8], at: usize) -> u32
+    requires { at + 4 ≤ length text.now }
+    ensures word { result ≡ word_of (get_or text.now at 0) (get_or text.now (at + 1) 0) (get_or text.now (at + 2) 0) (get_or text.now (at + 3) 0) }
+    ensures bytes { (k : ℕ) → get_or text.now k 0 < 256 }
+{
+    u32::from_le_bytes([text[at], text[at + 1], text[at + 2], text[at + 3]])
+}
+
+/// The number of the one to three digits at the place, and the place after them, where a further one may follow.
+#[inline(always)]
+pub fn few_digits(text: &[u8], at: usize) -> Option<(u64, usize)>
+    requires { at + 4 ≤ length text.now }
+    ensures reads { IfSome result (λ p. Reads (drop at text.now) (p.1 - at) p.0) }
     ensures some { IfSome result (λ p. at < p.1) }
-    ensures short { IfSome result (λ p. p.2 ≡ false → p.1 ≤ at + 3) }
-    ensures room { IfSome result (λ p. p.1 ≤ at + 4) }
+    ensures short { IfSome result (λ p. p.1 ≤ at + 3) }
 {
     let first = digit(text[at]);
     if first >= 10 {
         return None;
     }
-    if text[at + 1] == byte {
-        return Some((first, at + 2, true));
-    }
     let second = digit(text[at + 1]);
     if second >= 10 {
-        return Some((first, at + 1, false));
+        return Some((first, at + 1));
     }
     let two = with_digit(first, second);
-    if text[at + 2] == byte {
-        return Some((two, at + 3, true));
-    }
     let third = digit(text[at + 2]);
     if third >= 10 {
-        return Some((two, at + 2, false));
+        return Some((two, at + 2));
     }
-    let three = with_digit(two, third);
-    if text[at + 3] == byte {
-        return Some((three, at + 4, true));
+    Some((with_digit(two, third), at + 3))
+}
+
+/// The place after the zeros at the place, four by four. The text has so many bytes from the place on, or one fewer, and after the zeros too.
+#[inline(always)]
+pub fn zeros_end(text: &[u8], at: usize, room: usize) -> usize
+    requires some { 4 ≤ room }
+    requires room { at + room ≤ length text.now + 1 }
+    ensures same { (number : ℕ) → (rest : List ℕ) → BeginsWithDigits (drop result text.now) number rest → BeginsWithDigits (drop at text.now) number rest }
+    ensures order { at ≤ result }
+    ensures room { result + room ≤ length text.now + 1 }
+{
+    let mut next = at;
+    while next + room + 3 <= text.len() && are_zeros(text, next) {
+        next += 4;
     }
-    Some((three, at + 3, false))
+    next
 }
 
 /// The number with up to eight digits more, the place after them, and whether another byte than a digit stands there: fewer than eight
@@ -51,7 +112,7 @@ pub fn eight_digits(text: &[u8], at: usize, number: u64, end: usize) -> (u64, us
     requires reads { Reads (drop at text.now) (end - at) number }
     requires some { at < end }
     requires short { end ≤ at + 3 }
-    requires start { at + 4 ≤ length text.now }
+    requires room { end + 2 ≤ length text.now }
     ensures reads { Reads (drop at text.now) (result.1 - at) result.0 }
     ensures some { at < result.1 }
     ensures within { result.1 < length text.now }
@@ -143,7 +204,7 @@ fn with_digit(number: u64, digit: u64) -> u64
 
 /// What the byte is worth as a digit, which is below ten for digits alone.
 #[inline(always)]
-fn digit(byte: u8) -> u64
+pub fn digit(byte: u8) -> u64
     ensures { result < 10 → byte ≡ 48 + result }
 {
     u64::from(byte).wrapping_sub(48)

@@ -1,13 +1,13 @@
-use Rattle.std.proofs.Common.{◌<◌, length, drop, refl, sym, ◌∙◌, arith, length-drop}
+use Rattle.std.proofs.Common.{◌<◌, length, drop, refl, ◌∙◌, arith, length-drop}
 use Rattle.bitrun_text.proofs.Places.{blank_skipped, same_lines}
 use Rattle.bitrun_text.proofs.parsing.after_indent.Goals as goal
 
 pub loop-next-init : goal.loop-next-init
-loop-next-init c = record { same = refl; order = omega arith; within = c.requires }
+loop-next-init c = record { same = refl; order = omega arith; within = c.requires.room }
 
 pub loop-next-preserved : goal.loop-next-preserved
 loop-next-preserved c =
-    let passed = blank_skipped c.args.text.now c.loop-next.next c.loop-next-test.true (sym c.if-is_blank.ensures) in
+    let passed = blank_skipped c.args.text.now c.loop-next.next c.loop-next-test.true (rw c.if-text-next.true c.requires.blank) in
     record { same = passed ∙ c.loop-next.invariant.same; order = omega (arith, c.loop-next.invariant.order); within = omega (arith, c.loop-next-test.true) }
 
 pub returns-else-next-text-clause-same : goal.returns-else-next-text-clause-same
