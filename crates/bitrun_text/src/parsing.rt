@@ -106,8 +106,8 @@ fn fast_steps<'a, 't, A: Allocator>(
     let mut rest = text;
     // Once more where lines with tabs were read, after which others with spaces may come.
     loop {
-        let tabs = space_steps(count, rest, steps, &mut passed);
-        rest = tab_steps(count, tabs, steps, &mut passed);
+        let tabs = steps_with::<A, b' '>(count, rest, steps, &mut passed);
+        rest = steps_with::<A, b'\t'>(count, tabs, steps, &mut passed);
         if rest.len() == tabs.len() {
             break;
         }
@@ -116,46 +116,10 @@ fn fast_steps<'a, 't, A: Allocator>(
     rest
 }
 
-/// Adds the steps of the fast lines with spaces between their words with which the text begins, as far as there is room for them, and the
-/// number of the empty lines among these, and gives what follows them.
+/// Adds the steps of the fast lines with this blank between their words with which the text begins, as far as there is room for them, and
+/// the number of the empty lines among these, and gives what follows them. There is a copy for each blank. Nothing that reads a line here
+/// takes a call, so that what goes on need not be stored in memory; nor is there a test for another blank.
 #[inline(never)]
-fn space_steps<'a, 't, A: Allocator>(
-    count: usize,
-    text: &'t [u8],
-    steps: &mut Vec<Step, &'a A>,
-    passed: &mut usize,
-) -> &'t [u8]
-    requires { passed.old + length (word_lines text.now) ≤ 65538 }
-    ensures read { (all : List (List (List ℕ))) → (number : ℕ) → ReadSoFar count all steps.old.items number (word_lines text.now) → ReadSoFar count all steps.new.items (number + (length steps.new.items - length steps.old.items + (passed.new - passed.old))) (word_lines result.now) }
-    ensures counted { (length steps.new.items - length steps.old.items + (passed.new - passed.old)) + length (word_lines result.now) ≡ length (word_lines text.now) }
-    ensures steps { length steps.old.items ≤ length steps.new.items }
-    ensures passed { passed.old ≤ passed.new }
-    ensures order { length result.now ≤ length text.now }
-{
-    steps_with::<A, b' '>(count, text, steps, passed)
-}
-
-/// The same of lines with tabs.
-#[inline(never)]
-fn tab_steps<'a, 't, A: Allocator>(
-    count: usize,
-    text: &'t [u8],
-    steps: &mut Vec<Step, &'a A>,
-    passed: &mut usize,
-) -> &'t [u8]
-    requires { passed.old + length (word_lines text.now) ≤ 65538 }
-    ensures read { (all : List (List (List ℕ))) → (number : ℕ) → ReadSoFar count all steps.old.items number (word_lines text.now) → ReadSoFar count all steps.new.items (number + (length steps.new.items - length steps.old.items + (passed.new - passed.old))) (word_lines result.now) }
-    ensures counted { (length steps.new.items - length steps.old.items + (passed.new - passed.old)) + length (word_lines result.now) ≡ length (word_lines text.now) }
-    ensures steps { length steps.old.items ≤ length steps.new.items }
-    ensures passed { passed.old ≤ passed.new }
-    ensures order { length result.now ≤ length text.now }
-{
-    steps_with::<A, b'\t'>(count, text, steps, passed)
-}
-
-/// The same of lines with this blank. Nothing that reads a line here takes a call, so that what goes on need not be stored in memory; nor is
-/// there a test for another blank.
-#[inline(always)]
 fn steps_with<'a, 't, A: Allocator, const BLANK: u8>(
     count: usize,
     text: &'t [u8],
