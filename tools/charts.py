@@ -138,7 +138,7 @@ def inputs():
 def gate():
     """The processor seconds of the gate, crate by crate."""
     table = next(tables('The gate'))
-    works = [('proof', BLUE), ('its tests', GREEN), ('its edits', ORANGE)]
+    works = [('proof and edits', BLUE), ('its tests', GREEN)]
     places = [table[0].index(name) for name, _ in works]
     rows = [(row[0].strip('`'), [number(row[place]) or 0 for place in places]) for row in table[1:]]
     most = max(sum(seconds) for _, seconds in rows)
@@ -146,8 +146,8 @@ def gate():
     parts, x = [text(left, 18, 'Processor seconds of the gate', weight='bold')], left + 220
     for name, colour in works:
         parts += [box(x, 8, 12, 12, colour), text(x + 18, 18, name)]
-        x += 90
-    for tick in range(0, int(most) + 1, 500):
+        x += 130
+    for tick in range(0, int(most) + 1, 100):
         parts += [line(left + full * tick / most, top - 4, left + full * tick / most, top + high * len(rows))]
         parts += [text(left + full * tick / most, top - 8, str(tick), 'middle', 10)]
     for place, (name, seconds) in enumerate(rows):
