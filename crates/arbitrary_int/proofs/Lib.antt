@@ -16,6 +16,7 @@ pub mod MovedIn
 pub mod ReplacedField
 pub mod PlacedField
 pub mod FieldInNumber
+pub mod FieldReads
 pub mod StreamBytes
 pub mod StepWords
 pub mod TextLength

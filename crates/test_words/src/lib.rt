@@ -5,6 +5,7 @@
 pub mod assigned_flags;
 pub mod cleared_fields;
 pub mod fields;
+pub mod fields_at_once;
 pub mod flags;
 pub mod instructions;
 pub mod low_masks;
