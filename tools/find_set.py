@@ -38,7 +38,8 @@ APART = ['MovedBits::moved_bits', 'RightRotations::right_rotations', 'MovedProdu
          'Distances::distances', 'Sets::swapped_bytes', 'FoldingOrder::folding_orders', 'FlagTests::one_flag',
          'PositiveResults::positive_results', 'TurnedSigns::turned_orders', 'KnownCalls::known_calls', 'Averages::averages',
          'QuotientParts::quotient_parts', 'QuotientParts::quotient_pairs', 'LowSums::low_sums', 'BackRotations::back_rotations',
-         'SignExtensions::sign_extensions', 'MaskedField::masked_fields', 'FieldReads::field_reads']
+         'SignExtensions::sign_extensions', 'MaskedField::masked_fields', 'FieldReads::field_reads', 'SwappedBytes::swapped_words',
+         'Remainders::remainders', 'Remainders::natural_remainders', 'AtMostOneBit::at_most_one_bit']
 # Those that a file of several kinds of laws names, and none.
 WIDE = ['', 'AllSets::laws', 'AllSets::words', 'AllSets::all_sets']
 # Where a row of a table has two sets, `;` is between them. The head of a table says which module its sets are of.

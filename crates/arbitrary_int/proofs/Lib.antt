@@ -44,12 +44,15 @@ pub mod KnownNumbers
 pub mod KnownBytes
 pub mod KnownCalls
 pub mod Truncations
+pub mod SwappedBytes
+pub mod Remainders
 pub mod CountBounds
 pub mod Population
 pub mod ConvertedCounts
 pub mod LowMask
 pub mod LowestBit
 pub mod LowestBitCounts
+pub mod AtMostOneBit
 pub mod NormalShifts
 pub mod LeadingZeros
 pub mod TrailingZeros

@@ -3,7 +3,10 @@
 #![tactic(auto)]
 
 pub mod all_sets;
+pub mod at_most_one_bit;
 pub mod former_names;
 pub mod more_operations;
 pub mod operations;
+pub mod remainders;
 pub mod signed;
+pub mod swapped_words;
