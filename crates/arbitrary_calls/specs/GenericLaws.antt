@@ -1,16 +1,21 @@
 -- Further laws of `FixedWidth` for generic code, in groups. A group is shut, and takes nothing from a search, until a file opens it by
 -- `#![tactic(auto, unfolding(arbitrary_int::specs::GenericLaws::SumLaws))]`. Each group is over the functions of values that `FixedWidth`
 -- has, and names no value: laws of 0 would be tried at it.
-use Rattle.std.specs.Prelude.{◌≡◌, ◌+◌, ◌≤◌, ℕ, ℤ, Bool, true, pos}
+use Rattle.std.specs.Prelude.{◌≡◌, ◌+◌, ◌%◌, ◌≤◌, ℕ, ℤ, Bool, true, false, pos}
 use Rattle.std.specs.Ordering.{int_cmp}
-use Rattle.std.proofs.Common.{ap, ap₂, refl, sym, ◌∙◌}
-use Rattle.arbitrary_base.specs.Operation.{bitwise_and, bitwise_not, bitwise_or, bitwise_xor, wrapped_difference, wrapped_sum}
-use Rattle.arbitrary_base.proofs.operations.Amount.{count_of_ones, difference-after_sum, ones-is, own_value-is}
-use Rattle.arbitrary_base.proofs.operations.BitByBit.{is_own_bits}
+use Rattle.std.proofs.Common.{ap, ap₂, arith, mod-lt, refl, subst, sym, ◌∙◌}
+use Rattle.arbitrary_base.specs.Range.{InRange}
+use Rattle.arbitrary_base.specs.Operation.{bitwise_and, bitwise_not, bitwise_or, bitwise_xor, reversed, shifted_left, shifted_right, wrapped_difference, wrapped_product, wrapped_sum}
+use Rattle.arbitrary_base.proofs.bit_lists.TwosComplement.{val-bits}
+use Rattle.arbitrary_base.proofs.modular.Residue.{wrap-in_range}
+use Rattle.arbitrary_base.proofs.operations.Amount.{Amount, amount, count_of_ones, difference-after_sum, left, left-of_amount, ones-is, own_value-is, right, right-of_amount}
+use Rattle.arbitrary_base.proofs.operations.BitByBit.{is_own_bits, own}
 use Rattle.arbitrary_base.proofs.operations.BitsAndSums.{difference-of_or_and, sum-of_or_and}
-use Rattle.arbitrary_base.proofs.operations.Complement.{difference-of_or, negated-is_sum, sum-with_not}
-use Rattle.arbitrary_base.proofs.operations.PopulationAndRuns.{popcount-of_and_or}
-use Rattle.arbitrary_base.proofs.operations.WrappedRing.{difference-twice, wrapped_sum-commutes}
+use Rattle.arbitrary_base.proofs.operations.Complement.{difference-of_or, negated-is_sum, not-of_difference, not-of_sum, sum-with_not}
+use Rattle.arbitrary_base.proofs.operations.PopulationAndRuns.{popcount-of_and, popcount-of_and_or}
+use Rattle.arbitrary_base.proofs.operations.RotateAndReverse.{reversed-shifted_left}
+use Rattle.arbitrary_base.proofs.operations.Shift.{left_right-mask_not, shifted_left-difference, shifted_left-is_product, shifted_right-not}
+use Rattle.arbitrary_base.proofs.operations.WrappedRing.{difference-twice, product-of_difference, wrapped_product-associates, wrapped_product-commutes, wrapped_sum-commutes}
 use Rattle.arbitrary_core.proofs.ComplementOrder.{complements-turned}
 
 -- sums and differences that wrap
@@ -30,23 +35,88 @@ BitSumLaws {S} valid value_of both either apart complement sum difference =
     × ((a b c : S) → valid → b ≡ complement a → c ≡ value_of (pos 1) → sum b c ≡ difference (value_of (pos 0)) a)
     × ((a b c : S) → valid → c ≡ either a b → difference c a ≡ both b (complement a))
 
+-- complements of sums and differences that wrap
+unfoldable pub ComplementLaws : {S : Type 0} (valid : Type 0) (complement : S → S) (sum difference : S → S → S) → Type 0
+ComplementLaws {S} valid complement sum difference =
+    ((a b c : S) → valid → c ≡ difference a b → complement c ≡ sum (complement a) b)
+    × ((a b c : S) → valid → c ≡ sum a b → complement c ≡ difference (complement a) b)
+
+-- products of differences, wrapped, and of shifted values
+unfoldable pub ProductLaws : {S : Type 0} (B : ℕ) (valid : Type 0) (left : S → Amount B → S) (difference product : S → S → S) → Type 0
+ProductLaws {S} B valid left difference product =
+    ((a b c d : S) → valid → d ≡ difference b c → product a d ≡ difference (product a b) (product a c))
+    × ((a b c : S) (m k : ℕ) → valid → m ≡ k % B → c ≡ difference a b → left c (amount B m) ≡ difference (left a (amount B m)) (left b (amount B m)))
+    × ((a b c : S) (m k : ℕ) → valid → m ≡ k % B → c ≡ product a b → left c (amount B m) ≡ product (left a (amount B m)) b)
+
+-- shifts beside `&`, `!` and the reversal
+unfoldable pub MovedBitLaws : {S : Type 0} (signed : Bool) (B : ℕ) (valid : Type 0) (fits : S → Bool) (value_of : ℤ → S) (left right : S → Amount B → S) (both : S → S → S) (complement back : S → S) → Type 0
+MovedBitLaws {S} signed B valid fits value_of left right both complement back =
+    ((a b : S) (m k : ℕ) → valid → signed ≡ false → m ≡ k % B → b ≡ left a (amount B m) → right b (amount B m) ≡ both a (right (complement (value_of (pos 0))) (amount B m)))
+    × ((a b : S) (m k : ℕ) → valid → signed ≡ false → m ≡ k % B → b ≡ left a (amount B m) → back b ≡ right (back a) (amount B m))
+    × ((a b : S) (m k : ℕ) → valid → signed ≡ true → fits a ≡ true → m ≡ k % B → b ≡ complement a → right b (amount B m) ≡ complement (right a (amount B m)))
+
 -- how many bits are one
 unfoldable pub CountLaws : {S : Type 0} (both either : S → S → S) (count : S → ℕ) → Type 0
-CountLaws {S} both either count = (a b : S) → count (both a b) + count (either a b) ≡ count a + count b
+CountLaws {S} both either count =
+    ((a b : S) → count (both a b) + count (either a b) ≡ count a + count b)
+    × ((a b : S) → count (both a b) ≤ count a)
 
 -- the order of complements
 unfoldable pub OrderLaws : {S R : Type 0} (valid : Type 0) (fits : S → Bool) (complement : S → S) (order : S → S → R) → Type 0
 OrderLaws {S} {R} valid fits complement order =
     (a b c d : S) → valid → fits a ≡ true → fits b ≡ true → c ≡ complement a → d ≡ complement b → order c d ≡ order b a
 
+-- ---- an amount that is a remainder by the width
+
+in_width : (B m k : ℕ) → 1 ≤ B → m ≡ k % B → m ≤ B
+in_width B m k h e = let l = mod-lt k h in omega arith
+
+-- ---- numbers that wrap
+
+number-in_range : (s : Bool) (B : ℕ) (x : ℤ) → 1 ≤ B → is_own_bits s B x ≡ true → InRange s B x
+number-in_range s B x h e = subst (InRange s B) (sym (val-bits s B x h) ∙ own s B x e) (wrap-in_range s B x h)
+
+product-moved : (s : Bool) (B : ℕ) (a b : ℤ) (k : ℕ) → 1 ≤ B → k ≤ B → shifted_left s B (wrapped_product s B a b) k ≡ wrapped_product s B (shifted_left s B a k) b
+product-moved s B a b k h g =
+    shifted_left-is_product s B _ k h g
+    ∙ wrapped_product-associates s B a b _ h
+    ∙ ap (wrapped_product s B a) (wrapped_product-commutes s B b _ h)
+    ∙ sym (wrapped_product-associates s B a _ b h)
+    ∙ ap (λ (x : ℤ). wrapped_product s B x b) (sym (shifted_left-is_product s B a k h g))
+
+left_right-plain : (s : Bool) (B : ℕ) (x : ℤ) (k : ℕ) → s ≡ false → k ≤ B
+    → shifted_right s B (shifted_left s B x k) k ≡ bitwise_and s B x (shifted_right s B (bitwise_not s B (pos 0)) k)
+left_right-plain false B x k e h = left_right-mask_not B x k h
+left_right-plain true B x k e h = absurd cc
+
+reversed-plain : (s : Bool) (B : ℕ) (x : ℤ) (k : ℕ) → s ≡ false → k ≤ B → reversed s B (shifted_left s B x k) ≡ shifted_right s B (reversed s B x) k
+reversed-plain false B x k e h = reversed-shifted_left B x k h
+reversed-plain true B x k e h = absurd cc
+
+right-not_signed : (s : Bool) (B : ℕ) (x : ℤ) (k : ℕ) → s ≡ true → 1 ≤ B → k ≤ B → InRange s B x
+    → shifted_right s B (bitwise_not s B x) k ≡ bitwise_not s B (shifted_right s B x k)
+right-not_signed true B x k e h g f = shifted_right-not B x k h g f
+right-not_signed false B x k e h g f = absurd cc
+
+-- ---- counts
+
+ones-at_most : (s : Bool) (B : ℕ) (a b : ℤ) → count_of_ones B (bitwise_and s B a b) ≤ count_of_ones B a
+ones-at_most s B a b =
+    let e = ones-is B (bitwise_and s B a b) _ refl in
+    let f = ones-is B a _ refl in
+    let g = (popcount-of_and s B a b).0 in
+    omega arith
+
 -- ---- that they hold of numbers
 
 pub counts-hold : (s : Bool) (B : ℕ) → CountLaws (bitwise_and s B) (bitwise_or s B) (count_of_ones B)
 unfolding CountLaws
-counts-hold s B a b =
-    sym (ap₂ (λ (m n : ℕ). m + n) (ones-is B _ _ refl) (ones-is B _ _ refl))
-    ∙ popcount-of_and_or s B a b
-    ∙ ap₂ (λ (m n : ℕ). m + n) (ones-is B _ _ refl) (ones-is B _ _ refl)
+counts-hold s B = (
+  λ a b. sym (ap₂ (λ (m n : ℕ). m + n) (ones-is B _ _ refl) (ones-is B _ _ refl))
+      ∙ popcount-of_and_or s B a b
+      ∙ ap₂ (λ (m n : ℕ). m + n) (ones-is B _ _ refl) (ones-is B _ _ refl),
+  λ a b. ones-at_most s B a b,
+)
 
 module _ (s : Bool) (B : ℕ) (valid : Type 0) (some : valid → 1 ≤ B) where
   pub sums-hold : SumLaws valid (is_own_bits s B) (wrapped_sum s B) (wrapped_difference s B)
@@ -80,3 +150,40 @@ module _ (s : Bool) (B : ℕ) (valid : Type 0) (some : valid → 1 ≤ B) where
   pub orders-hold : OrderLaws valid (is_own_bits s B) (bitwise_not s B) int_cmp
   unfolding OrderLaws
   orders-hold = λ a b c d v f g e h. complements-turned s B a b c d (some v) f g e h
+
+  pub complements-hold : ComplementLaws valid (bitwise_not s B) (wrapped_sum s B) (wrapped_difference s B)
+  unfolding ComplementLaws
+  complements-hold = (
+    λ a b c v e. ap (bitwise_not s B) e ∙ not-of_difference s B a b (some v),
+    λ a b c v e. ap (bitwise_not s B) e ∙ not-of_sum s B a b (some v),
+  )
+
+  pub products-hold : ProductLaws B valid (left s B) (wrapped_difference s B) (wrapped_product s B)
+  unfolding ProductLaws
+  products-hold = (
+    λ a b c d v e. ap (wrapped_product s B a) e ∙ product-of_difference s B a b c (some v),
+    λ a b c m k v f e. sym (left-of_amount s B c m (some v))
+        ∙ ap (λ (x : ℤ). shifted_left s B x m) e
+        ∙ shifted_left-difference s B a b m (some v) (in_width B m k (some v) f)
+        ∙ ap₂ (wrapped_difference s B) (left-of_amount s B a m (some v)) (left-of_amount s B b m (some v)),
+    λ a b c m k v f e. sym (left-of_amount s B c m (some v))
+        ∙ ap (λ (x : ℤ). shifted_left s B x m) e
+        ∙ product-moved s B a b m (some v) (in_width B m k (some v) f)
+        ∙ ap (λ (x : ℤ). wrapped_product s B x b) (left-of_amount s B a m (some v)),
+  )
+
+  pub moved_bits-hold : MovedBitLaws s B valid (is_own_bits s B) (λ x. x) (left s B) (right s B) (bitwise_and s B) (bitwise_not s B) (reversed s B)
+  unfolding MovedBitLaws
+  moved_bits-hold = (
+    λ a b m k v n f e. sym (right-of_amount s B b m (some v))
+        ∙ ap (λ (x : ℤ). shifted_right s B x m) (e ∙ sym (left-of_amount s B a m (some v)))
+        ∙ left_right-plain s B a m n (in_width B m k (some v) f)
+        ∙ ap (bitwise_and s B a) (right-of_amount s B _ m (some v)),
+    λ a b m k v n f e. ap (reversed s B) (e ∙ sym (left-of_amount s B a m (some v)))
+        ∙ reversed-plain s B a m n (in_width B m k (some v) f)
+        ∙ right-of_amount s B _ m (some v),
+    λ a b m k v n h f e. sym (right-of_amount s B b m (some v))
+        ∙ ap (λ (x : ℤ). shifted_right s B x m) e
+        ∙ right-not_signed s B a m n (some v) (in_width B m k (some v) f) (number-in_range s B a (some v) h)
+        ∙ ap (bitwise_not s B) (right-of_amount s B a m (some v)),
+  )

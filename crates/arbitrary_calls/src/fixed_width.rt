@@ -10,7 +10,7 @@ ghost use Rattle.arbitrary_base.specs.Operation.{bitwise_and, bitwise_not, bitwi
 ghost use Rattle.arbitrary_base.specs.BitList.{bits};
 ghost use Rattle.arbitrary_base.proofs.operations.Amount.{Amount, amount, none, rest};
 ghost use Rattle.arbitrary_base.proofs.operations.BitByBit.{Place};
-ghost use Rattle.arbitrary_calls.specs.GenericLaws.{BitSumLaws, CountLaws, OrderLaws, SumLaws};
+ghost use Rattle.arbitrary_calls.specs.GenericLaws.{BitSumLaws, ComplementLaws, CountLaws, MovedBitLaws, OrderLaws, ProductLaws, SumLaws};
 
 use crate::calls::FixedWidthCalls;
 use arbitrary_traits::integer::Integer;
@@ -452,6 +452,13 @@ pub trait FixedWidth: Integer + FixedWidthCalls {
 
     ghost bit_sum_laws: { let laws = BitSumLaws Self.valid value_of in
         laws and_of or_of xor_of not_of sum_of difference_of };
+
+    ghost complement_laws: { ComplementLaws Self.valid not_of sum_of difference_of };
+
+    ghost product_laws: { ProductLaws Self.BITS Self.valid shl_of difference_of product_of };
+
+    ghost moved_bit_laws: { let laws = MovedBitLaws Self.IS_SIGNED Self.BITS Self.valid in
+        laws fits value_of shl_of shr_of and_of not_of rev_of };
 
     ghost count_laws: { CountLaws and_of or_of ones_of };
 

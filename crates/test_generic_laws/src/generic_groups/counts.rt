@@ -25,3 +25,9 @@ pub fn ones_of_disjoint<V: FixedWidth>(x: V, y: V) -> bool
 {
     x & y != V::zero() || (x | y).count_ones() == x.count_ones() + y.count_ones()
 }
+
+pub fn ones_of_shared_bits<V: FixedWidth>(x: V, y: V) -> bool
+    ensures { IsTrue result }
+{
+    (x & y).count_ones() <= x.count_ones()
+}
