@@ -1,5 +1,5 @@
 #!/usr/bin/env python3
-"""Writes AllSets.antt: each law of the sets that docs/PROVING.md names, but for the sets that stand apart, once; and those of some of these
+"""Writes AllSets.antt: each law of the sets that docs/SETS.md names, but for the sets that stand apart, once; and those of some of these
 sets, as `laws`. A law that stood there once for each set that has it would be tried as often, and the search would come to its limit.
 LongerSide.antt turns laws round, and PositiveParts.antt has some for fewer numbers: theirs stand in place of those. `find_set.py --listed`
 tells whether the file is so.

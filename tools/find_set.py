@@ -3,14 +3,14 @@
 find_set.py CRATE --file FILE ..
 find_set.py --listed
 
-Tries each set of laws of docs/PROVING.md on these functions of a crate, and prints the line to put on each: the sets with which the check
+Tries each set of laws of docs/SETS.md on these functions of a crate, and prints the line to put on each: the sets with which the check
 proves it. A function is named as the check names it, without the crate: `module::function`, or `Type::call`. The crate stays as it is: the
 check takes a copy, in which the function stands once for each set. What is below the crate has to be proved (`rt check` in the crate).
 
 `--file` tells which line atop these files of the crate, as `src/words.rt`, proves the most of them: with no set and with each wide set, how
 many of their functions prove, and which stay open. It tries those that stand in no `impl`.
 
-`--listed` tells whether the set of all sets, in AllSets.antt, has the laws of each that the page names, as all_sets.py writes them.
+`--listed` tells whether the set of all sets, in AllSets.antt, has the laws of each that the pages name, as all_sets.py writes them.
 """
 import os
 import re
@@ -24,6 +24,8 @@ from program import ROOT
 from wrong_bodies import PARTS, command, libraries
 
 PAGE = ROOT / 'docs/PROVING.md'
+# Most sets stand on a page of their own, which is read where the other one first names it.
+SETS = ROOT / 'docs/SETS.md'
 ALL = 'AllSets::'
 ALL_FILE = ROOT / 'crates/arbitrary_int/proofs/AllSets.antt'
 # What is not among all sets: beside so many laws the search comes to its limit in most of what these close alone. Those
@@ -50,10 +52,16 @@ NAMED = re.compile(r'using\(arbitrary_int::proofs::(\w+::\w+)\)')
 FUNCTION = r'(?:^{margin}(?:///|#\[).*\n)*^{margin}(?:pub(?:\(crate\))? )?(?:final )?fn {name}\b(?:.*\n)*?^{margin}\}}\n'
 
 
+def lines():
+    """The lines of the two pages."""
+    before, name, after = PAGE.read_text().partition(SETS.name)
+    return (before + name + '\n' + SETS.read_text() + after).splitlines()
+
+
 def sets():
-    """The sets that the page names."""
+    """The sets that the pages name."""
     found, module = [], None
-    for line in PAGE.read_text().splitlines():
+    for line in lines():
         if head := HEAD.fullmatch(line):
             module = f'{head[1]}::' if head[1] else ''
         elif not line.startswith('|'):

@@ -1,4 +1,4 @@
--- For callers: the laws of the sets that docs/PROVING.md names, as one set, but for those that it says stand apart. A file of several kinds of
+-- For callers: the laws of the sets that docs/SETS.md names, as one set, but for those that it says stand apart. A file of several kinds of
 -- laws names it once: `#![tactic(auto, using(arbitrary_int::proofs::AllSets::all_sets))]`. The search takes more time by
 -- it, and some laws prove by their own set alone, which a function may name beside a file that names this. tools/all_sets.py writes it.
 use Rattle.arbitrary_base.proofs.LawProof.{in_range-tells, sums-associate}
