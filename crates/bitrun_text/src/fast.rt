@@ -1,10 +1,11 @@
 //! Lines of steps, read by an index from the start of the text. Nothing here makes a call, so that no part of a line need be stored in
 //! memory. As a rule a line has a name, one blank before each operand, registers of one to three digits, and the LF: these are tried first.
-//! More blanks, more digits, and blanks at the end of the line have arms of their own. There is a copy for each blank that may follow a name.
+//! More blanks, more digits, and blanks at the end of the line have arms of their own. There is a copy for spaces and one for tabs, which
+//! reads the other blank by such an arm.
 //!
 //! A result of `None` says nothing of a line, so whoever asks goes on with its words. It is given for a line that is bad, begins with a
-//! space or is one of the last two of a text, and where a number has 18 digits or more, another blank follows the name, or several blanks
-//! before an operand are not all of that kind.
+//! blank or is one of the last two of a text, and where a number has 18 digits or more, a CR follows a word within the line, or several
+//! blanks before an operand are not all of the copy's kind.
 
 ghost use Rattle.std.specs.Prelude.{◌≡◌, ◌≤◌, ◌<◌, ◌+◌, ◌-◌, ◌^◌, [], ◌∷◌, true, length, drop, get_or, take, Some, IfSome, MatchOption, ⊤};
 ghost use Rattle.std.specs.Int.{w32, from_be_bytes, to_be_bytes};
@@ -16,6 +17,7 @@ ghost use Rattle.bitrun_text.specs.Fast.{IsName, BeginsNoName, BeginsWithName, N
 
 use crate::operand::{below, last_number, next_register};
 use crate::operation::Operation;
+use crate::text::is_space_or_tab;
 use arbitrary_int::{ByOp, OneOp, Step, TwoOp};
 
 /// The bytes that the operands take at most without a test of their own: three of up to three digits with a blank before each, and the
@@ -71,7 +73,7 @@ fn fast_operands<const BLANK: u8>(
 {
     match operation {
         Operation::Two(op) => {
-            if text[at] != BLANK {
+            if text[at] != BLANK && !is_space_or_tab(text[at]) {
                 return None;
             }
             let (to, at) = next_register(text, at + 1, count, BLANK, OPERANDS)?;
@@ -88,7 +90,7 @@ fn fast_operands<const BLANK: u8>(
             ))
         }
         Operation::One(op) => {
-            if text[at] != BLANK {
+            if text[at] != BLANK && !is_space_or_tab(text[at]) {
                 return None;
             }
             let (to, at) = next_register(text, at + 1, count, BLANK, OPERANDS)?;
@@ -96,7 +98,7 @@ fn fast_operands<const BLANK: u8>(
             Some((Step::One { op, to, src }, end))
         }
         Operation::By(op) => {
-            if text[at] != BLANK {
+            if text[at] != BLANK && !is_space_or_tab(text[at]) {
                 return None;
             }
             let (to, at) = next_register(text, at + 1, count, BLANK, OPERANDS)?;
@@ -155,8 +157,8 @@ fn name_at(text: &[u8], at: usize) -> Option<(Operation, usize)>
     ensures order { IfSome result (λ p. at ≤ p.1) }
     ensures room { IfSome result (λ p. p.1 ≤ at + 4) }
 {
-    // So no search among the names is made where spaces stand in front.
-    if text[at] == b' ' {
+    // So no search among the names is made where blanks stand in front.
+    if text[at] <= b' ' {
         return None;
     }
     let (operation, size) = short_name(name_word(text, at))?;

@@ -1,5 +1,6 @@
 //! The numbers of a step, read at a place of its line. As a rule a number has one to three digits, and after them comes the blank that also
-//! stands before it, or the LF. What else is right has arms of its own, which cost hardly anything where they aren't entered.
+//! stands before it, or the LF. What else is right has arms of its own, as the other blank after a digit, eight zeros in front, or a CR
+//! before the LF: these cost hardly anything where they aren't entered.
 
 ghost use Rattle.std.specs.Prelude.{◌≡◌, ◌≤◌, ◌<◌, ◌+◌, ◌-◌, true, length, drop, Some, IfSome};
 ghost use Rattle.bitrun_text.specs.Text.{is_blank, left_of};
@@ -7,16 +8,19 @@ ghost use Rattle.bitrun_text.specs.Numeral.{Reads, first_number};
 ghost use Rattle.bitrun_text.specs.Fast.{EndsLine, EndsWithNumber};
 
 use crate::short_number::{
-    digit, eight_digits, few_digits, more_digits, one_digit, three_digits, two_digits, word_at,
-    zeros_end,
+    digit, eight_digits, eight_zeros, few_digits, more_digits, one_digit, three_digits, two_digits,
+    word_at, zeros_end,
 };
-use crate::text::is_blank;
+use crate::text::{is_blank, is_space_or_tab};
 
 /// The bit that each digit has, and no blank and no LF, in the second of four bytes.
 const SECOND: u32 = 0x1000;
 
 /// In the third of them.
 const THIRD: u32 = 0x10_0000;
+
+/// The bit that a CR has, and no space, tab or LF, in the third.
+const CR_THIRD: u32 = 0x4_0000;
 
 /// The number of one of so many registers, which is the next word of the line, and the place after the blank that follows it. The text has
 /// so many bytes from the place on, and at most five of them fewer after the word.
@@ -41,6 +45,10 @@ pub fn next_register(
         if let Some(number) = one_digit(text, at, blank) {
             return below(number, at + 2, count);
         }
+        let number = digit(text[at]);
+        if number < 10 && is_space_or_tab(text[at + 1]) {
+            return below(number, at + 2, count);
+        }
     } else if let Some(number) = three_digits(text, at, blank) {
         return below(number, at + 4, count);
     } else if text[at] == blank {
@@ -55,6 +63,10 @@ pub fn next_register(
         }
     } else if let Some(number) = two_digits(text, at, blank) {
         return below(number, at + 3, count);
+    } else if at + room + 7 <= text.len() && eight_zeros(text, at) {
+        if let Some(number) = one_digit(text, at + 8, blank) {
+            return below(number, at + 10, count);
+        }
     }
     other_register(text, at, count, blank, room)
 }
@@ -158,15 +170,17 @@ pub fn last_number(text: &[u8], at: usize, blank: u8) -> Option<(u64, usize)>
                 return Some((number, at + 4));
             }
         }
-    } else if text[at] == blank {
-        if let Some(number) = one_digit(text, at + 1, b'\n') {
-            return Some((number, at + 3));
+    } else if word & CR_THIRD != 0 {
+        if let Some(number) = two_digits(text, at, b'\r') {
+            if text[at + 3] == b'\n' {
+                return Some((number, at + 4));
+            }
         }
     } else if let Some(number) = two_digits(text, at, b'\n') {
         return Some((number, at + 3));
-    } else if let Some(number) = two_digits(text, at, b'\r') {
-        if text[at + 3] == b'\n' {
-            return Some((number, at + 4));
+    } else if text[at] == blank {
+        if let Some(number) = one_digit(text, at + 1, b'\n') {
+            return Some((number, at + 3));
         }
     }
     other_last_number(text, at, blank)

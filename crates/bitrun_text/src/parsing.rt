@@ -103,22 +103,25 @@ fn fast_steps<'a, 't, A: Allocator>(
 {
     let before = steps.len();
     let mut passed = 0;
-    let mut rest = text;
-    // Once more where lines with tabs were read, after which others with spaces may come.
-    loop {
-        let tabs = steps_with::<A, b' '>(count, rest, steps, &mut passed);
-        rest = steps_with::<A, b'\t'>(count, tabs, steps, &mut passed);
-        if rest.len() == tabs.len() {
-            break;
-        }
+    if has_tab_after_name(text) {
+        let rest = steps_with::<A, b'\t'>(count, text, steps, &mut passed);
+        *number += steps.len() - before + passed;
+        return rest;
     }
+    let rest = steps_with::<A, b' '>(count, text, steps, &mut passed);
     *number += steps.len() - before + passed;
     rest
 }
 
+/// Whether a tab stands where the first blank of a line is, as a rule: after a name of two to four letters.
+#[inline(always)]
+fn has_tab_after_name(text: &[u8]) -> bool {
+    text.len() > 4 && (text[2] == b'\t' || text[3] == b'\t' || text[4] == b'\t')
+}
+
 /// Adds the steps of the fast lines with this blank between their words with which the text begins, as far as there is room for them, and
-/// the number of the empty lines among these, and gives what follows them. There is a copy for each blank. Nothing that reads a line here
-/// takes a call, so that what goes on need not be stored in memory; nor is there a test for another blank.
+/// the number of the empty lines among these, and gives what follows them. There is a copy for each blank, and each reads the other one too,
+/// where its own is not found. Nothing that reads a line here takes a call, so that what goes on need not be stored in memory.
 #[inline(never)]
 fn steps_with<'a, 't, A: Allocator, const BLANK: u8>(
     count: usize,
@@ -144,16 +147,21 @@ fn steps_with<'a, 't, A: Allocator, const BLANK: u8>(
                 at = end;
             }
             None => {
-                let start = after_indent(text, at, BLANK);
-                if start != at {
-                    at = start;
+                let spaces = after_indent(text, at, b' ');
+                if spaces != at {
+                    at = spaces;
                 } else {
-                    let end = after_empty_lines(text, at);
-                    if end == at {
-                        break;
+                    let tabs = after_indent(text, at, b'\t');
+                    if tabs != at {
+                        at = tabs;
+                    } else {
+                        let end = after_empty_lines(text, at);
+                        if end == at {
+                            break;
+                        }
+                        *passed += end - at;
+                        at = end;
                     }
-                    *passed += end - at;
-                    at = end;
                 }
             }
         }

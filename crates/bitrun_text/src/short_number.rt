@@ -182,6 +182,15 @@ fn after_zeros(text: &[u8], at: usize, number: u64, end: usize) -> usize
     }
 }
 
+/// Whether eight zeros stand at the place.
+#[inline(always)]
+pub fn eight_zeros(text: &[u8], at: usize) -> bool
+    requires { at + 8 ≤ length text.now }
+    ensures { result ≡ true → (number : ℕ) → (rest : List ℕ) → BeginsWithDigits (drop (at + 8) text.now) number rest → BeginsWithDigits (drop at text.now) number rest }
+{
+    are_zeros(text, at) && are_zeros(text, at + 4)
+}
+
 /// Whether four zeros stand at the place.
 #[inline(always)]
 fn are_zeros(text: &[u8], at: usize) -> bool

@@ -236,6 +236,14 @@ pub fn is_blank(byte: u8) -> bool
     matches!(byte, b' ' | b'\t' | b'\r')
 }
 
+/// Whether the byte is a space or a tab.
+#[inline(always)]
+pub fn is_space_or_tab(byte: u8) -> bool
+    ensures { result ≡ true → is_blank byte ≡ true }
+{
+    byte == b' ' || byte == b'\t'
+}
+
 fn ends_word(byte: u8) -> bool
     ensures { result ≡ ends_word byte }
 {

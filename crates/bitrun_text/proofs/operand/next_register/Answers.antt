@@ -1,5 +1,6 @@
-use Rattle.std.proofs.Common.{◌≡◌, ◌+◌, arith}
+use Rattle.std.proofs.Common.{◌≡◌, ◌≤◌, ◌+◌, ◌∷◌, length, drop, get_or, refl, arith}
 use Rattle.bitrun_text.proofs.Places.{blank_skipped, blank_taken, blank_later, below_taken, below_later}
+use Rattle.bitrun_text.proofs.ShortNumbers.{first_there, byte_there}
 use Rattle.bitrun_text.proofs.operand.next_register.Goals as goal
 
 pub returns-in-Some-clause-number : goal.returns-in-Some-clause-number
@@ -109,3 +110,47 @@ returns-in-Some-three_digits-2-clause-later c =
     rw (blank_skipped text at (omega (arith, c.requires.some, c.requires.room)) (rw c.if-text-at.true c.requires.blank)) at
     (below_later text (at + 1) found.number (at + 5) c.args.count c.below-in-Some-three_digits-2.result c.below-in-Some-three_digits-2.ensures.same
     (blank_later text (at + 1) found.number c.args.blank (at + 5) c.args.count (rw place at found.ensures) c.requires.blank))
+
+pub returns-then-is_space_or_tab-clause-number : goal.returns-then-is_space_or_tab-clause-number
+returns-then-is_space_or_tab-clause-number c =
+    let text = c.args.text.now in
+    let at = c.args.at in
+    let number = c.digit-number.result in
+    let blank = get_or text (at + 1) 0 in
+    let four : at + 4 ≤ length text = omega (arith, c.requires.some, c.requires.room) in
+    let digit = first_there text at four number c.if-number-lt10.true (c.digit-number.ensures c.if-number-lt10.true) in
+    let digits = byte_there text at four 1 number blank (omega arith) (omega arith) digit refl in
+    below_taken text at number (at + 2) c.args.count c.below-then-is_space_or_tab.result c.below-then-is_space_or_tab.ensures.same c.below-then-is_space_or_tab.ensures.below
+    (blank_taken text at number blank (at + 2) c.args.count digits (c.is_space_or_tab.ensures c.if-is_space_or_tab.true))
+
+pub returns-then-is_space_or_tab-clause-later : goal.returns-then-is_space_or_tab-clause-later
+returns-then-is_space_or_tab-clause-later c =
+    let text = c.args.text.now in
+    let at = c.args.at in
+    let number = c.digit-number.result in
+    let blank = get_or text (at + 1) 0 in
+    let four : at + 4 ≤ length text = omega (arith, c.requires.some, c.requires.room) in
+    let digit = first_there text at four number c.if-number-lt10.true (c.digit-number.ensures c.if-number-lt10.true) in
+    let digits = byte_there text at four 1 number blank (omega arith) (omega arith) digit refl in
+    below_later text at number (at + 2) c.args.count c.below-then-is_space_or_tab.result c.below-then-is_space_or_tab.ensures.same
+    (blank_later text at number blank (at + 2) c.args.count digits (c.is_space_or_tab.ensures c.if-is_space_or_tab.true))
+
+pub returns-in-Some-one_digit-2-clause-number : goal.returns-in-Some-one_digit-2-clause-number
+returns-in-Some-one_digit-2-clause-number c =
+    let text = c.args.text.now in
+    let at = c.args.at in
+    let found = c.in-Some-one_digit-2 in
+    let place : at + 8 + 2 ≡ at + 10 = omega arith in
+    let digits = c.eight_zeros.ensures c.if-eight_zeros.true found.number (c.args.blank ∷ drop (at + 10) text) (rw place at found.ensures) in
+    below_taken text at found.number (at + 10) c.args.count c.below-in-Some-one_digit-2.result c.below-in-Some-one_digit-2.ensures.same c.below-in-Some-one_digit-2.ensures.below
+    (blank_taken text at found.number c.args.blank (at + 10) c.args.count digits c.requires.blank)
+
+pub returns-in-Some-one_digit-2-clause-later : goal.returns-in-Some-one_digit-2-clause-later
+returns-in-Some-one_digit-2-clause-later c =
+    let text = c.args.text.now in
+    let at = c.args.at in
+    let found = c.in-Some-one_digit-2 in
+    let place : at + 8 + 2 ≡ at + 10 = omega arith in
+    let digits = c.eight_zeros.ensures c.if-eight_zeros.true found.number (c.args.blank ∷ drop (at + 10) text) (rw place at found.ensures) in
+    below_later text at found.number (at + 10) c.args.count c.below-in-Some-one_digit-2.result c.below-in-Some-one_digit-2.ensures.same
+    (blank_later text at found.number c.args.blank (at + 10) c.args.count digits c.requires.blank)

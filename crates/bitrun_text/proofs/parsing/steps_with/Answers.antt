@@ -26,10 +26,16 @@ loop-at-preserved-in-Some g c =
       within = line.room;
     })
 
-pub loop-at-preserved-then-start-at : goal.loop-at-preserved-then-start-at
-loop-at-preserved-then-start-at g c =
+pub loop-at-preserved-then-spaces-at : goal.loop-at-preserved-then-spaces-at
+loop-at-preserved-then-spaces-at g c =
     let kept = c.loop-at.invariant in
-    let passed = c.after_indent-start.ensures in
+    let passed = c.after_indent-spaces.ensures in
+    rw passed.same (record { read = kept.read; counted = kept.counted; steps = kept.steps; passed = kept.passed; within = passed.room })
+
+pub loop-at-preserved-then-tabs-at : goal.loop-at-preserved-then-tabs-at
+loop-at-preserved-then-tabs-at g c =
+    let kept = c.loop-at.invariant in
+    let passed = c.after_indent-tabs.ensures in
     rw passed.same (record { read = kept.read; counted = kept.counted; steps = kept.steps; passed = kept.passed; within = passed.room })
 
 pub loop-at-preserved : goal.loop-at-preserved
