@@ -8,19 +8,22 @@ use Rattle.std.specs.Int.Bits.{bit_and, bit_or}
 use Rattle.std.proofs.lemmas.Nat.Bits.{bit_at_and, bit_at_or, bit_at-zero}
 use Rattle.bitrun_text.specs.Numeral.{word_of}
 
--- a bit that the mask has is clear in both
-both_clear : (x y m i : ℕ) → bit_and (bit_or x y) m ≡ 0 → bit_at m i ≡ 1 → (bit_at x i ≡ 0) × (bit_at y i ≡ 0)
-both_clear x y m i none set =
-    let clear : min (max (bit_at x i) (bit_at y i)) (bit_at m i) ≡ 0 = rw (← bit_at_or x y i, ← bit_at_and (bit_or x y) m i, none) (bit_at-zero i) in
+-- a bit that the mask has is clear in both, where it is clear under the mask
+pub clear_in_both : (x y m i : ℕ) → bit_at (bit_and (bit_or x y) m) i ≡ 0 → bit_at m i ≡ 1 → (bit_at x i ≡ 0) × (bit_at y i ≡ 0)
+clear_in_both x y m i none set =
+    let clear : min (max (bit_at x i) (bit_at y i)) (bit_at m i) ≡ 0 = rw (← bit_at_or x y i, ← bit_at_and (bit_or x y) m i) none in
     let both : min (max (bit_at x i) (bit_at y i)) 1 ≡ 0 = rw set at clear in
     (grind arith, grind arith)
+
+both_clear : (x y m i : ℕ) → bit_and (bit_or x y) m ≡ 0 → bit_at m i ≡ 1 → (bit_at x i ≡ 0) × (bit_at y i ≡ 0)
+both_clear x y m i none set = clear_in_both x y m i (rw none (bit_at-zero i)) set
 
 pub one_told : (a b c d byte number : ℕ) → a < 256 → b < 256 → byte < 256
     → number ≡ (word_of a b c d % 65536 + 65536 - (byte * 256 + 48)) % 65536 → number < 10 → (a ≡ 48 + number) × (b ≡ byte)
 one_told a b c d byte number p q r is below = (omega (arith, p, q, r, is, below), omega (arith, p, q, r, is, below))
 
 -- a byte below 128, by its highest bit; and one that is zero, by all of them
-first_low : (n : ℕ) → bit_at n 7 ≡ 0 → n % 256 < 128
+pub first_low : (n : ℕ) → bit_at n 7 ≡ 0 → n % 256 < 128
 first_low n e = omega (arith, e)
 
 second_low : (n : ℕ) → bit_at n 15 ≡ 0 → n / 256 % 256 < 128

@@ -12,3 +12,4 @@ pub mod Names
 pub mod ShortNumbers
 pub mod Places
 pub mod DigitWords
+pub mod EightDigits

@@ -1,5 +1,7 @@
 -- The number that the first word of a text writes.
-use Rattle.std.proofs.Common.{◌≡◌, ◌≢◌, ℕ, zero, suc, ◌+◌, ◌-◌, ◌*◌, ◌<◌, ◌≤◌, true, false, List, [], ◌∷◌, length, take, drop, get_or, Some, None, refl, sym, ap, ◌∙◌, inl, inr, arith, below_more, length-take, drop-cons, add-one}
+use Rattle.std.proofs.Common.{◌≡◌, ◌≢◌, ℕ, zero, suc, ◌+◌, ◌-◌, ◌*◌, ◌^◌, ◌<◌, ◌≤◌, true, false, List, [], ◌∷◌, length, take, drop, get_or, Some, None, refl, sym, ap, ◌∙◌, inl, inr, arith, below_more, length-take, length-drop, drop-cons, add-one, mul_assoc}
+use Rattle.std.proofs.Math.Nat.{pow-suc}
+use Rattle.std.proofs.lemmas.List.{get_or-drop}
 use Rattle.std.specs.Char.{is_ascii_digit}
 use Rattle.std.specs.List.{position_or_len, before_first}
 use Rattle.std.specs.Str.Parse.{digits_value}
@@ -53,6 +55,26 @@ pub reads-digit : (text : List ℕ) (at number digit : ℕ) → Reads text at nu
 reads-digit text at number digit r within below is =
     let same : number * 10 + (get_or text at 0 - 48) ≡ 10 * number + digit = omega (arith, is) in
     rw same at (reads-more text at number r within (rw is (grind (arith, nat_tests))))
+
+-- digits, and further ones after them
+pub reads-joined : (text : List ℕ) (k n j m : ℕ) → Reads text k n → Reads (drop k text) j m → Reads text (k + j) (n * 10 ^ j + m)
+reads-joined text k n zero m first last =
+    let none : n * 10 ^ 0 + m ≡ n = omega (arith, last.value) in
+    let place : k + 0 ≡ k = omega arith in
+    rw (none, place) first
+reads-joined text k n (suc j) m first last =
+    let within : j < length (drop k text) = omega (arith, last.within) in
+    let inside : k + j < length text = omega (arith, within, length-drop k text) in
+    let digit = last.digits j (omega arith) in
+    let before = digits_value 10 (take j (drop k text)) in
+    let less : Reads (drop k text) j before = record { digits = λ i few. last.digits i (omega (arith, few)); value = refl; within = omega (arith, within) } in
+    let here : get_or (drop k text) j 0 ≡ get_or text (k + j) 0 = get_or-drop k text j 0 in
+    let more = reads-more text (k + j) (n * 10 ^ j + before) (reads-joined text k n j before first less) inside (rw here at digit) in
+    let value : m ≡ digits_value 10 (take (j + 1) (drop k text)) = rw add-one last.value in
+    let power : n * 10 ^ suc j ≡ n * 10 ^ j * 10 = rw (pow-suc 10 j) (sym (mul_assoc n (10 ^ j) 10)) in
+    let same : (n * 10 ^ j + before) * 10 + (get_or text (k + j) 0 - 48) ≡ n * 10 ^ suc j + m = omega (arith, value, power, here, digits_value_more 10 (drop k text) j within, digit_is (get_or (drop k text) j 0) digit) in
+    let place : k + j + 1 ≡ k + suc j = omega arith in
+    rw (same, place) at more
 
 pub reads-first : (text : List ℕ) (digit : ℕ) → 0 < length text → digit < 10 → get_or text 0 0 ≡ 48 + digit → Reads text 1 digit
 reads-first text digit some below is =

@@ -1,5 +1,5 @@
 -- The words of a line, and its end, at a place of a text.
-use Rattle.std.proofs.Common.{◌≡◌, ℕ, ◌+◌, ◌-◌, ◌*◌, ◌<◌, ◌≤◌, true, List, [], ◌∷◌, length, take, drop, get_or, Option, Some, None, IfSome, refl, sym, ap, ◌∙◌, inl, inr, arith, add-zero, length-drop, drop-drop}
+use Rattle.std.proofs.Common.{◌≡◌, ℕ, ◌+◌, ◌-◌, ◌*◌, ◌^◌, ◌<◌, ◌≤◌, true, List, [], ◌∷◌, length, take, drop, get_or, Option, Some, None, IfSome, refl, sym, ap, ◌∙◌, inl, inr, arith, add-zero, length-drop, drop-drop}
 use Rattle.std.specs.Int.{w32, from_be_bytes, to_be_bytes}
 use Rattle.std.proofs.lemmas.Bool.{cases_lt}
 use Rattle.std.specs.List.{position_or_len}
@@ -9,7 +9,8 @@ use Rattle.bitrun_text.specs.Numeral.{first_number, Reads, BeginsWithDigits}
 use Rattle.bitrun_text.specs.Fast.{IsName, BeginsWithName, EndsLine, EndsWithNumber}
 use Rattle.bitrun_text.specs.declared.operation.Operation.{Operation}
 use Rattle.bitrun_text.proofs.Lines.{left-blank, left-line}
-use Rattle.bitrun_text.proofs.Operands.{digits-taken, digits-later, reads-digit}
+use Rattle.bitrun_text.proofs.LongNumbers.{reads-below}
+use Rattle.bitrun_text.proofs.Operands.{digits-taken, digits-later, reads-digit, reads-joined}
 use Rattle.bitrun_text.proofs.ShortNumbers.{digits_there, leading_zero}
 use Rattle.bitrun_text.proofs.FastLines.{begins_with_name, blank_ends, lf_ends}
 
@@ -133,6 +134,28 @@ module _ (text : List ℕ) (at : ℕ) where
       let three = zero_read (end + 1 + 1) (end + 1 + 2) (omega arith) (omega (arith, some)) (omega (arith, room)) (zeros 1 (omega arith)) two in
       let four = zero_read (end + 1 + 2) (end + 1 + 3) (omega arith) (omega (arith, some)) (omega (arith, room)) (zeros 2 (omega arith)) three in
       zero_read (end + 1 + 3) (end + 5) (omega arith) (omega (arith, some)) (omega (arith, room)) (zeros 3 (omega arith)) four
+
+-- so many digits, with a byte after them
+module _ (text : List ℕ) (at j m byte next : ℕ) (is : next ≡ at + j + 1) (room : at + j < length text) (digits : BeginsWithDigits (drop at text) m (byte ∷ drop next text)) where
+  digits_size : digits.count ≡ j
+  digits_size = omega (arith, ap length digits.follows, length-drop next text, length-drop digits.count (drop at text), length-drop at text, digits.reads.within, room, is)
+
+  pub digits_below : m < 10 ^ j
+  digits_below = rw digits_size at (reads-below (drop at text) digits.count m digits.reads)
+
+-- and other digits before them
+pub digits_joined : (text : List ℕ) (at k n j m byte next : ℕ) → 0 < k → next ≡ at + k + j + 1 → at + k + j < length text → Reads (drop at text) k n
+    → BeginsWithDigits (drop (at + k) text) m (byte ∷ drop next text) → BeginsWithDigits (drop at text) (n * 10 ^ j + m) (byte ∷ drop next text)
+digits_joined text at k n j m byte next some is room first digits =
+    let size = digits_size text (at + k) j m byte next is room digits in
+    let last : Reads (drop k (drop at text)) j m = rw (drop-drop k at text, ← size) digits.reads in
+    let place : at + k + j ≡ at + (k + j) = omega arith in
+    record {
+      count = k + j;
+      some = omega (arith, some);
+      reads = reads-joined (drop at text) k n j m first last;
+      follows = digits.follows ∙ ap (λ (c : ℕ). drop c (drop (at + k) text)) size ∙ drop-drop j (at + k) text ∙ ap (λ (c : ℕ). drop c text) place ∙ sym (drop-drop (k + j) at text);
+    }
 
 -- a number after blanks
 pub same_end : (text other rest : List ℕ) (number : ℕ) → left_of other ≡ left_of text → EndsWithNumber other number rest → EndsWithNumber text number rest

@@ -20,9 +20,9 @@ use crate::operation::Operation;
 use crate::text::is_space_or_tab;
 use arbitrary_int::{ByOp, OneOp, Step, TwoOp};
 
-/// The bytes that the operands take at most without a test of their own: three of up to three digits with a blank before each, and the
-/// blank after it, or a CR and an LF.
-const OPERANDS: usize = 16;
+/// The bytes that the operands take at most without a test of their own: two of up to three digits with a blank before each and the blank
+/// after it, and the twelve in which ten digits and the LF are looked for, with a blank before them.
+const OPERANDS: usize = 23;
 
 /// With its name and a blank, a line has so many.
 pub const LINE: usize = OPERANDS + 5;
@@ -37,7 +37,7 @@ pub fn fast_line<const BLANK: u8>(
     count: usize,
 ) -> Option<(Step, usize)>
     requires blank { is_blank BLANK ≡ true }
-    requires limit { limit ≤ length text.now - 20 }
+    requires limit { limit ≤ length text.now - 27 }
     ensures step { IfSome result (λ p. NamesLine count (drop at text.now) p.0 (drop p.1 text.now)) }
     ensures within { IfSome result (λ p. StepWithin count p.0) }
     ensures order { IfSome result (λ p. at < p.1) }
@@ -63,7 +63,7 @@ fn fast_operands<const BLANK: u8>(
     count: usize,
 ) -> Option<(Step, usize)>
     requires blank { is_blank BLANK ≡ true }
-    requires room { at + 17 ≤ length text.now }
+    requires room { at + 24 ≤ length text.now }
     ensures blank { IfSome result (λ p. is_blank (get_or text.now at 0) ≡ true) }
     ensures step { IfSome result (λ p. step_with count operation (left_of (drop (at + 1) text.now)).words ≡ Some p.0) }
     ensures within { IfSome result (λ p. StepWithin count p.0) }
@@ -121,7 +121,7 @@ fn fast_operands<const BLANK: u8>(
 #[inline(always)]
 fn last_register(text: &[u8], at: usize, count: usize, blank: u8) -> Option<(usize, usize)>
     requires blank { is_blank blank ≡ true }
-    requires room { at + 6 ≤ length text.now }
+    requires room { at + 13 ≤ length text.now }
     ensures number { IfSome result (λ p. first_number count (left_of (drop at text.now)).words ≡ Some (p.0, [])) }
     ensures below { IfSome result (λ p. p.0 < count) }
     ensures later { IfSome result (λ p. word_lines (drop p.1 text.now) ≡ (left_of (drop at text.now)).later) }
@@ -136,7 +136,7 @@ fn last_register(text: &[u8], at: usize, count: usize, blank: u8) -> Option<(usi
 #[inline(always)]
 fn fast_amount(text: &[u8], at: usize, blank: u8) -> Option<(u32, usize)>
     requires blank { is_blank blank ≡ true }
-    requires room { at + 6 ≤ length text.now }
+    requires room { at + 13 ≤ length text.now }
     ensures number { IfSome result (λ p. first_number (2 ^ 32) (left_of (drop at text.now)).words ≡ Some (p.0, [])) }
     ensures later { IfSome result (λ p. word_lines (drop p.1 text.now) ≡ (left_of (drop at text.now)).later) }
     ensures order { IfSome result (λ p. at < p.1) }

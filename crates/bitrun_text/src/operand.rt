@@ -8,8 +8,8 @@ ghost use Rattle.bitrun_text.specs.Numeral.{Reads, first_number};
 ghost use Rattle.bitrun_text.specs.Fast.{EndsLine, EndsWithNumber};
 
 use crate::short_number::{
-    digit, eight_digits, eight_zeros, few_digits, more_digits, one_digit, three_digits, two_digits,
-    word_at, zeros_end,
+    digit, eight_zeros, few_digits, more_digits, one_digit, three_digits, two_digits,
+    up_to_eight_digits, word_at, zeros_end,
 };
 use crate::text::{is_blank, is_space_or_tab};
 
@@ -18,6 +18,9 @@ const SECOND: u32 = 0x1000;
 
 /// In the third of them.
 const THIRD: u32 = 0x10_0000;
+
+/// In the fourth.
+const FOURTH: u32 = 0x1000_0000;
 
 /// The bit that a CR has, and no space, tab or LF, in the third.
 const CR_THIRD: u32 = 0x4_0000;
@@ -146,7 +149,7 @@ pub fn below(number: u64, place: usize, count: usize) -> Option<(usize, usize)>
 #[inline(always)]
 pub fn last_number(text: &[u8], at: usize, blank: u8) -> Option<(u64, usize)>
     requires blank { is_blank blank ≡ true }
-    requires room { at + 6 ≤ length text.now }
+    requires room { at + 13 ≤ length text.now }
     ensures number { IfSome result (λ p. EndsWithNumber (drop at text.now) p.0 (drop p.1 text.now)) }
     ensures order { IfSome result (λ p. at < p.1) }
     ensures room { IfSome result (λ p. p.1 ≤ length text.now) }
@@ -161,7 +164,21 @@ pub fn last_number(text: &[u8], at: usize, blank: u8) -> Option<(u64, usize)>
             let end = after_line_end(text, at + 1)?;
             return Some((number, end));
         }
-    } else if word & THIRD != 0 {
+    } else if word & THIRD == 0 {
+        if word & CR_THIRD != 0 {
+            if let Some(number) = two_digits(text, at, b'\r') {
+                if text[at + 3] == b'\n' {
+                    return Some((number, at + 4));
+                }
+            }
+        } else if let Some(number) = two_digits(text, at, b'\n') {
+            return Some((number, at + 3));
+        } else if text[at] == blank {
+            if let Some(number) = one_digit(text, at + 1, b'\n') {
+                return Some((number, at + 3));
+            }
+        }
+    } else if word & FOURTH == 0 {
         if let Some(number) = three_digits(text, at, b'\n') {
             return Some((number, at + 4));
         }
@@ -170,18 +187,8 @@ pub fn last_number(text: &[u8], at: usize, blank: u8) -> Option<(u64, usize)>
                 return Some((number, at + 4));
             }
         }
-    } else if word & CR_THIRD != 0 {
-        if let Some(number) = two_digits(text, at, b'\r') {
-            if text[at + 3] == b'\n' {
-                return Some((number, at + 4));
-            }
-        }
-    } else if let Some(number) = two_digits(text, at, b'\n') {
-        return Some((number, at + 3));
-    } else if text[at] == blank {
-        if let Some(number) = one_digit(text, at + 1, b'\n') {
-            return Some((number, at + 3));
-        }
+    } else if let Some(found) = long_last_number(text, at) {
+        return Some(found);
     }
     other_last_number(text, at, blank)
 }
@@ -190,35 +197,40 @@ pub fn last_number(text: &[u8], at: usize, blank: u8) -> Option<(u64, usize)>
 #[inline(always)]
 fn other_last_number(text: &[u8], at: usize, blank: u8) -> Option<(u64, usize)>
     requires blank { is_blank blank ≡ true }
-    requires room { at + 6 ≤ length text.now }
+    requires room { at + 13 ≤ length text.now }
     ensures number { IfSome result (λ p. EndsWithNumber (drop at text.now) p.0 (drop p.1 text.now)) }
     ensures order { IfSome result (λ p. at < p.1) }
     ensures room { IfSome result (λ p. p.1 ≤ length text.now) }
 {
-    let start = after_blanks(text, at, blank, 6)?;
-    let (number, end) = few_digits(text, start)?;
-    long_last_number(text, start, number, end)
+    let start = after_blanks(text, at, blank, 13)?;
+    long_last_number(text, start)
 }
 
-/// The number of the word at the place, of which these digits are read, and the place after the line.
+/// The number of the word at the place, and the place after the line.
 #[inline(always)]
-fn long_last_number(text: &[u8], at: usize, number: u64, end: usize) -> Option<(u64, usize)>
-    requires reads { Reads (drop at text.now) (end - at) number }
-    requires some { at < end }
-    requires short { end ≤ at + 3 }
-    requires room { end + 2 ≤ length text.now }
+fn long_last_number(text: &[u8], at: usize) -> Option<(u64, usize)>
+    requires room { at + 12 ≤ length text.now }
     ensures number { IfSome result (λ p. EndsWithNumber (drop at text.now) p.0 (drop p.1 text.now)) }
     ensures order { IfSome result (λ p. at < p.1) }
     ensures room { IfSome result (λ p. p.1 ≤ length text.now) }
 {
-    if !text[end].is_ascii_digit() {
-        return Some((number, after_line_end(text, end)?));
+    let (number, count) = up_to_eight_digits(text, at);
+    if count == 0 {
+        return None;
     }
-    let (number, end, ended) = eight_digits(text, at, number, end);
-    if ended {
-        return Some((number, after_line_end(text, end)?));
+    let end = at + count;
+    if count == 8 {
+        if let Some(last) = two_digits(text, end, b'\n') {
+            return Some((100 * number + last, end + 3));
+        }
+        if let Some(last) = one_digit(text, end, b'\n') {
+            return Some((10 * number + last, end + 2));
+        }
+        if text[end].is_ascii_digit() {
+            let (number, end) = more_digits(text, at, number, end, 1)?;
+            return Some((number, after_line_end(text, end)?));
+        }
     }
-    let (number, end) = more_digits(text, at, number, end, 1)?;
     Some((number, after_line_end(text, end)?))
 }
 

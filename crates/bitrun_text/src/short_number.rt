@@ -65,6 +65,27 @@ pub fn word_at(text: &[u8], at: usize) -> u32
     u32::from_le_bytes([text[at], text[at + 1], text[at + 2], text[at + 3]])
 }
 
+/// Eight bytes as a number, as `word_at` reads four.
+#[inline]
+fn long_word_at(text: &[u8], at: usize) -> u64
+    requires { at + 8 ≤ length text.now }
+    ensures word { result
+        ≡ word_of (get_or text.now at 0) (get_or text.now (at + 1) 0) (get_or text.now (at + 2) 0) (get_or text.now (at + 3) 0)
+        + 4294967296 * word_of (get_or text.now (at + 4) 0) (get_or text.now (at + 5) 0) (get_or text.now (at + 6) 0) (get_or text.now (at + 7) 0) }
+    ensures bytes { (k : ℕ) → get_or text.now k 0 < 256 }
+{
+    u64::from_le_bytes([
+        text[at],
+        text[at + 1],
+        text[at + 2],
+        text[at + 3],
+        text[at + 4],
+        text[at + 5],
+        text[at + 6],
+        text[at + 7],
+    ])
+}
+
 /// The number of the one to three digits at the place, and the place after them, where a further one may follow.
 #[inline(always)]
 pub fn few_digits(text: &[u8], at: usize) -> Option<(u64, usize)>
@@ -105,33 +126,36 @@ pub fn zeros_end(text: &[u8], at: usize, room: usize) -> usize
     next
 }
 
-/// The number with up to eight digits more, the place after them, and whether another byte than a digit stands there: fewer than eight
-/// are read to the end of the number. None of them has a test for the end of the text, so the compiler writes each out.
+/// The number that the digits at the place write, of which at most eight are read, and how many these are.
 #[inline(always)]
-pub fn eight_digits(text: &[u8], at: usize, number: u64, end: usize) -> (u64, usize, bool)
-    requires reads { Reads (drop at text.now) (end - at) number }
-    requires some { at < end }
-    requires short { end ≤ at + 3 }
-    requires room { end + 2 ≤ length text.now }
-    ensures reads { Reads (drop at text.now) (result.1 - at) result.0 }
-    ensures some { at < result.1 }
-    ensures within { result.1 < length text.now }
-    ensures room { result.2 ≡ true → result.1 + 1 < length text.now }
+pub fn up_to_eight_digits(text: &[u8], at: usize) -> (u64, usize)
+    requires { at + 8 ≤ length text.now }
+    ensures reads { Reads (drop at text.now) result.1 result.0 }
+    ensures few { result.1 ≤ 8 }
 {
-    if end + 9 > text.len() {
-        return (number, end, false);
+    let word = long_word_at(text, at);
+    let low = word.wrapping_sub(0x3030_3030_3030_3030);
+    let high = low.wrapping_add(0x7676_7676_7676_7676);
+    let others = (low | high) & 0x8080_8080_8080_8080;
+    if others == 0 {
+        return (number_of(low), 8);
     }
-    let mut number = number;
-    let mut count = 0;
-    while count < 8 {
-        let next = digit(text[end + count]);
-        if next >= 10 {
-            return (number, end + count, true);
-        }
-        number = 10 * number + next;
-        count += 1;
-    }
-    (number, end + 8, false)
+    let count = others.trailing_zeros() / 8;
+    // Two shifts, since one by 64 is none.
+    (number_of(low << (56 - 8 * count) << 8), count as usize)
+}
+
+/// The number that eight digits write, from what each is worth, the first in the lowest byte.
+#[inline(always)]
+fn number_of(digits: u64) -> u64
+    ensures { (a : ℕ) → (b : ℕ) → (c : ℕ) → (d : ℕ) → (e : ℕ) → (f : ℕ) → (g : ℕ) → (h : ℕ)
+        → a < 10 → b < 10 → c < 10 → d < 10 → e < 10 → f < 10 → g < 10 → h < 10
+        → digits ≡ word_of a b c d + 4294967296 * word_of e f g h
+        → result ≡ 10 * (10 * (10 * (10 * (10 * (10 * (10 * a + b) + c) + d) + e) + f) + g) + h }
+{
+    let pairs = digits.wrapping_mul(0xa01) / 0x100 & 0xff_00ff_00ff_00ff;
+    let fours = pairs.wrapping_mul(0x64_0001) / 0x1_0000 & 0xffff_0000_ffff;
+    fours.wrapping_mul(0x2710_0000_0001) / 0x1_0000_0000
 }
 
 /// The number that digits write from the place on, some of which are read, and the place after them. There are fewer than 18 of them, and

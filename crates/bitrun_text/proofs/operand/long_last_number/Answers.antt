@@ -1,22 +1,71 @@
-use Rattle.std.proofs.Common.{drop}
-use Rattle.bitrun_text.proofs.Places.{digits_until, line_taken}
+use Rattle.std.proofs.Common.{◌≡◌, ◌<◌, ◌+◌, ◌*◌, ◌^◌, ◌∷◌, drop, refl, arith}
+use Rattle.bitrun_text.proofs.FastLines.{lf_ends}
+use Rattle.bitrun_text.proofs.LongNumbers.{reads-below}
+use Rattle.bitrun_text.proofs.Places.{digits_until, digits_below, digits_joined, line_taken}
+use Rattle.bitrun_text.proofs.ShortNumbers.{digits_there}
 use Rattle.bitrun_text.proofs.operand.long_last_number.Goals as goal
 
-pub returns-then-not-is_ascii_digit-clause-number : goal.returns-then-not-is_ascii_digit-clause-number
-returns-then-not-is_ascii_digit-clause-number c =
-    let text = c.args.text.now in
-    line_taken (drop c.args.at text) (drop c.args.end text) _ c.args.number (digits_until text c.args.at c.args.end c.args.number c.requires.some c.requires.reads) c.in_ok-after_line_end.ensures.line
+pub overflow_mul-result : goal.overflow_mul-result
+overflow_mul-result c =
+    let read = c.up_to_eight_digits-number in
+    let small : read.result.0 < 10 ^ 8 = rw c.if-count-eq8.true at (reads-below (drop c.args.at c.args.text.now) read.result.1 read.result.0 read.ensures.reads) in
+    omega (arith, small)
 
-pub returns-then-ended-clause-number : goal.returns-then-ended-clause-number
-returns-then-ended-clause-number c =
+pub overflow_add-result : goal.overflow_add-result
+overflow_add-result c =
+    let read = c.up_to_eight_digits-number in
+    let end = c.args.at + read.result.1 in
+    let small : read.result.0 < 10 ^ 8 = rw c.if-count-eq8.true at (reads-below (drop c.args.at c.args.text.now) read.result.1 read.result.0 read.ensures.reads) in
+    let two = digits_below c.args.text.now end 2 c.in-Some.last 10 (end + 3) (omega arith) (omega (arith, c.requires.room, read.ensures.few)) c.in-Some.ensures in
+    omega (arith, small, two)
+
+pub returns-in-Some-clause-number : goal.returns-in-Some-clause-number
+returns-in-Some-clause-number c =
     let text = c.args.text.now in
-    let read = c.eight_digits-number in
+    let at = c.args.at in
+    let read = c.up_to_eight_digits-number in
     let number = read.result.0 in
-    let end = read.result.1 in
-    line_taken (drop c.args.at text) (drop end text) _ number (digits_until text c.args.at end number read.ensures.some read.ensures.reads) c.in_ok-after_line_end-2.ensures.line
+    let last = c.in-Some.last in
+    let next = at + read.result.1 + 3 in
+    let joined = digits_joined text at read.result.1 number 2 last 10 next (omega (arith, c.if-count-eq8.true)) (omega arith) (omega (arith, c.requires.room, read.ensures.few)) read.ensures.reads c.in-Some.ensures in
+    let same : number * 10 ^ 2 + last ≡ 100 * number + last = omega arith in
+    line_taken (drop at text) (10 ∷ drop next text) (drop next text) (100 * number + last) (rw same at joined) (lf_ends (10 ∷ drop next text) (drop next text) refl)
+
+pub overflow_mul-result-in-Some-one_digit : goal.overflow_mul-result-in-Some-one_digit
+overflow_mul-result-in-Some-one_digit c =
+    let read = c.up_to_eight_digits-number in
+    let small : read.result.0 < 10 ^ 8 = rw c.if-count-eq8.true at (reads-below (drop c.args.at c.args.text.now) read.result.1 read.result.0 read.ensures.reads) in
+    omega (arith, small)
+
+pub overflow_add-result-in-Some-one_digit : goal.overflow_add-result-in-Some-one_digit
+overflow_add-result-in-Some-one_digit c =
+    let read = c.up_to_eight_digits-number in
+    let end = c.args.at + read.result.1 in
+    let small : read.result.0 < 10 ^ 8 = rw c.if-count-eq8.true at (reads-below (drop c.args.at c.args.text.now) read.result.1 read.result.0 read.ensures.reads) in
+    let one = digits_below c.args.text.now end 1 c.in-Some-one_digit.last 10 (end + 2) (omega arith) (omega (arith, c.requires.room, read.ensures.few)) c.in-Some-one_digit.ensures in
+    omega (arith, small, one)
+
+pub returns-in-Some-one_digit-clause-number : goal.returns-in-Some-one_digit-clause-number
+returns-in-Some-one_digit-clause-number c =
+    let text = c.args.text.now in
+    let at = c.args.at in
+    let read = c.up_to_eight_digits-number in
+    let number = read.result.0 in
+    let last = c.in-Some-one_digit.last in
+    let next = at + read.result.1 + 2 in
+    let joined = digits_joined text at read.result.1 number 1 last 10 next (omega (arith, c.if-count-eq8.true)) (omega arith) (omega (arith, c.requires.room, read.ensures.few)) read.ensures.reads c.in-Some-one_digit.ensures in
+    let same : number * 10 ^ 1 + last ≡ 10 * number + last = omega arith in
+    line_taken (drop at text) (10 ∷ drop next text) (drop next text) (10 * number + last) (rw same at joined) (lf_ends (10 ∷ drop next text) (drop next text) refl)
+
+pub returns-then-is_ascii_digit-clause-number : goal.returns-then-is_ascii_digit-clause-number
+returns-then-is_ascii_digit-clause-number c =
+    let text = c.args.text.now in
+    let more = c.in_ok-number in
+    line_taken (drop c.args.at text) (drop more.end text) _ more.number (digits_until text c.args.at more.end more.number more.ensures.some more.ensures.reads) c.in_ok-after_line_end.ensures.line
 
 pub returns-clause-number : goal.returns-clause-number
 returns-clause-number c =
     let text = c.args.text.now in
-    let more = c.in_ok-number in
-    line_taken (drop c.args.at text) (drop more.end text) _ more.number (digits_until text c.args.at more.end more.number more.ensures.some more.ensures.reads) c.in_ok-after_line_end-3.ensures.line
+    let read = c.up_to_eight_digits-number in
+    let end = c.args.at + read.result.1 in
+    line_taken (drop c.args.at text) (drop end text) _ read.result.0 (digits_there text c.args.at read.result.1 read.result.0 (omega (arith, c.if-count-eq0.false)) read.ensures.reads) c.in_ok-after_line_end-2.ensures.line
