@@ -187,8 +187,6 @@ pub fn last_number(text: &[u8], at: usize, blank: u8) -> Option<(u64, usize)>
                 return Some((number, at + 4));
             }
         }
-    } else if let Some(found) = long_last_number(text, at) {
-        return Some(found);
     }
     other_last_number(text, at, blank)
 }
@@ -245,6 +243,10 @@ fn after_blanks(text: &[u8], at: usize, blank: u8, room: usize) -> Option<usize>
     ensures order { IfSome result (λ next. at ≤ next) }
     ensures room { IfSome result (λ next. next + room ≤ length text.now + 1) }
 {
+    // As a rule there are none, and no test for the end of the text is needed.
+    if text[at] != blank {
+        return Some(at);
+    }
     let mut next = at;
     while next < text.len() && text[next] == blank {
         next += 1;
