@@ -162,7 +162,8 @@ def a_number(chance, kind):
 
 
 def an_amount(chance, bits):
-    return chance.choice([chance.randrange(4), chance.randrange(2 * bits + 2), bits, chance.randrange(2 ** 32), 2 ** 32 - 1])
+    long = min(chance.randrange(10 ** chance.randint(4, 10)), 2 ** 32 - 1)
+    return chance.choice([chance.randrange(4), chance.randrange(2 * bits + 2), bits, long, chance.randrange(2 ** 32), 2 ** 32 - 1])
 
 
 def spelled(chance, x):
@@ -196,10 +197,10 @@ def spaced(chance, words):
 
 
 def text(chance, lines):
-    """The lines, now and then with a blank line between or no last LF."""
-    rows = []
-    for words in lines:
-        rows.append(spaced(chance, words))
+    """The lines, now and then with a blank line between or no last LF, or with spaces and with tabs in turn."""
+    rows, turns = [], chance.random() < 0.1
+    for place, words in enumerate(lines):
+        rows.append(' \t'[place % 2].join(words) if turns else spaced(chance, words))
         rows += [chance.choice(['', ' ', '\t\r'])] * (len(rows) > 1 and chance.random() < 0.05)
     return '\n'.join(rows).encode('latin-1') + chance.choice([b'\n', b'\n', b''])
 

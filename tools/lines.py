@@ -21,8 +21,9 @@ from fuzz import LIMIT, model
 from program import programs
 
 TEN, HUNDRED, THOUSAND = 10, 100, 1000
-# Each kind of a line: its title, its first line, how many registers there are, the line, and the line that is the fast
-# one for its operation. {a}, {b} and {c} are numbers of registers, with as many digits as the largest has.
+# Each kind of a line: its title, its first line, how many registers there are, the line or two in turn, and the line that is
+# the fast one for its operation: for an amount past the width another one past it, which takes a division too. {a}, {b} and
+# {c} are numbers of registers, with as many digits as the largest has.
 FAST = 'wadd {a} {b} {c}'
 STEPS = [
     ('fast', 'run u7', TEN, FAST, FAST),
@@ -35,6 +36,10 @@ STEPS = [
     ('a tab between', 'run u7', TEN, 'wadd\t{a}\t{b}\t{c}', FAST),
     ('two spaces in front', 'run u7', TEN, '  wadd {a} {b} {c}', FAST),
     ('two spaces at the end', 'run u7', TEN, 'wadd {a} {b} {c}  ', FAST),
+    ('a tab after the name', 'run u7', TEN, 'wadd\t{a} {b} {c}', FAST),
+    ('a tab before the last number', 'run u7', TEN, 'wadd {a} {b}\t{c}', FAST),
+    ('a tab in front', 'run u7', TEN, '\twadd {a} {b} {c}', FAST),
+    ('spaces and tabs in turn', 'run u7', TEN, 'wadd {a} {b} {c}\nwadd\t{a}\t{b}\t{c}', FAST),
     ('CR LF', 'run u7', TEN, 'wadd {a} {b} {c}\r', FAST),
     ('two digits, CR LF', 'run u7', HUNDRED, 'wadd {a} {b} {c}\r', FAST),
     ('`wide`', 'wide u14 u7', TEN, FAST, FAST),
@@ -45,7 +50,10 @@ STEPS = [
     ('`or`, a tab between', 'run u7', TEN, 'or\t{a}\t{b}\t{c}', 'or {a} {b} {c}'),
     ('`rotl`', 'run u7', TEN, 'rotl {a} {b} 3', 'rotl {a} {b} 3'),
     ('`rotl`, two digits', 'run u7', HUNDRED, 'rotl {a} {b} 3', 'rotl {a} {b} 3'),
-    ('`rotl` by ten digits', 'run u7', TEN, 'rotl {a} {b} 4294967295', 'rotl {a} {b} 3'),
+    ('`rotl` by 9, past the width', 'run u7', TEN, 'rotl {a} {b} 9', 'rotl {a} {b} 3'),
+    ('`rotl` by five digits', 'run u7', TEN, 'rotl {a} {b} 12345', 'rotl {a} {b} 9'),
+    ('`rotl` by eight digits', 'run u7', TEN, 'rotl {a} {b} 12345678', 'rotl {a} {b} 9'),
+    ('`rotl` by ten digits', 'run u7', TEN, 'rotl {a} {b} 4294967295', 'rotl {a} {b} 9'),
     ('`rotl`, CR LF', 'run u7', TEN, 'rotl {a} {b} 3\r', 'rotl {a} {b} 3'),
 ]
 # Each kind of a register: its title, the type, and the words, of which each has its turn.
@@ -110,8 +118,9 @@ def main():
 
         def make(form, count):
             return lambda lines: steps(first, count, form, lines)
-        line = each(program, make(form, count), most(make(form, count)))
-        return title, line, line / each(program, make(fast, TEN), most(make(fast, TEN))), each(program, make(form, count), 1000)
+        turns = form.count('\n') + 1
+        line = each(program, make(form, count), most(make(form, count))) / turns
+        return title, line, line / each(program, make(fast, TEN), most(make(fast, TEN))), each(program, make(form, count), 1000) / turns
 
     def a_register(row):
         title, kind, words, gap = row
