@@ -53,6 +53,7 @@ STEPS = [
     ('`rotl` by 9, past the width', 'run u7', TEN, 'rotl {a} {b} 9', 'rotl {a} {b} 3'),
     ('`rotl` by five digits', 'run u7', TEN, 'rotl {a} {b} 12345', 'rotl {a} {b} 9'),
     ('`rotl` by eight digits', 'run u7', TEN, 'rotl {a} {b} 12345678', 'rotl {a} {b} 9'),
+    ('`rotl` by nine digits', 'run u7', TEN, 'rotl {a} {b} 123456789', 'rotl {a} {b} 9'),
     ('`rotl` by ten digits', 'run u7', TEN, 'rotl {a} {b} 4294967295', 'rotl {a} {b} 9'),
     ('`rotl`, CR LF', 'run u7', TEN, 'rotl {a} {b} 3\r', 'rotl {a} {b} 3'),
 ]

@@ -161,35 +161,33 @@ whole_value low number fits below given =
     (omega (arith, fits)) ∙ omega arith
 
 -- moved to the highest lanes, with zeros below them
-pub moved_value : (low number n : ℕ) → n < 8 → ((k : ℕ) → k < n → lane low k < 10) → Gives (low * 2 ^ (56 - 8 * n) % 2 ^ 64 * 256 % 2 ^ 64) number → number ≡ value low n
-moved_value low number zero few below given =
-    let z : 0 < 10 = omega arith in
-    given 0 0 0 0 0 0 0 0 z z z z z z z z (omega arith)
-moved_value low number (suc zero) few below given =
+pub moved_value : (low number n : ℕ) → n < 8 → ((k : ℕ) → k < n → lane low k < 10) → 0 < n → Gives (low * 2 ^ (64 - 8 * n) % 2 ^ 64) number → number ≡ value low n
+moved_value low number zero few below some given = absurd (omega (arith, some))
+moved_value low number (suc zero) few below some given =
     let z : 0 < 10 = omega arith in
     given 0 0 0 0 0 0 0 (lane low 0) z z z z z z z (below 0 (omega arith)) (omega arith) ∙ omega arith
-moved_value low number (suc (suc zero)) few below given =
+moved_value low number (suc (suc zero)) few below some given =
     let z : 0 < 10 = omega arith in
     given 0 0 0 0 0 0 (lane low 0) (lane low 1) z z z z z z (below 0 (omega arith)) (below 1 (omega arith)) (omega arith) ∙ omega arith
-moved_value low number (suc (suc (suc zero))) few below given =
+moved_value low number (suc (suc (suc zero))) few below some given =
     let z : 0 < 10 = omega arith in
     given 0 0 0 0 0 (lane low 0) (lane low 1) (lane low 2) z z z z z (below 0 (omega arith)) (below 1 (omega arith)) (below 2 (omega arith)) (omega arith) ∙ omega arith
-moved_value low number (suc (suc (suc (suc zero)))) few below given =
+moved_value low number (suc (suc (suc (suc zero)))) few below some given =
     let z : 0 < 10 = omega arith in
     given 0 0 0 0 (lane low 0) (lane low 1) (lane low 2) (lane low 3) z z z z (below 0 (omega arith)) (below 1 (omega arith)) (below 2 (omega arith)) (below 3 (omega arith)) (omega arith) ∙ omega arith
-moved_value low number (suc (suc (suc (suc (suc zero))))) few below given =
+moved_value low number (suc (suc (suc (suc (suc zero))))) few below some given =
     let z : 0 < 10 = omega arith in
     given 0 0 0 (lane low 0) (lane low 1) (lane low 2) (lane low 3) (lane low 4) z z z
     (below 0 (omega arith)) (below 1 (omega arith)) (below 2 (omega arith)) (below 3 (omega arith)) (below 4 (omega arith)) (omega arith) ∙ omega arith
-moved_value low number (suc (suc (suc (suc (suc (suc zero)))))) few below given =
+moved_value low number (suc (suc (suc (suc (suc (suc zero)))))) few below some given =
     let z : 0 < 10 = omega arith in
     given 0 0 (lane low 0) (lane low 1) (lane low 2) (lane low 3) (lane low 4) (lane low 5) z z
     (below 0 (omega arith)) (below 1 (omega arith)) (below 2 (omega arith)) (below 3 (omega arith)) (below 4 (omega arith)) (below 5 (omega arith)) (omega arith) ∙ omega arith
-moved_value low number (suc (suc (suc (suc (suc (suc (suc zero))))))) few below given =
+moved_value low number (suc (suc (suc (suc (suc (suc (suc zero))))))) few below some given =
     let z : 0 < 10 = omega arith in
     given 0 (lane low 0) (lane low 1) (lane low 2) (lane low 3) (lane low 4) (lane low 5) (lane low 6) z
     (below 0 (omega arith)) (below 1 (omega arith)) (below 2 (omega arith)) (below 3 (omega arith)) (below 4 (omega arith)) (below 5 (omega arith)) (below 6 (omega arith)) (omega arith) ∙ omega arith
-moved_value low number (suc (suc (suc (suc (suc (suc (suc (suc n)))))))) few below given = absurd (omega (arith, few))
+moved_value low number (suc (suc (suc (suc (suc (suc (suc (suc n)))))))) few below some given = absurd (omega (arith, few))
 
 -- the bits that tell
 pub told_by : (k : ℕ) → k < 8 → bit_at 9259542123273814144 (8 * k + 7) ≡ 1

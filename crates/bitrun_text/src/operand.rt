@@ -188,48 +188,65 @@ pub fn last_number(text: &[u8], at: usize, blank: u8) -> Option<(u64, usize)>
             }
         }
     }
-    other_last_number(text, at, blank)
+    long_last_number(text, at, blank)
 }
 
-/// The same of a word with more blanks before it, with more digits, or with other blanks before the end of the line.
+/// The same of a word with more digits, with more blanks before it, or with other blanks before the end of the line.
 #[inline(always)]
-fn other_last_number(text: &[u8], at: usize, blank: u8) -> Option<(u64, usize)>
+fn long_last_number(text: &[u8], at: usize, blank: u8) -> Option<(u64, usize)>
     requires blank { is_blank blank ≡ true }
     requires room { at + 13 ≤ length text.now }
     ensures number { IfSome result (λ p. EndsWithNumber (drop at text.now) p.0 (drop p.1 text.now)) }
     ensures order { IfSome result (λ p. at < p.1) }
     ensures room { IfSome result (λ p. p.1 ≤ length text.now) }
 {
-    let start = after_blanks(text, at, blank, 13)?;
-    long_last_number(text, start)
+    let (number, count) = up_to_eight_digits(text, at);
+    if count == 8 {
+        if let Some(last) = two_digits(text, at + 8, b'\n') {
+            return Some((100 * number + last, at + 11));
+        }
+        if let Some(last) = one_digit(text, at + 8, b'\n') {
+            return Some((10 * number + last, at + 10));
+        }
+        if text[at + 8] == b'\n' {
+            return Some((number, at + 9));
+        }
+    } else if count != 0 {
+        let end = after_line_end(text, at + count)?;
+        return Some((number, end));
+    }
+    let (start, number, end) = begun_number(text, at, blank, number, count)?;
+    let (number, end) = more_digits(text, start, number, end, 1)?;
+    let end = after_line_end(text, end)?;
+    Some((number, end))
 }
 
-/// The number of the word at the place, and the place after the line.
+/// Where the number begins, what its first digits write, and the place after them: these digits of it, or where there are none, one to three
+/// behind blanks.
 #[inline(always)]
-fn long_last_number(text: &[u8], at: usize) -> Option<(u64, usize)>
-    requires room { at + 12 ≤ length text.now }
-    ensures number { IfSome result (λ p. EndsWithNumber (drop at text.now) p.0 (drop p.1 text.now)) }
-    ensures order { IfSome result (λ p. at < p.1) }
-    ensures room { IfSome result (λ p. p.1 ≤ length text.now) }
+fn begun_number(
+    text: &[u8],
+    at: usize,
+    blank: u8,
+    number: u64,
+    count: usize,
+) -> Option<(usize, u64, usize)>
+    requires blank { is_blank blank ≡ true }
+    requires reads { Reads (drop at text.now) count number }
+    requires few { count ≤ 8 }
+    requires room { at + 13 ≤ length text.now }
+    ensures same { IfSome result (λ p. left_of (drop p.0 text.now) ≡ left_of (drop at text.now)) }
+    ensures reads { IfSome result (λ p. Reads (drop p.0 text.now) (p.2 - p.0) p.1) }
+    ensures order { IfSome result (λ p. at ≤ p.0) }
+    ensures some { IfSome result (λ p. p.0 < p.2) }
+    ensures within { IfSome result (λ p. p.2 < length text.now) }
 {
-    let (number, count) = up_to_eight_digits(text, at);
-    if count == 0 {
-        return None;
+    if count != 0 {
+        return Some((at, number, at + count));
     }
-    let end = at + count;
-    if count == 8 {
-        if let Some(last) = two_digits(text, end, b'\n') {
-            return Some((100 * number + last, end + 3));
-        }
-        if let Some(last) = one_digit(text, end, b'\n') {
-            return Some((10 * number + last, end + 2));
-        }
-        if text[end].is_ascii_digit() {
-            let (number, end) = more_digits(text, at, number, end, 1)?;
-            return Some((number, after_line_end(text, end)?));
-        }
-    }
-    Some((number, after_line_end(text, end)?))
+    let start = after_blanks(text, at, blank, 13)?;
+    let (number, end) = few_digits(text, start)?;
+    Some((start, number, end))
 }
 
 /// The place after the blanks of one kind at the place. The text has so many bytes from the place on, and at most one of them fewer after the

@@ -141,8 +141,10 @@ pub fn up_to_eight_digits(text: &[u8], at: usize) -> (u64, usize)
         return (number_of(low), 8);
     }
     let count = others.trailing_zeros() / 8;
-    // Two shifts, since one by 64 is none.
-    (number_of(low << (56 - 8 * count) << 8), count as usize)
+    if count == 0 {
+        return (0, 0);
+    }
+    (number_of(low << (64 - 8 * count)), count as usize)
 }
 
 /// The number that eight digits write, from what each is worth, the first in the lowest byte.

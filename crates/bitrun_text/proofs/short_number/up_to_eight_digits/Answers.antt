@@ -36,5 +36,5 @@ returns-clause-reads c =
     let clear : (k : ℕ) → k < zeros / 8 → (bit_at low (8 * k + 7) ≡ 0) × (bit_at high (8 * k + 7) ≡ 0) =
     (λ k below. clear_in_both low high 9259542123273814144 (8 * k + 7) (first.2 (8 * k + 7) (omega (arith, below))) (told_by k (omega (arith, below, few)))) in
     let told = eight_told text c.args.at word low high (zeros / 8) c.requires read.bytes read.word fits refl refl (omega (arith, few)) clear in
-    let same = moved_value low c.number_of-2.result (zeros / 8) few (λ k below. (told k below).0) c.number_of-2.ensures in
+    let same = moved_value low c.number_of-2.result (zeros / 8) few (λ k below. (told k below).0) (omega (arith, c.if-count-eq0.false)) c.number_of-2.ensures in
     rw same (eight_read text c.args.at word low high (zeros / 8) c.requires read.bytes read.word fits refl refl (omega (arith, few)) clear)
