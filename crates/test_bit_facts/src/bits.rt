@@ -161,14 +161,14 @@ pub fn three_by_plus(high: u6, middle: u5, low: u5) -> u16
 }
 
 // Three fields by `|` want the library's rule, and `from_`.
-#[tactic(auto, using(arbitrary_int::proofs::Everyday::or_three))]
+#[tactic(auto, using(arbitrary_laws::proofs::Everyday::or_three))]
 pub fn three_by_or(high: u6, middle: u5, low: u5) -> u16
     ensures { pos result ≡ pos 1024 *ℤ high +ℤ pos 32 *ℤ middle +ℤ low }
 {
     (u16::from_(high) << 10) | (u16::from_(middle) << 5) | u16::from_(low)
 }
 
-#[tactic(auto, using(arbitrary_int::proofs::Everyday::or_three))]
+#[tactic(auto, using(arbitrary_laws::proofs::Everyday::or_three))]
 pub fn three_fields_again(x: u16) -> u16
     ensures { result ≡ x }
 {

@@ -1,6 +1,6 @@
 //! Numbers under copies of their own sign, with no branch.
 //! None has a proof of its own: the file names one set of laws.
-#![tactic(auto, using(arbitrary_int::proofs::SignWord::signs))]
+#![tactic(auto, using(arbitrary_laws::proofs::signs::SignWord::signs))]
 
 ghost use Rattle.std.specs.Prelude.{◌≡◌, ◌-ℤ◌, ◌≤ℤ◌, ◌<ℤ◌, pos, neg_ℤ};
 

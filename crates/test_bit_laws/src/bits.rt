@@ -1,6 +1,6 @@
 //! Laws of one of `& | ^` with `!`, once or nested, each by the set `bits` alone. `distribution` has two of them, one over the
 //! other.
-#![tactic(auto, using(arbitrary_int::proofs::BitVector::bits))]
+#![tactic(auto, using(arbitrary_laws::proofs::BitVector::bits))]
 
 ghost use Rattle.std.specs.Prelude.{IsTrue};
 

@@ -1,5 +1,5 @@
 //! Laws of counts of bits.
-#![tactic(auto, using(arbitrary_int::proofs::BitVector::counts))]
+#![tactic(auto, using(arbitrary_laws::proofs::BitVector::counts))]
 
 ghost use Rattle.std.specs.Prelude.{IsTrue};
 

@@ -1,5 +1,5 @@
 //! Laws of `& | ^ !`, one over another.
-#![tactic(auto, using(arbitrary_int::proofs::BitVector::distribution))]
+#![tactic(auto, using(arbitrary_laws::proofs::BitVector::distribution))]
 
 ghost use Rattle.std.specs.Prelude.{IsTrue};
 

@@ -1,5 +1,5 @@
 //! Laws of the masks that the lowest bit that is one gives, beside each other.
-#![tactic(auto, using(arbitrary_int::proofs::LowestMasks::lowest_masks))]
+#![tactic(auto, using(arbitrary_laws::proofs::places::LowestMasks::lowest_masks))]
 
 ghost use Rattle.std.specs.Prelude.{IsTrue};
 
@@ -41,14 +41,14 @@ pub fn alone_and_zeros_below(x: u12) -> bool
     x ^ x.wrapping_sub(u12::new(1)) == (x & x.wrapping_neg()) | (!x & x.wrapping_sub(u12::new(1)))
 }
 
-#[tactic(auto, using(arbitrary_int::proofs::LowestMasks::lowest_parts))]
+#[tactic(auto, using(arbitrary_laws::proofs::places::LowestMasks::lowest_parts))]
 pub fn cleared_by_difference(x: u12) -> bool
     ensures { IsTrue result }
 {
     x & x.wrapping_sub(u12::new(1)) == x.wrapping_sub(x & x.wrapping_neg())
 }
 
-#[tactic(auto, using(arbitrary_int::proofs::LowestMasks::lowest_parts))]
+#[tactic(auto, using(arbitrary_laws::proofs::places::LowestMasks::lowest_parts))]
 pub fn zeros_below_by_difference(x: i100) -> bool
     ensures { IsTrue result }
 {

@@ -1,6 +1,6 @@
 //! Several flags under a written mask, tested at once and told by quotients and remainders.
 //! None has a proof of its own: the file names one set of laws.
-#![tactic(auto, using(arbitrary_int::proofs::MaskDigits::mask_digits))]
+#![tactic(auto, using(arbitrary_laws::proofs::masks::MaskDigits::mask_digits))]
 
 ghost use Rattle.std.specs.Prelude.{◌≡◌, ◌↔◌, ◌<◌, ◌+◌, ◌*◌, ◌/◌, ◌%◌, pos, unsigned_abs, IsTrue};
 

@@ -1,5 +1,5 @@
 //! Laws of numbers under a mask, at types of both signs.
-#![tactic(auto, using(arbitrary_int::proofs::BitVector::masks))]
+#![tactic(auto, using(arbitrary_laws::proofs::BitVector::masks))]
 
 ghost use Rattle.std.specs.Prelude.{IsTrue};
 

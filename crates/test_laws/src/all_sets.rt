@@ -1,5 +1,5 @@
 //! Laws of many kinds under one line, with all sets at once. One of them needs its own set.
-#![tactic(auto, using(arbitrary_int::proofs::AllSets::all_sets))]
+#![tactic(auto, using(arbitrary_laws::proofs::AllSets::all_sets))]
 
 ghost use Rattle.std.specs.Prelude.{IsTrue, ◌≡◌, ◌+ℤ◌, ◌*ℤ◌, pos};
 ghost use Rattle.arbitrary_int.specs.Residue.{Congruent};
@@ -36,7 +36,7 @@ pub fn shifted_twice(x: u12) -> bool
     ((x >> 3) >> 4) == (x >> 7)
 }
 
-#[tactic(auto, using(arbitrary_int::proofs::Sets::fields))]
+#[tactic(auto, using(arbitrary_laws::proofs::Sets::fields))]
 pub fn joined(high: u3, middle: u15, low: u15) -> u33
     ensures { result ≡ high *ℤ pos 1073741824 +ℤ middle *ℤ pos 32768 +ℤ low }
 {

@@ -1,5 +1,5 @@
 //! The names of before 1.0.0 go on working, for both types, for primitives and in generic code.
-#![tactic(auto, using(arbitrary_int::proofs::BitVector::exact))]
+#![tactic(auto, using(arbitrary_laws::proofs::BitVector::exact))]
 
 ghost use Rattle.std.specs.Prelude.{◌≡◌, IsTrue};
 

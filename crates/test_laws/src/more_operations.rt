@@ -1,5 +1,5 @@
 //! More laws of operations on any numbers, under one line: counts, signs, flags, and sums and products with written numbers.
-#![tactic(auto, using(arbitrary_int::proofs::AllSets::laws))]
+#![tactic(auto, using(arbitrary_laws::proofs::AllSets::laws))]
 
 ghost use Rattle.std.specs.Prelude.{IsTrue};
 
@@ -176,7 +176,7 @@ pub fn low_part_of_xor(x: u12) -> bool
     (x ^ u12::new(0x55)) & u12::new(0x0F) == (x & u12::new(0x0F)) ^ u12::new(0x05)
 }
 
-#[tactic(auto, using(arbitrary_int::proofs::Sets::swapped_bytes))]
+#[tactic(auto, using(arbitrary_laws::proofs::Sets::swapped_bytes))]
 pub fn swapped_equal(x: u40, y: u40) -> bool
     ensures { IsTrue result }
 {

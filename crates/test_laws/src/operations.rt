@@ -1,5 +1,5 @@
 //! Laws of operations on any numbers, under one line. By all sets at once most of these stay open.
-#![tactic(auto, using(arbitrary_int::proofs::AllSets::laws))]
+#![tactic(auto, using(arbitrary_laws::proofs::AllSets::laws))]
 
 ghost use Rattle.std.specs.Prelude.{◌<◌, IsTrue};
 

@@ -1,5 +1,5 @@
 //! Steps that wrap, one after another, and conversions between them: what comes out up to a multiple of the numbers of the type.
-#![tactic(auto, using(arbitrary_int::proofs::Conversions::congruences))]
+#![tactic(auto, using(arbitrary_laws::proofs::numbers::Conversions::congruences))]
 
 ghost use Rattle.std.specs.Prelude.{◌+ℤ◌, ◌-ℤ◌, ◌*ℤ◌, pos};
 ghost use Rattle.arbitrary_int.specs.Residue.{Congruent};

@@ -1,5 +1,5 @@
 //! What steps that wrap, one after another, are congruent to where the type is not known, and where a product is among them.
-#![tactic(auto, using(arbitrary_int::proofs::CongruentChains::congruent_chains))]
+#![tactic(auto, using(arbitrary_laws::proofs::sums::CongruentChains::congruent_chains))]
 
 ghost use Rattle.std.specs.Prelude.{◌+ℤ◌, ◌-ℤ◌, ◌*ℤ◌, pos};
 ghost use Rattle.arbitrary_int.specs.Residue.{Congruent};

@@ -35,7 +35,7 @@ pub fn write(registers: &mut [u12; 8], place: u3, value: u12)
 }
 
 /// Two steps of a counter that wraps.
-#[tactic(auto, using(arbitrary_int::proofs::Everyday::everyday))]
+#[tactic(auto, using(arbitrary_laws::proofs::Everyday::everyday))]
 pub fn two_steps(count: u12) -> u12
     ensures { Congruent 12 result (count +ℤ pos 2) }
 {
@@ -50,7 +50,7 @@ pub fn low_sum(a: u24, b: u24) -> u12
 }
 
 /// How far to turn from one direction to another, of 16,384 to a round, by the shorter way.
-#[tactic(auto, using(arbitrary_int::proofs::Conversions::congruences))]
+#[tactic(auto, using(arbitrary_laws::proofs::numbers::Conversions::congruences))]
 pub fn turn(from: u14, to: u14) -> i14
     ensures { Congruent 14 (from +ℤ result) to }
 {

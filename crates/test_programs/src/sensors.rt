@@ -140,28 +140,28 @@ pub fn sign_extended_by_shifts(x: u9) -> i16
 
 // ---- signed samples in the bits of a wider word
 
-#[tactic(auto, using(arbitrary_int::proofs::Conversions::congruences))]
+#[tactic(auto, using(arbitrary_laws::proofs::numbers::Conversions::congruences))]
 pub fn low_sample(word: u32) -> i12
     ensures { Congruent 12 result (pos word) }
 {
     i12::from_bits((word & 0xFFF) as u16)
 }
 
-#[tactic(auto, using(arbitrary_int::proofs::Conversions::congruences))]
+#[tactic(auto, using(arbitrary_laws::proofs::numbers::Conversions::congruences))]
 pub fn high_sample(word: u32) -> i12
     ensures { Congruent 12 result (pos (word / 16)) }
 {
     i12::from_bits(((word >> 4) & 0xFFF) as u16)
 }
 
-#[tactic(auto, using(arbitrary_int::proofs::Conversions::congruences))]
+#[tactic(auto, using(arbitrary_laws::proofs::numbers::Conversions::congruences))]
 pub fn pressure(word: u32) -> i20
     ensures { Congruent 20 result (pos (word / 256)) }
 {
     i20::from_bits((word >> 8) & 0xF_FFFF)
 }
 
-#[tactic(auto, using(arbitrary_int::proofs::Conversions::congruences))]
+#[tactic(auto, using(arbitrary_laws::proofs::numbers::Conversions::congruences))]
 pub fn coordinate(word: u64) -> i40
     ensures { Congruent 40 result (pos (word / 256)) }
 {

@@ -1,5 +1,5 @@
 //! A number under `^` with itself shifted: Gray codes there and back, and steps of generators that undo themselves.
-#![tactic(auto, using(arbitrary_int::proofs::BitVector::shifted_xors))]
+#![tactic(auto, using(arbitrary_laws::proofs::BitVector::shifted_xors))]
 
 ghost use Rattle.std.specs.Prelude.{IsTrue};
 
@@ -14,7 +14,7 @@ pub fn gray_of_three_bits(x: u3) -> bool
 }
 
 /// Of four bits, back by doubled shifts.
-#[tactic(auto, using(arbitrary_int::proofs::BitVector::folds))]
+#[tactic(auto, using(arbitrary_laws::proofs::BitVector::folds))]
 pub fn gray_of_four_bits(x: u4) -> bool
     ensures { IsTrue result }
 {
@@ -24,7 +24,7 @@ pub fn gray_of_four_bits(x: u4) -> bool
 }
 
 /// Of four bits, where the code is shifted by two places first.
-#[tactic(auto, using(arbitrary_int::proofs::FoldingOrder::folding_orders))]
+#[tactic(auto, using(arbitrary_laws::proofs::shifts::FoldingOrder::folding_orders))]
 pub fn gray_by_two_places_first(x: u4) -> bool
     ensures { IsTrue result }
 {
@@ -34,7 +34,7 @@ pub fn gray_by_two_places_first(x: u4) -> bool
 }
 
 /// Of twelve bits.
-#[tactic(auto, using(arbitrary_int::proofs::BitVector::folds))]
+#[tactic(auto, using(arbitrary_laws::proofs::BitVector::folds))]
 pub fn gray_of_twelve_bits(x: u12) -> bool
     ensures { IsTrue result }
 {

@@ -1,5 +1,5 @@
 //! Laws of the reversal, and a rotation as two shifts.
-#![tactic(auto, using(arbitrary_int::proofs::BitVector::reversals))]
+#![tactic(auto, using(arbitrary_laws::proofs::BitVector::reversals))]
 
 ghost use Rattle.std.specs.Prelude.{IsTrue, ◌<◌};
 

@@ -1,5 +1,5 @@
 //! Laws of rotations.
-#![tactic(auto, using(arbitrary_int::proofs::BitVector::rotations))]
+#![tactic(auto, using(arbitrary_laws::proofs::BitVector::rotations))]
 
 ghost use Rattle.std.specs.Prelude.{IsTrue};
 

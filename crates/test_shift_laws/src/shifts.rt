@@ -1,5 +1,5 @@
 //! Laws of shifts, alone and over bits and sums.
-#![tactic(auto, using(arbitrary_int::proofs::BitVector::shifts))]
+#![tactic(auto, using(arbitrary_laws::proofs::BitVector::shifts))]
 
 ghost use Rattle.std.specs.Prelude.{IsTrue, ◌≤ℤ◌, ◌<ℤ◌, negsuc, pos};
 

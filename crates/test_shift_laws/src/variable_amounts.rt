@@ -1,5 +1,5 @@
 //! Laws of shifts and rotations by amounts that vary, of every kind, by one set.
-#![tactic(auto, using(arbitrary_int::proofs::VariableAmounts::variable_amounts))]
+#![tactic(auto, using(arbitrary_laws::proofs::shifts::VariableAmounts::variable_amounts))]
 
 ghost use Rattle.std.specs.Prelude.{◌<◌, IsTrue};
 

@@ -1,5 +1,5 @@
 //! Laws of carries and borrows.
-#![tactic(auto, using(arbitrary_int::proofs::BitVector::carries))]
+#![tactic(auto, using(arbitrary_laws::proofs::BitVector::carries))]
 
 ghost use Rattle.std.specs.Prelude.{IsTrue};
 

@@ -1,5 +1,5 @@
 //! Laws of the complement beside sums and differences.
-#![tactic(auto, using(arbitrary_int::proofs::BitVector::complements))]
+#![tactic(auto, using(arbitrary_laws::proofs::BitVector::complements))]
 
 ghost use Rattle.std.specs.Prelude.{IsTrue};
 

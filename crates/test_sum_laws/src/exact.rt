@@ -1,5 +1,5 @@
 //! Powers, quotients and conversions at their ends.
-#![tactic(auto, using(arbitrary_int::proofs::BitVector::exact))]
+#![tactic(auto, using(arbitrary_laws::proofs::BitVector::exact))]
 
 ghost use Rattle.std.specs.Prelude.{IsTrue};
 

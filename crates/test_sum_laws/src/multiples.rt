@@ -1,5 +1,5 @@
 //! Multiples of one number by shifts, sums and written factors, wrapped.
-#![tactic(auto, using(arbitrary_int::proofs::BitVector::multiples))]
+#![tactic(auto, using(arbitrary_laws::proofs::BitVector::multiples))]
 
 ghost use Rattle.std.specs.Prelude.{IsTrue};
 

@@ -1,5 +1,5 @@
 //! A number moved by written numbers, up and down, round its range.
-#![tactic(auto, using(arbitrary_int::proofs::BitVector::offsets))]
+#![tactic(auto, using(arbitrary_laws::proofs::BitVector::offsets))]
 
 ghost use Rattle.std.specs.Prelude.{IsTrue};
 

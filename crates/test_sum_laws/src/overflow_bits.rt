@@ -1,5 +1,5 @@
 //! Laws of signs: an overflow told by those of the operands and of what wraps.
-#![tactic(auto, using(arbitrary_int::proofs::OverflowBits::overflow_bits))]
+#![tactic(auto, using(arbitrary_laws::proofs::signs::OverflowBits::overflow_bits))]
 
 ghost use Rattle.std.specs.Prelude.{◌↔◌, ◌⊎◌, ◌<ℤ◌, ◌+ℤ◌, ◌-ℤ◌, pos, neg_ℤ, IsTrue};
 
@@ -39,7 +39,7 @@ pub fn difference_and_flag(x: i12, y: i12) -> bool
     ((x ^ y) & (x ^ difference) < i12::zero()) == overflow
 }
 
-#[tactic(auto, using(arbitrary_int::proofs::OverflowBits::sign_of_xor))]
+#[tactic(auto, using(arbitrary_laws::proofs::signs::OverflowBits::sign_of_xor))]
 pub fn signs_differ(x: i48, y: i48) -> bool
     ensures { IsTrue result }
 {

@@ -1,5 +1,5 @@
 //! Laws of products that wrap.
-#![tactic(auto, using(arbitrary_int::proofs::BitVector::products))]
+#![tactic(auto, using(arbitrary_laws::proofs::BitVector::products))]
 
 ghost use Rattle.std.specs.Prelude.{IsTrue};
 

@@ -1,5 +1,5 @@
 //! Laws of sums and differences that wrap.
-#![tactic(auto, using(arbitrary_int::proofs::BitVector::ring))]
+#![tactic(auto, using(arbitrary_laws::proofs::BitVector::ring))]
 
 ghost use Rattle.std.specs.Prelude.{IsTrue};
 

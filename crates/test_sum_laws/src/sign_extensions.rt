@@ -1,5 +1,5 @@
 //! Laws of a number shifted to the left and back, beside its conversion to a narrower type and back.
-#![tactic(auto, using(arbitrary_int::proofs::SignExtensions::sign_extensions))]
+#![tactic(auto, using(arbitrary_laws::proofs::signs::SignExtensions::sign_extensions))]
 
 ghost use Rattle.std.specs.Prelude.{IsTrue};
 

@@ -1,5 +1,5 @@
 //! Laws of signs: the order of two numbers, whether they are equal, and an overflow, told by the sign of what bits make of them.
-#![tactic(auto, using(arbitrary_int::proofs::SignTests::sign_tests))]
+#![tactic(auto, using(arbitrary_laws::proofs::signs::SignTests::sign_tests))]
 
 ghost use Rattle.std.specs.Prelude.{◌≡◌, ◌≤ℤ◌, ◌<ℤ◌, ◌+ℤ◌, pos, IsTrue};
 
@@ -68,7 +68,7 @@ pub fn positive(x: i63) -> bool
     (x.wrapping_neg() & !x < i63::zero()) == x.is_positive()
 }
 
-#[tactic(auto, using(arbitrary_int::proofs::SignTests::overflow_tests))]
+#[tactic(auto, using(arbitrary_laws::proofs::signs::SignTests::overflow_tests))]
 pub fn overflow_of_like_signs(x: i7, y: i7) -> bool
     ensures { IsTrue result }
 {
@@ -83,7 +83,7 @@ pub fn overflow_flag(x: i48, y: i48) -> bool
     (!(x ^ y) & (x ^ sum) < i48::zero()) == overflow
 }
 
-#[tactic(auto, using(arbitrary_int::proofs::TurnedSigns::turned_signs))]
+#[tactic(auto, using(arbitrary_laws::proofs::signs::TurnedSigns::turned_signs))]
 pub fn order_with_the_sign_turned(x: i12, y: i12) -> bool
     ensures { IsTrue result }
 {
@@ -91,7 +91,7 @@ pub fn order_with_the_sign_turned(x: i12, y: i12) -> bool
     (x < y) == ((x ^ sign).to_unsigned() < (y ^ sign).to_unsigned())
 }
 
-#[tactic(auto, using(arbitrary_int::proofs::TurnedSigns::turned_signs))]
+#[tactic(auto, using(arbitrary_laws::proofs::signs::TurnedSigns::turned_signs))]
 pub fn at_most_with_the_sign_turned(x: i63, y: i63) -> bool
     ensures { IsTrue result }
 {
@@ -99,7 +99,7 @@ pub fn at_most_with_the_sign_turned(x: i63, y: i63) -> bool
     ((x ^ sign).to_unsigned() <= (y ^ sign).to_unsigned()) == (x <= y)
 }
 
-#[tactic(auto, using(arbitrary_int::proofs::TurnedSigns::turned_signs))]
+#[tactic(auto, using(arbitrary_laws::proofs::signs::TurnedSigns::turned_signs))]
 pub fn number_with_the_sign_turned(x: i12) -> u12
     ensures { result ≡ x +ℤ pos 2048 }
 {

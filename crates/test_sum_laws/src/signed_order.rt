@@ -1,5 +1,5 @@
 //! Laws of the order of a signed number and its `&` or `|` with another.
-#![tactic(auto, using(arbitrary_int::proofs::BitVector::signed_order))]
+#![tactic(auto, using(arbitrary_laws::proofs::BitVector::signed_order))]
 
 ghost use Rattle.std.specs.Prelude.{◌<ℤ◌, pos, IsTrue};
 

@@ -1,6 +1,6 @@
 //! Several fields that are written into a word of a primitive at once, also beside a written number. Each is read back, and the others stay.
 //! None has a proof of its own: the file names one set of laws.
-#![tactic(auto, using(arbitrary_int::proofs::FieldReads::field_reads))]
+#![tactic(auto, using(arbitrary_laws::proofs::fields::FieldReads::field_reads))]
 
 ghost use Rattle.std.specs.Prelude.{◌≡◌, ◌/◌, ◌%◌, pos};
 

@@ -1,6 +1,6 @@
 //! The low bits of a primitive under a mask whose length varies, as a reader of fields of any width takes them.
 //! None has a proof of its own: the file names one set of laws.
-#![tactic(auto, using(arbitrary_int::proofs::LowMask::low_masks))]
+#![tactic(auto, using(arbitrary_laws::proofs::masks::LowMask::low_masks))]
 
 ghost use Rattle.std.specs.Prelude.{◌≡◌, ◌/◌, ◌%◌, ◌^◌, ◌<◌, unsigned_abs, IsTrue};
 

@@ -1,6 +1,6 @@
 //! What a written mask lets through of a byte, moved up and joined: colours of fewer bits, instructions, texts.
 //! None has a proof of its own: the file names one set of laws.
-#![tactic(auto, using(arbitrary_int::proofs::MaskedField::masked_fields))]
+#![tactic(auto, using(arbitrary_laws::proofs::fields::MaskedField::masked_fields))]
 
 ghost use Rattle.std.specs.Prelude.{◌≡◌, ◌+◌, ◌*◌, ◌/◌, ◌%◌, pos, ◌+ℤ◌, ◌*ℤ◌};
 

@@ -1,6 +1,6 @@
 //! Fields of a word at a place that varies, as a register with two bits for each pin has them: written, cleared, read back, and the others,
 //! which stay. None has a proof of its own: the file names one set of laws, and a function on the others its own.
-#![tactic(auto, using(arbitrary_int::proofs::PlacedField::placed_fields))]
+#![tactic(auto, using(arbitrary_laws::proofs::fields::PlacedField::placed_fields))]
 
 ghost use Rattle.std.specs.Prelude.{◌≡◌, ◌≢◌, ◌+◌, ◌*◌, ◌/◌, ◌%◌, ◌^◌, ◌≤◌, ◌<◌, pos, unsigned_abs, IsTrue};
 
@@ -56,7 +56,7 @@ pub fn slot_of_24_bits(word: u24, slot: u2, value: u6) -> u6
 
 // ---- the others
 
-#[tactic(auto, using(arbitrary_int::proofs::PlacedField::other_fields))]
+#[tactic(auto, using(arbitrary_laws::proofs::fields::PlacedField::other_fields))]
 pub fn other_mode_stays(modes: u32, pin: u4, other: u4, mode: u2) -> bool
     requires { pin ≢ other }
     ensures { IsTrue result }
@@ -67,7 +67,7 @@ pub fn other_mode_stays(modes: u32, pin: u4, other: u4, mode: u2) -> bool
     u2::extract_u32(written, other_place) == u2::extract_u32(modes, other_place)
 }
 
-#[tactic(auto, using(arbitrary_int::proofs::PlacedField::other_fields))]
+#[tactic(auto, using(arbitrary_laws::proofs::fields::PlacedField::other_fields))]
 pub fn same_pin_or_the_same_mode(modes: u32, pin: u4, other: u4, mode: u2) -> bool
     ensures { IsTrue result }
 {
@@ -77,7 +77,7 @@ pub fn same_pin_or_the_same_mode(modes: u32, pin: u4, other: u4, mode: u2) -> bo
     pin == other || (written >> other_place) & 3 == (modes >> other_place) & 3
 }
 
-#[tactic(auto, using(arbitrary_int::proofs::PlacedField::other_fields))]
+#[tactic(auto, using(arbitrary_laws::proofs::fields::PlacedField::other_fields))]
 pub fn number_below(modes: u32, place: u32, other: u32, mode: u2) -> u32
     requires inside { place < 31 }
     requires apart { other + 2 ≤ place }

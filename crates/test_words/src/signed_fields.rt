@@ -1,6 +1,6 @@
 //! Fields with a sign in a word that is put together by `|`, written and read back, and read and written again.
 //! None has a proof of its own: the file names one set of laws.
-#![tactic(auto, using(arbitrary_int::proofs::SignedField::signed_fields))]
+#![tactic(auto, using(arbitrary_laws::proofs::fields::SignedField::signed_fields))]
 
 ghost use Rattle.std.specs.Prelude.{◌≡◌, IsTrue};
 

@@ -1,6 +1,6 @@
 //! Primitives with a sign beside numbers that wrap: how far two moments are apart, and steps by an `i8` or an `i16`.
 //! None has a proof of its own: the file names one set of laws.
-#![tactic(auto, using(arbitrary_int::proofs::Conversions::conversions))]
+#![tactic(auto, using(arbitrary_laws::proofs::numbers::Conversions::conversions))]
 
 ghost use Rattle.std.specs.Prelude.{◌+ℤ◌, ◌-ℤ◌, ◌*ℤ◌, pos};
 ghost use Rattle.arbitrary_int.specs.Residue.{Congruent};
@@ -47,35 +47,35 @@ pub fn low_part(number: i32) -> i12
 
 // ---- differences of two moments, read with a sign
 
-#[tactic(auto, using(arbitrary_int::proofs::AllSets::words))]
+#[tactic(auto, using(arbitrary_laws::proofs::AllSets::words))]
 pub fn ticks_apart(now: u16, then: u16) -> i16
     ensures { Congruent 16 result (pos now -ℤ pos then) }
 {
     now.wrapping_sub(then).as_i16()
 }
 
-#[tactic(auto, using(arbitrary_int::proofs::WrappedWords::wrapped_words))]
+#[tactic(auto, using(arbitrary_laws::proofs::sums::WrappedWords::wrapped_words))]
 pub fn milliseconds_apart(after: u32, before: u32) -> i32
     ensures { Congruent 32 result (pos after -ℤ pos before) }
 {
     after.wrapping_sub(before).as_i32()
 }
 
-#[tactic(auto, using(arbitrary_int::proofs::AllSets::words))]
+#[tactic(auto, using(arbitrary_laws::proofs::AllSets::words))]
 pub fn delta(after: u8, before: u8) -> i8
     ensures { Congruent 8 result (pos after -ℤ pos before) }
 {
     after.wrapping_sub(before).as_i8()
 }
 
-#[tactic(auto, using(arbitrary_int::proofs::AllSets::words))]
+#[tactic(auto, using(arbitrary_laws::proofs::AllSets::words))]
 pub fn delta_as(after: u8, before: u8) -> i8
     ensures { Congruent 8 result (pos after -ℤ pos before) }
 {
     after.wrapping_sub(before).as_::<i8>()
 }
 
-#[tactic(auto, using(arbitrary_int::proofs::AllSets::words))]
+#[tactic(auto, using(arbitrary_laws::proofs::AllSets::words))]
 pub fn sequence_apart(after: u12, before: u12) -> i16
     ensures { Congruent 12 result (after -ℤ before) }
 {

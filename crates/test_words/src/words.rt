@@ -1,6 +1,6 @@
 //! Words of fields, each made in one line.
 //! None has a proof of its own: the file names the sets on words as one.
-#![tactic(auto, using(arbitrary_int::proofs::AllSets::words))]
+#![tactic(auto, using(arbitrary_laws::proofs::AllSets::words))]
 
 ghost use Rattle.std.specs.Prelude.{◌≡◌, ◌*◌, ◌/◌, ◌%◌, ◌+◌, ◌+ℤ◌, ◌*ℤ◌, pos, unsigned_abs, if◌then◌else◌, IsTrue};
 
@@ -13,7 +13,7 @@ pub fn three_of_their_own_type(a: u12, b: u24, c: u12) -> u48
 }
 
 /// The offset of a branch, whose lowest part is moved up too.
-#[tactic(auto, using(arbitrary_int::proofs::JoinedFields::four_moved_fields))]
+#[tactic(auto, using(arbitrary_laws::proofs::fields::JoinedFields::four_moved_fields))]
 pub fn branch_offset(sign: u1, next: u1, high: u6, low: u4) -> u13
     ensures { result ≡ sign *ℤ pos 4096 +ℤ next *ℤ pos 2048 +ℤ high *ℤ pos 32 +ℤ low *ℤ pos 2 }
 {

@@ -1,6 +1,6 @@
 //! Fields with a sign, written into a register whose other bits stay, and read back.
 //! None has a proof of its own: the file names the sets on words as one.
-#![tactic(auto, using(arbitrary_int::proofs::AllSets::words))]
+#![tactic(auto, using(arbitrary_laws::proofs::AllSets::words))]
 
 ghost use Rattle.std.specs.Prelude.{◌≡◌, ◌/◌, ◌%◌, pos, IsTrue};
 ghost use Rattle.arbitrary_int.specs.Residue.{Congruent};
@@ -30,7 +30,7 @@ pub fn with_gain(byte: u8, gain: i3) -> u8
     (byte & 0b1110_0011) | (gain.to_bits() << 2)
 }
 
-#[tactic(auto, using(arbitrary_int::proofs::SignedField::signed_fields))]
+#[tactic(auto, using(arbitrary_laws::proofs::fields::SignedField::signed_fields))]
 pub fn trim_back(register: u16, trim: i6) -> i6
     ensures { result ≡ trim }
 {
@@ -38,7 +38,7 @@ pub fn trim_back(register: u16, trim: i6) -> i6
     i6::extract_u16(word, 4)
 }
 
-#[tactic(auto, using(arbitrary_int::proofs::SignedField::signed_fields))]
+#[tactic(auto, using(arbitrary_laws::proofs::fields::SignedField::signed_fields))]
 pub fn offset_back(control: u32, offset: i12) -> i12
     ensures { result ≡ offset }
 {
@@ -46,7 +46,7 @@ pub fn offset_back(control: u32, offset: i12) -> i12
     i12::extract_u32(word, 8)
 }
 
-#[tactic(auto, using(arbitrary_int::proofs::SignedField::signed_fields))]
+#[tactic(auto, using(arbitrary_laws::proofs::fields::SignedField::signed_fields))]
 pub fn gain_back(byte: u8, gain: i3) -> i3
     ensures { result ≡ gain }
 {
@@ -54,7 +54,7 @@ pub fn gain_back(byte: u8, gain: i3) -> i3
     i3::from_bits((word >> 2) & 7)
 }
 
-#[tactic(auto, using(arbitrary_int::proofs::SignedField::signed_fields))]
+#[tactic(auto, using(arbitrary_laws::proofs::fields::SignedField::signed_fields))]
 pub fn level_back(register: u16, level: u6) -> bool
     ensures { IsTrue result }
 {

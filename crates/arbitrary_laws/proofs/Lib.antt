@@ -1,0 +1,16 @@
+pub mod AllSets
+pub mod BitVector
+pub mod Everyday
+pub mod Sets
+pub mod bits
+pub mod places
+pub mod masks
+pub mod fields
+pub mod written
+pub mod signs
+pub mod counts
+pub mod shifts
+pub mod sums
+pub mod numbers
+pub mod bytes
+pub mod steps

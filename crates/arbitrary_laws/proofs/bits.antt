@@ -1,0 +1,7 @@
+pub mod AtMostOneBit
+pub mod BitByBit
+pub mod BitSums
+pub mod ComplementParts
+pub mod LongerSide
+pub mod NegatedParts
+pub mod OwnBits

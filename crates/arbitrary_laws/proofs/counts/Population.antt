@@ -1,0 +1,58 @@
+-- How many bits are one where two numbers meet under `&`, `|`, `^` and `!`, and in a sum of numbers that share no bit.
+-- For callers: `#![tactic(auto, using(arbitrary_laws::proofs::counts::Population::population))]`.
+use Rattle.std.specs.Prelude.{◌≡◌, ◌↔◌, ℕ, ℤ, Bool, true, false, not, ◌&&◌, List, [], ◌∷◌, length, ◌≤◌, ◌+◌, map}
+use Rattle.std.specs.List.{count_by}
+use Rattle.std.proofs.Common.{refl, ap, ◌∙◌, arith}
+use Rattle.std.proofs.lemmas.Bool.Decides.{Decides-int_eq}
+use Rattle.arbitrary_base.specs.Range.{InRange}
+use Rattle.arbitrary_base.specs.BitList.{bits, bits_and}
+use Rattle.arbitrary_base.specs.Operation.{bitwise_and, bitwise_not, bitwise_or, bitwise_xor}
+use Rattle.arbitrary_base.proofs.bit_lists.Count.{popcount-cons}
+use Rattle.arbitrary_base.proofs.bit_lists.UnsignedNumber.{digit, same_length}
+use Rattle.arbitrary_base.proofs.operations.BitsAndSums.{sum-of_disjoint, xor-in_range}
+use Rattle.arbitrary_base.proofs.operations.Bitwise.{bitwise_xor-equal, bitwise_xor-same}
+use Rattle.arbitrary_base.proofs.operations.Definition.{bits-and, bits-not}
+use Rattle.arbitrary_base.proofs.operations.PopulationAndRuns.{no_ones-of_zero, popcount-of_and, popcount-of_and_or, zero-of_no_ones}
+use Rattle.arbitrary_laws.proofs.counts.CountBounds.{popcount-of_one_bit, popcount-of_xor}
+
+-- ---- `|`
+
+pub popcount-within_or : (s : Bool) (B : ℕ) (x y : ℤ)
+    → count_by (λ b. b) (bits B (bitwise_or s B x y)) + count_by (λ b. b) (bits B (bitwise_and s B x y)) ≡ count_by (λ b. b) (bits B x) + count_by (λ b. b) (bits B y)
+popcount-within_or s B x y = omega (arith, popcount-of_and_or s B x y)
+
+-- ---- a number parted by another
+
+parted : (l m : List Bool) → length l ≡ length m → count_by (λ b. b) (bits_and l (map not m)) + count_by (λ b. b) (bits_and l m) ≡ count_by (λ b. b) l
+parted [] [] e = refl
+parted [] (b ∷ m) e = absurd (omega arith)
+parted (a ∷ l) [] e = absurd (omega arith)
+parted (a ∷ l) (b ∷ m) e =
+    omega (arith, item a b, popcount-cons (a && not b) (bits_and l (map not m)), popcount-cons (a && b) (bits_and l m), popcount-cons a l, parted l m (omega arith))
+  where
+    item : (a b : Bool) → digit (a && not b) + digit (a && b) ≡ digit a
+    item true true = refl
+    item true false = refl
+    item false true = refl
+    item false false = refl
+
+pub popcount-of_and_not : (s : Bool) (B : ℕ) (x y : ℤ)
+    → count_by (λ b. b) (bits B (bitwise_and s B x (bitwise_not s B y))) + count_by (λ b. b) (bits B (bitwise_and s B x y)) ≡ count_by (λ b. b) (bits B x)
+popcount-of_and_not s B x y =
+    let a = ap (count_by (λ b. b)) (bits-and s B x (bitwise_not s B y) ∙ ap (bits_and (bits B x)) (bits-not s B y)) in
+    let b = ap (count_by (λ b. b)) (bits-and s B x y) in
+    omega (arith, parted (bits B x) (bits B y) (same_length B x y))
+
+-- ---- none
+
+pub popcount-of_xor_none : (s : Bool) (B : ℕ) (x y : ℤ) → 1 ≤ B → InRange s B x → InRange s B y
+    → (count_by (λ b. b) (bits B (bitwise_xor s B x y)) ≡ 0) ↔ (x ≡ y)
+popcount-of_xor_none s B x y h f g = (
+  (λ e. bitwise_xor-equal s B x y h f g (zero-of_no_ones s B (bitwise_xor s B x y) h (xor-in_range s B x y h) e)),
+  (λ e. no_ones-of_zero B (bitwise_xor s B x y) (ap (λ (z : ℤ). bitwise_xor s B z y) e ∙ bitwise_xor-same s B y h)),
+)
+
+pub ruleset population = (Decides-int_eq, popcount-of_and, popcount-within_or, popcount-of_xor, popcount-of_and_not, popcount-of_xor_none, no_ones-of_zero, sum-of_disjoint)
+
+-- whether the number of ones is odd, of `^` and where one bit is turned over
+pub ruleset parities = (popcount-of_xor, popcount-of_one_bit)

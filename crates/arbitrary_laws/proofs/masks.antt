@@ -1,0 +1,7 @@
+pub mod FlagTests
+pub mod LowMask
+pub mod MaskDigits
+pub mod MaskTests
+pub mod MaskedResults
+pub mod VariableMasks
+pub mod WrittenMask

@@ -1,0 +1,7 @@
+pub mod Conversions
+pub mod QuotientAndCube
+pub mod QuotientOrder
+pub mod QuotientParts
+pub mod Remainders
+pub mod TextLength
+pub mod WiderRanges

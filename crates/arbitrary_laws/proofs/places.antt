@@ -1,0 +1,11 @@
+pub mod BitPlaces
+pub mod BitTests
+pub mod LowestBit
+pub mod LowestMasks
+pub mod LowestPlace
+pub mod MovedBits
+pub mod OneBits
+pub mod OtherBits
+pub mod PrimitiveBit
+pub mod SingleBit
+pub mod VariablePlaces

@@ -1,0 +1,7 @@
+-- A number shifted to the left and back as the low bits that it keeps, read with the type's sign: beside a conversion to a narrower type and back.
+-- For callers: `#![tactic(auto, using(arbitrary_laws::proofs::signs::SignExtensions::sign_extensions))]`.
+use Rattle.std.proofs.lemmas.Bool.Decides.{Decides-int_eq}
+use Rattle.arbitrary_base.proofs.modular.Residue.{wrap-congruent}
+use Rattle.arbitrary_laws.proofs.shifts.ShiftPairs.{left_right-wraps}
+
+pub ruleset sign_extensions = (Decides-int_eq, left_right-wraps, wrap-congruent)
