@@ -19,8 +19,7 @@ s/\bc\.extended\b/c.to_u128_bits/g
 s/\bc\.kept\b/c.to_storage/g
 s/(Self|[A-Z]\w*)(\.|::)Kept\b/\1\2Representation/g
 s/\btype Kept\b/type Representation/g
-s/(\.|::)(from_)pattern\(/\1\2storage_bits(/g
-s/(\.|::)pattern\(\)/\1storage_bits()/g
+s/(\.|::)(from_)?storage_bits\(/\1\2pattern(/g
 s/\bnarrowing::/truncation::/g
 s/\btruncation::narrow\b/truncation::truncated/g
 s/\btruncation::convert\b/truncation::cast/g

@@ -44,7 +44,7 @@ pub(crate) fn end<T: Storage>(low: bool, bits: usize) -> T
 pub fn zero<T: Storage>() -> T
     ensures { T.number result ≡ pos 0 }
 {
-    T::from_storage_bits(0)
+    T::from_pattern(0)
 }
 
 /// Whether the number is zero.

@@ -18,5 +18,5 @@ pub fn extract<S: Storage, T: Storage>(source: S, start_bit: usize, bits: usize)
     ensures range { InRange T.SIGNED bits (T.number result) }
 {
     // Shifted in the source, not at 128 bits: only the bits above the wanted ones may differ, and they are masked.
-    from_low_bits(source.shr_by(start_bit).storage_bits(), bits)
+    from_low_bits(source.shr_by(start_bit).pattern(), bits)
 }

@@ -20,7 +20,7 @@ fn is_unchanged<T: Storage>(truncation: T, x: T, bits: usize) -> bool
     ensures { result ≡ int_eq (T.number truncation) (T.number x) }
 {
     if T::WIDTH == 128 && 64 <= bits {
-        (truncation.storage_bits() >> 64) as u64 == (x.storage_bits() >> 64) as u64
+        (truncation.pattern() >> 64) as u64 == (x.pattern() >> 64) as u64
     } else {
         equal(&truncation, &x)
     }

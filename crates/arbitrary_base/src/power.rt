@@ -23,7 +23,7 @@ pub fn power_laws()
 fn one<T: Storage>() -> T
     ensures { T.number result ≡ pos 1 }
 {
-    T::from_storage_bits(1)
+    T::from_pattern(1)
 }
 
 /// At how many bits the products on the way are tested, which is at least as many as 1 takes.

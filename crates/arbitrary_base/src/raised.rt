@@ -39,8 +39,8 @@ pub(crate) fn sign_extended(pattern: u128, bits: usize) -> u128
     requires storage { bits ≤ 128 }
     ensures { Congruent 128 (pos result) (wrap true bits (pos pattern)) }
 {
-    let raised = i128::from_storage_bits(pattern << (128 - bits));
-    lower(raised, bits).storage_bits()
+    let raised = i128::from_pattern(pattern << (128 - bits));
+    lower(raised, bits).pattern()
 }
 
 /// The sum, wrapped, and whether the exact one is out of range.
@@ -85,7 +85,7 @@ pub(crate) fn mul<T: Storage>(x: T, y: T, bits: usize) -> (T, bool)
     ensures overflow { IsTrue result.1 ↔ ¬ (InRange T.SIGNED bits (T.number x *ℤ T.number y)) }
 {
     // The contract of `pattern` says that the number is in the storage's range; the pattern itself is not needed.
-    let _pattern = y.storage_bits();
+    let _pattern = y.pattern();
     let raised = raise(x, bits);
     let product = raised.wrapping_mul(y);
     (lower(product, bits), !is_exact(product, raised, y))
@@ -96,8 +96,8 @@ fn in_32_bits<T: Storage>(x: T) -> i32
     requires small { T.WIDTH ≤ 16 }
     ensures { result ≡ T.number x }
 {
-    // The contract of `storage_bits` says that the number is in range; the bits themselves are not needed.
-    let _pattern = x.storage_bits();
+    // The contract of `pattern` says that the number is in range; the bits themselves are not needed.
+    let _pattern = x.pattern();
     cast(x, 32)
 }
 

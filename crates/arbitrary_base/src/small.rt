@@ -15,8 +15,8 @@ fn number<T: Storage>(x: T) -> i64
     ensures value { result ≡ T.number x }
     ensures range { InRange T.SIGNED T.WIDTH (T.number x) }
 {
-    // The contract of `storage_bits` says that the number is in range; the bits themselves are not needed.
-    let _pattern = x.storage_bits();
+    // The contract of `pattern` says that the number is in range; the bits themselves are not needed.
+    let _pattern = x.pattern();
     cast(x, 64)
 }
 

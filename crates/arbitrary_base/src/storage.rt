@@ -44,12 +44,12 @@ pub trait Storage: Sealed + Copy + Ord + Hash + Display + Debug + Drop {
     const SIGNED: bool;
 
     /// The bits of the number: its residue modulo `2 ^ WIDTH`.
-    fn storage_bits(self) -> u128
+    fn pattern(self) -> u128
         ensures value { result ≡ residue WIDTH (number self) }
         ensures range { InRange SIGNED WIDTH (number self) };
 
     /// The type's number that is congruent to `pattern` modulo `2 ^ WIDTH`.
-    fn from_storage_bits(pattern: u128) -> Self
+    fn from_pattern(pattern: u128) -> Self
         ensures { number result ≡ wrap SIGNED WIDTH (pos pattern) };
 
     /// The sum, wrapped.

@@ -68,7 +68,7 @@ pub fn truncated<T: Storage>(x: T, bits: usize) -> T
     ensures value { T.number result ≡ wrap T.SIGNED bits (T.number x) }
     ensures range { InRange T.SIGNED bits (T.number result) }
 {
-    T::from_storage_bits(extend(T::SIGNED, x.storage_bits(), bits))
+    T::from_pattern(extend(T::SIGNED, x.pattern(), bits))
 }
 
 /// The residue of the number modulo `2 ^ bits`.
@@ -79,7 +79,7 @@ pub fn low_bits<T: Storage>(x: T, bits: usize) -> u128
     ensures value { result ≡ residue bits (T.number x) }
     ensures fits { result < 2 ^ bits }
 {
-    masked(x.storage_bits(), bits)
+    masked(x.pattern(), bits)
 }
 
 /// `low_bits` of a number in range. Where the type has no sign this is the number, and nothing is masked.
@@ -93,7 +93,7 @@ pub fn low_bits_in_range<T: Storage>(x: T, bits: usize) -> u128
     if T::SIGNED {
         low_bits(x, bits)
     } else {
-        x.storage_bits()
+        x.pattern()
     }
 }
 
@@ -104,14 +104,14 @@ pub fn from_low_bits<T: Storage>(pattern: u128, bits: usize) -> T
     ensures value { T.number result ≡ wrap T.SIGNED bits (pos pattern) }
     ensures range { InRange T.SIGNED bits (T.number result) }
 {
-    T::from_storage_bits(extend(T::SIGNED, pattern, bits))
+    T::from_pattern(extend(T::SIGNED, pattern, bits))
 }
 
 /// The residue of the number modulo `2 ^ 128`: its pattern, extended to 128 bits.
 pub fn to_u128_bits<T: Storage>(x: T) -> u128
     ensures { result ≡ residue 128 (T.number x) }
 {
-    extend(T::SIGNED, x.storage_bits(), T::WIDTH)
+    extend(T::SIGNED, x.pattern(), T::WIDTH)
 }
 
 /// The number of one storage, truncated to the type of `bits` bits over another.

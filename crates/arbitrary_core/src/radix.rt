@@ -21,7 +21,7 @@ pub(crate) fn words<T: Storage>(value: T) -> (u64, u64)
     ensures natural { let number = T.number value in
         T.WIDTH ≤ 64 → pos 0 ≤ℤ number → result.1 ≡ unsigned_abs number }
 {
-    let pattern = value.storage_bits();
+    let pattern = value.pattern();
     if pattern <= u64::MAX as u128 {
         (0, pattern as u64)
     } else {
@@ -44,7 +44,7 @@ pub(crate) fn lower_hex<T: Storage, W: fmt::Write>(
     if high == 0 {
         fmt::LowerHex::fmt(&low, f)
     } else {
-        fmt::LowerHex::fmt(&value.storage_bits(), f)
+        fmt::LowerHex::fmt(&value.pattern(), f)
     }
 }
 
@@ -63,7 +63,7 @@ pub(crate) fn upper_hex<T: Storage, W: fmt::Write>(
     if high == 0 {
         fmt::UpperHex::fmt(&low, f)
     } else {
-        fmt::UpperHex::fmt(&value.storage_bits(), f)
+        fmt::UpperHex::fmt(&value.pattern(), f)
     }
 }
 
@@ -79,7 +79,7 @@ pub(crate) fn octal<T: Storage, W: fmt::Write>(value: T, f: &mut fmt::Formatter<
     if high == 0 {
         fmt::Octal::fmt(&low, f)
     } else {
-        fmt::Octal::fmt(&value.storage_bits(), f)
+        fmt::Octal::fmt(&value.pattern(), f)
     }
 }
 
@@ -95,6 +95,6 @@ pub(crate) fn binary<T: Storage, W: fmt::Write>(value: T, f: &mut fmt::Formatter
     if high == 0 {
         fmt::Binary::fmt(&low, f)
     } else {
-        fmt::Binary::fmt(&value.storage_bits(), f)
+        fmt::Binary::fmt(&value.pattern(), f)
     }
 }

@@ -98,7 +98,7 @@ impl<T: UnsignedStorage, const BITS: usize> UInt<T, BITS> {
         ensures value { T.number result ≡ wrap T.SIGNED T.WIDTH (pos (2 ^ BITS) -ℤ pos 1) }
         ensures plain { T.number result ≡ pos (2 ^ BITS) -ℤ pos 1 }
     {
-        T::from_storage_bits(low_mask(BITS))
+        T::from_pattern(low_mask(BITS))
     }
 
     /// The number, in the storage.

@@ -138,7 +138,7 @@ impl<T: Primitive> Numbered for T {
 
     #[tactic(auto, using(crate::proofs::Conversion::patterns))]
     fn to_u128_bits(self) -> u128 {
-        let _pattern = self.storage_bits();
+        let _pattern = self.pattern();
         to_u128_bits(self)
     }
 
@@ -181,18 +181,18 @@ where
 
     // The pattern is taken for its clause, that the number is in range.
     fn try_new(value: T) -> Result<T, TryNewError> {
-        let _pattern = value.storage_bits();
+        let _pattern = value.pattern();
         Ok(value)
     }
 
     fn value(self) -> T {
-        let _pattern = self.storage_bits();
+        let _pattern = self.pattern();
         self
     }
 
     #[tactic(auto, using(crate::proofs::Conversion::counterparts))]
     fn to_unsigned(self) -> T::Unsigned {
-        let _pattern = self.storage_bits();
+        let _pattern = self.pattern();
         cast(self, T::WIDTH)
     }
 

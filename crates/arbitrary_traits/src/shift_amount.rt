@@ -22,7 +22,7 @@ impl<T: Primitive> ShiftAmount for T {
 
     #[tactic(auto, using(crate::proofs::Conversion::amounts))]
     fn to_amount(self) -> usize {
-        self.storage_bits() as usize
+        self.pattern() as usize
     }
 }
 

@@ -47,7 +47,7 @@ impl Storage for u128 {
 
     const SIGNED: bool = false;
 
-    fn storage_bits(self) -> u128 {
+    fn pattern(self) -> u128 {
         self
     }
 
@@ -61,7 +61,7 @@ impl Storage for u128 {
         self >> n
     }
 
-    fn from_storage_bits(pattern: u128) -> Self {
+    fn from_pattern(pattern: u128) -> Self {
         pattern
     }
 
@@ -149,7 +149,7 @@ impl Storage for i128 {
 
     const SIGNED: bool = true;
 
-    fn storage_bits(self) -> u128 {
+    fn pattern(self) -> u128 {
         self.cast_unsigned()
     }
 
@@ -163,7 +163,7 @@ impl Storage for i128 {
         self >> n
     }
 
-    fn from_storage_bits(pattern: u128) -> Self {
+    fn from_pattern(pattern: u128) -> Self {
         pattern.cast_signed()
     }
 

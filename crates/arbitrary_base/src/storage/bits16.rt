@@ -46,7 +46,7 @@ impl Storage for u16 {
 
     const SIGNED: bool = false;
 
-    fn storage_bits(self) -> u128 {
+    fn pattern(self) -> u128 {
         self as u128
     }
 
@@ -60,7 +60,7 @@ impl Storage for u16 {
         self >> n
     }
 
-    fn from_storage_bits(pattern: u128) -> Self {
+    fn from_pattern(pattern: u128) -> Self {
         (pattern % (1 << 16)) as u16
     }
 
@@ -136,7 +136,7 @@ impl Storage for i16 {
 
     const SIGNED: bool = true;
 
-    fn storage_bits(self) -> u128 {
+    fn pattern(self) -> u128 {
         self.cast_unsigned() as u128
     }
 
@@ -150,7 +150,7 @@ impl Storage for i16 {
         self >> n
     }
 
-    fn from_storage_bits(pattern: u128) -> Self {
+    fn from_pattern(pattern: u128) -> Self {
         ((pattern % (1 << 16)) as u16).cast_signed()
     }
 

@@ -9,7 +9,7 @@ use Rattle.arbitrary_base.proofs.truncation.from_low_bits.Goals as goal
 value : goal.returns-clause-value
 value g c =
     let h : Congruent 128 (pos c.extend.result) (wrap g.T.Storage.SIGNED c.args.bits (pos c.args.pattern)) = rw c.SIGNED.ensures at c.extend.ensures in
-    c.from_storage_bits.ensures
+    c.from_pattern.ensures
     ∙ wrap-narrow g.T.Storage.SIGNED c.args.bits g.T.Storage.WIDTH c.extend.result (pos c.args.pattern) c.requires.width c.requires.storage (g.met.T.Storage.width_law.1) h
 
 pub returns-clause-value : goal.returns-clause-value

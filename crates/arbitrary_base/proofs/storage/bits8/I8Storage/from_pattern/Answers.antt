@@ -1,10 +1,10 @@
--- For `from_storage_bits` of `i8` in src/storage/bits8.rt: the cast to a sign gives the number of the pattern. The signed storages of 16, 32 and
+-- For `from_pattern` of `i8` in src/storage/bits8.rt: the cast to a sign gives the number of the pattern. The signed storages of 16, 32 and
 -- 64 bits have the same reply at their width.
 use Rattle.std.proofs.Common.{◌∙◌, rules, to_z-of_z}
 use Rattle.std.specs.Prelude.{FitsSigned}
 use Rattle.std.specs.Int.{w8}
 use Rattle.arbitrary_base.proofs.storages.Primitive.{signed-from_bits}
-use Rattle.arbitrary_base.proofs.storage.bits8.I8Storage.from_storage_bits.Goals as goal
+use Rattle.arbitrary_base.proofs.storage.bits8.I8Storage.from_pattern.Goals as goal
 
 pub returns : goal.returns
 returns c =

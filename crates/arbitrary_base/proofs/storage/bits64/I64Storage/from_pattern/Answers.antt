@@ -2,7 +2,7 @@ use Rattle.std.proofs.Common.{◌∙◌, rules, to_z-of_z}
 use Rattle.std.specs.Prelude.{FitsSigned}
 use Rattle.std.specs.Int.{w64}
 use Rattle.arbitrary_base.proofs.storages.Primitive.{signed-from_bits}
-use Rattle.arbitrary_base.proofs.storage.bits64.I64Storage.from_storage_bits.Goals as goal
+use Rattle.arbitrary_base.proofs.storage.bits64.I64Storage.from_pattern.Goals as goal
 
 pub returns : goal.returns
 returns c =
