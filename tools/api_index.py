@@ -118,7 +118,7 @@ def page(rows):
     for crate in LIBRARIES:
         lines += [f'## {crate}', '']
         for file in files(crate):
-            found = [] if 'aliases' in str(file) else items(file)
+            found = [] if {'aliases', 'bits'} & set(file.parts) else items(file)
             if found:
                 path = file.relative_to(ROOT)
                 about = re.findall(r'^//! ?(.*)$', file.read_text(), re.M)

@@ -3,9 +3,9 @@
 
 Tells whether the short names `u1` to `u127` and `i1` to `i127` each stand for the type over the smallest primitive
 that has room, and whether `arbitrary_int` gives all of them at its root and in its prelude; whether each width from 1 to 128
-has its impl of `HasWidth`, and each from 8 on that of `FitsIn`; and whether `test_widths` asks for the ends of both types
-at each. With --write it writes the two files of names, the four of impls and the two of tests. 8, 16, 32 and 64 bits have
-no short name: they are primitives already.
+has its impl of `HasWidth`, and each from 8 on that of `FitsIn`; whether both types have the constant `BITS` at each; and
+whether `test_widths` asks for the ends of both types at each. With --write it writes the two files of names, the four of
+constants, the four of impls and the two of tests. 8, 16, 32 and 64 bits have no short name: they are primitives already.
 """
 import sys
 from pathlib import Path
@@ -30,6 +30,26 @@ def definitions(letter, name, module):
     ]
     for bits in WIDTHS:
         lines += ['', f'pub type {letter}{bits} = {name}<{letter}{storage(bits)}, {bits}>;']
+    return '\n'.join(lines) + '\n'
+
+
+def constants(letter, name, module, first, last):
+    """The file that gives one type its constant `BITS`, at the widths from the first to the last."""
+    lines = [
+        f'//! `BITS` of `{name}` at {first} to {last} bits, over the smallest primitive that has room. Each is a constant that the',
+        '//! compiler evaluates, for arrays, patterns and other constants too: one of a generic `impl` is not.',
+        '//! tools/short_names.py writes this file.',
+        '',
+        f'use crate::{module}::{name};',
+    ]
+    for bits in range(first, last + 1):
+        lines += [
+            '',
+            f'impl {name}<{letter}{storage(bits)}, {bits}> {{',
+            '    /// The width in bits.',
+            f'    pub const BITS: usize = {bits};',
+            '}',
+        ]
     return '\n'.join(lines) + '\n'
 
 
@@ -111,6 +131,9 @@ def main():
     core = CRATES / 'arbitrary_core/src'
     texts = {core / f'aliases/{module}.rt': definitions(letter, name, module) for letter, name, module in signs}
     texts |= {CRATES / f'test_widths/src/{module}.rt': ends(letter, name, module) for letter, name, module in signs}
+    for letter, name, module in signs:
+        texts[core / f'bits/{module}_to_64.rt'] = constants(letter, name, module, 1, 64)
+        texts[core / f'bits/{module}_to_128.rt'] = constants(letter, name, module, 65, 128)
     texts[core / 'widths/to_64.rt'] = room(1, 64)
     texts[core / 'widths/to_128.rt'] = room(65, 128)
     texts[core / 'widths/fits_to_64.rt'] = fits(8, 64)
