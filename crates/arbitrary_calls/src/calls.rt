@@ -2,6 +2,7 @@
 //! products with quotients and powers, shifts with rotations, and counts of bits. They require little, so that a caller's
 //! proof carries little: `FixedWidth`, with the operators and the laws of generic code, is above them.
 
+use crate::extraction::Extraction;
 use crate::low_bits::LowBits;
 use crate::stored::Stored;
 use counts::CountCalls;
@@ -15,6 +16,6 @@ pub mod shifts;
 pub mod sums;
 
 /// An integer of fixed width with all of its calls: `UInt` and `Int`.
-pub trait FixedWidthCalls: SumCalls + ProductCalls + ShiftCalls + CountCalls {}
+pub trait FixedWidthCalls: SumCalls + ProductCalls + ShiftCalls + CountCalls + Extraction {}
 
 impl<N: Stored + LowBits> FixedWidthCalls for N {}
