@@ -2,7 +2,6 @@
 pub mod UnsignedNumber
 pub mod Movement
 pub mod Count
-pub mod Field
 pub mod TwosComplement
 pub mod CodeOnPatterns
 pub mod SignBit

@@ -27,3 +27,4 @@ pub mod Order
 pub mod Cancellation
 pub mod KnownMask
 pub mod SignedOrder
+pub mod Assigned

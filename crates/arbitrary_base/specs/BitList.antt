@@ -43,7 +43,3 @@ shr l k f = drop k l ++ replicate k f
 -- what a right shift brings in: zeros, or the last item, which is the sign, where the type has one
 abbrev pub fill : Bool → List Bool → Bool
 fill s l = s && get_or l (length l - 1) false
-
--- l without its first k items, then these
-abbrev pub rotr : List Bool → ℕ → List Bool
-rotr l k = drop k l ++ take k l

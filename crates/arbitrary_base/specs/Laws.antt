@@ -1,5 +1,5 @@
 -- The laws of what wraps and of bit lists, as statements. `laws` proves them.
-use Rattle.std.specs.Prelude.{◌≡◌, ◌≢◌, ◌↔◌, ℕ, ℤ, Bool, List, Option, Some, None, pos, length, reverse, int_div, IsTrue, if◌then◌else◌, ◌∷◌, ◌||◌, ◌+◌, ◌≤◌, ◌<◌, ◌+ℤ◌, ◌-ℤ◌, ◌*ℤ◌, false, ◌^◌, ◌<ℤ◌, ◌*◌, map, not, take, drop, SomeIff}
+use Rattle.std.specs.Prelude.{◌≡◌, ◌≢◌, ◌↔◌, ℕ, ℤ, Bool, List, Option, Some, None, pos, length, reverse, int_div, IsTrue, if◌then◌else◌, ◌∷◌, ◌++◌, ◌||◌, ◌+◌, ◌≤◌, ◌<◌, ◌+ℤ◌, ◌-ℤ◌, ◌*ℤ◌, false, ◌^◌, ◌<ℤ◌, ◌*◌, map, not, take, drop, SomeIff}
 use Rattle.std.specs.Bool.{beq}
 use Rattle.std.specs.Ordering.{int_eq}
 use Rattle.arbitrary_base.specs.Range.{InRange, in_range, lo, hi}
@@ -7,7 +7,7 @@ use Rattle.arbitrary_base.specs.Residue.{Congruent, residue, wrap}
 use Rattle.arbitrary_base.specs.Field.{field}
 use Rattle.arbitrary_base.specs.Saturation.{clamp}
 use Rattle.std.specs.List.{fold, last_or, scan, slice_rotate_right, count_by, prefix_len, suffix_len}
-use Rattle.arbitrary_base.specs.BitList.{bits, val, bits_and, bits_or, bits_xor, shl, rotr, num}
+use Rattle.arbitrary_base.specs.BitList.{bits, val, bits_and, bits_or, bits_xor, shl, num}
 use Rattle.arbitrary_base.specs.Bytes.{bytes, bytes_number, BorshBytes, Canonical}
 
 -- ---- what `wrap` is
@@ -86,7 +86,7 @@ abbrev pub BitsOfValue : Type 0
 BitsOfValue = (s : Bool) (B : ℕ) (l : List Bool) → length l ≡ B → bits B (val s l) ≡ l
 
 abbrev pub RotationsUndo : Type 0
-RotationsUndo = (l : List Bool) (k : ℕ) → k ≤ length l → rotr (slice_rotate_right l k) k ≡ l
+RotationsUndo = (l : List Bool) (k : ℕ) → k ≤ length l → drop k (slice_rotate_right l k) ++ take k (slice_rotate_right l k) ≡ l
 
 abbrev pub ReversalUndoesItself : Type 0
 ReversalUndoesItself = (l : List Bool) → reverse (reverse l) ≡ l

@@ -4,9 +4,9 @@ pub mod Field
 pub mod Saturation
 pub mod BitList
 pub mod Operation
-pub mod BitField
 pub mod Power
 pub mod Order
+pub mod Assigned
 pub mod Watching
 pub mod Bytes
 pub mod Stream

@@ -1,8 +1,8 @@
 -- The operations on the numbers of a type, each as one word. The type is its sign s and its width B in bits.
-use Rattle.std.specs.Prelude.{ℕ, ℤ, Bool, reverse, ◌+ℤ◌, ◌-ℤ◌, ◌*ℤ◌, map, not}
+use Rattle.std.specs.Prelude.{ℕ, ℤ, Bool, reverse, ◌+ℤ◌, ◌-ℤ◌, ◌*ℤ◌, ◌++◌, map, not, drop, take}
 use Rattle.std.specs.List.{slice_rotate_right}
 use Rattle.arbitrary_base.specs.Residue.{wrap}
-use Rattle.arbitrary_base.specs.BitList.{bits, val, bits_and, bits_or, bits_xor, shl, shr, fill, rotr}
+use Rattle.arbitrary_base.specs.BitList.{bits, val, bits_and, bits_or, bits_xor, shl, shr, fill}
 
 -- ---- arithmetic that wraps
 
@@ -43,7 +43,7 @@ unfoldable pub rotated_left : Bool → ℕ → ℤ → ℕ → ℤ
 rotated_left s B x k = val s (slice_rotate_right (bits B x) k)
 
 unfoldable pub rotated_right : Bool → ℕ → ℤ → ℕ → ℤ
-rotated_right s B x k = val s (rotr (bits B x) k)
+rotated_right s B x k = val s (drop k (bits B x) ++ take k (bits B x))
 
 unfoldable pub reversed : Bool → ℕ → ℤ → ℤ
 reversed s B x = val s (reverse (bits B x))

@@ -1,5 +1,5 @@
 -- The residue of a number modulo 2 ^ B.
-use Rattle.std.specs.Prelude.{◌≡◌, ℕ, ℤ, Bool, true, false, pos, ◌+ℤ◌, ◌-ℤ◌, ◌*ℤ◌, ◌^◌, unsigned_abs}
+use Rattle.std.specs.Prelude.{◌≡◌, ℕ, ℤ, Bool, pos, ◌+ℤ◌, ◌-ℤ◌, ◌*ℤ◌, ◌^◌, unsigned_abs}
 use Rattle.std.specs.Int.{int_rem_euclid}
 use Rattle.arbitrary_base.specs.Range.{lo}
 
@@ -7,13 +7,6 @@ use Rattle.arbitrary_base.specs.Range.{lo}
 pub record Congruent (B : ℕ) (x y : ℤ) : Type 0 where
   pub times : ℤ
   pub apart : x -ℤ y ≡ times *ℤ pos (2 ^ B)
-
--- the same between two types of which at least one has a sign; of two without, nothing is said: there the low bits are a remainder
-abbrev pub SignedCongruent : Bool → Bool → ℕ → ℤ → ℤ → Type 0
-SignedCongruent false false B x y = Unit
-SignedCongruent false true B x y = Congruent B x y
-SignedCongruent true false B x y = Congruent B x y
-SignedCongruent true true B x y = Congruent B x y
 
 -- the number from 0 up to 2 ^ B - 1 that is congruent to x
 unfoldable pub residue : ℕ → ℤ → ℕ

@@ -1,6 +1,5 @@
 //! The laws of the definitions that the contracts cite. Each function proves its clauses, and does nothing.
 
-ghost use Rattle.arbitrary_base.specs.BitField.{PutSetsItsBits, PutKeepsOtherBits, FieldAfterPut, PutsSetTheirBits, PutsKeepOtherBits, FieldAfterPuts, PutsInAnyOrder, DisjointPutsCommute};
 ghost use Rattle.arbitrary_base.specs.Laws.{WrapIsInRange, WrapIsCongruent, WrapIsUnique, WrappedSumsCommute, WrappedSumsAssociate, WrappedProductsCommute, WrappedProductsAssociate, WrappedProductsDistribute, CheckedTellsOverflow, CheckedQuotientTellsOverflow, ValueOfBits, BitsOfValue, RotationsUndo, ReversalUndoesItself, OnesAddUp, FrontRunsFit, EndRunsFit, ExtractionComposes, SumsKeepLowBits, DifferencesKeepLowBits, ProductsKeepLowBits, AndKeepsLowBits, OrKeepsLowBits, XorKeepsLowBits, ComplementsKeepLowBits, LeftShiftsKeepLowBits, WrapKeeps, TestTellsRange, ClampKeeps, ClampEndsAbove, ClampEndsBelow, LengthOfBits, NumberOfBits, FieldIsExtracted, ByteReversalUndoesItself, ValueOfBytes, BytesAreUnique, BorshIsCanonical, ValueOfBorsh, BorshIsUnique, TotalIsTheLastPartial, NumberOfPattern, PatternOfNumber, BitsOfPattern};
 
 /// What `wrap` is: the one number of the type that is congruent modulo `2 ^ bits`.
@@ -69,20 +68,6 @@ pub fn low_bit_laws()
     ensures xor { XorKeepsLowBits }
     ensures complements { ComplementsKeepLowBits }
     ensures left_shifts { LeftShiftsKeepLowBits }
-{}
-
-/// A put into a word of 128 bits sets the bits of its field and keeps all others. So do puts to disjoint
-/// fields, in any order: each field reads as what was put there.
-#[tactic(auto, using(crate::proofs::bit_lists::Field::field_rules))]
-pub fn field_laws()
-    ensures put_sets { PutSetsItsBits }
-    ensures put_keeps { PutKeepsOtherBits }
-    ensures field_after_put { FieldAfterPut }
-    ensures puts_set { PutsSetTheirBits }
-    ensures puts_keep { PutsKeepOtherBits }
-    ensures field_after_puts { FieldAfterPuts }
-    ensures any_order { PutsInAnyOrder }
-    ensures puts_commute { DisjointPutsCommute }
 {}
 
 /// Reversing bytes twice leaves them. A number in range and its bytes tell each other, those of a stream too,

@@ -2,11 +2,11 @@
 //! lowest bit first: a number below `2 ^ width`. The calls on bits of both types stand on these (`fixed_width` of
 //! `arbitrary_calls`), and `bitwise` beside this file; shifts, which know a sign, stand in `shifts`.
 
-ghost use Rattle.std.specs.Prelude.{◌≡◌, ◌≤◌, ◌<◌, ◌%◌, ◌^◌, pos, false, true, reverse, map, not};
+ghost use Rattle.std.specs.Prelude.{◌≡◌, ◌≤◌, ◌<◌, ◌%◌, ◌^◌, ◌++◌, pos, false, true, reverse, map, not, drop, take};
 ghost use Rattle.std.specs.Bool.{beq};
 ghost use Rattle.std.specs.List.{slice_rotate_right, count_by, prefix_len, suffix_len};
 ghost use Rattle.std.specs.Int.{w64, w128, reverse_bits as reversed};
-ghost use Rattle.arbitrary_base.specs.BitList.{bits, num, bits_and, bits_or, bits_xor, rotr};
+ghost use Rattle.arbitrary_base.specs.BitList.{bits, num, bits_and, bits_or, bits_xor};
 
 use crate::shifts;
 use crate::truncation::low_mask;
@@ -69,7 +69,8 @@ pub fn rotate_right(pattern: u128, width: usize, amount: u32) -> u128
     requires low { 1 ≤ width }
     requires high { width ≤ 128 }
     requires fits { pattern < 2 ^ width }
-    ensures { result ≡ num (rotr (bits width (pos pattern)) (amount % width)) }
+    ensures { let list = bits width (pos pattern) in let places = amount % width in
+        result ≡ num (drop places list ++ take places list) }
 {
     let places = shifts::places(amount, width);
     if width == 128 && places == 0 {

@@ -3,4 +3,3 @@ pub use Rattle.arbitrary_base.specs.Range
 pub use Rattle.arbitrary_base.specs.Residue
 pub use Rattle.arbitrary_base.specs.Saturation
 pub use Rattle.arbitrary_base.specs.BitList
-pub mod GenericLaws

@@ -10,7 +10,7 @@ ghost use Rattle.arbitrary_base.specs.Operation.{bitwise_and, bitwise_not, bitwi
 ghost use Rattle.arbitrary_base.specs.BitList.{bits};
 ghost use Rattle.arbitrary_base.proofs.operations.Amount.{Amount, amount, none, rest};
 ghost use Rattle.arbitrary_base.proofs.operations.BitByBit.{Place};
-ghost use Rattle.arbitrary_calls.specs.GenericLaws.{BitSumLaws, ComplementLaws, CountLaws, MovedBitLaws, OrderLaws, ProductLaws, SumLaws};
+ghost use Rattle.arbitrary_core.specs.GenericLaws.{BitSumLaws, ComplementLaws, CountLaws, MovedBitLaws, OrderLaws, ProductLaws, SumLaws};
 
 use crate::calls::FixedWidthCalls;
 use arbitrary_traits::integer::Integer;

@@ -14,7 +14,6 @@ pub use Rattle.arbitrary_base.proofs.modular.Truncation
 pub use Rattle.arbitrary_base.proofs.modular.Residue
 pub use Rattle.arbitrary_base.proofs.bit_lists.UnsignedNumber
 pub use Rattle.arbitrary_base.proofs.bit_lists.TwosComplement
-pub use Rattle.arbitrary_base.proofs.bit_lists.Field
 pub use Rattle.arbitrary_base.proofs.bit_lists.ExtractedField
 pub use Rattle.arbitrary_base.proofs.bytes.NumberOfBytes
 pub use Rattle.arbitrary_base.proofs.bytes.StreamSteps

@@ -13,7 +13,6 @@ pub use Rattle.arbitrary_base.specs.Saturation
 pub use Rattle.arbitrary_base.specs.Power
 pub use Rattle.arbitrary_base.specs.BitList
 pub use Rattle.arbitrary_base.specs.Operation
-pub use Rattle.arbitrary_base.specs.BitField
 pub use Rattle.arbitrary_base.specs.Watching
 pub use Rattle.arbitrary_base.specs.Laws
 pub use Rattle.arbitrary_base.specs.Bytes

@@ -1,10 +1,11 @@
 -- Why a number can go from one type to another through its bits.
-use Rattle.std.specs.Prelude.{◌≡◌, ◌≤◌, ◌^◌, ◌<◌, ◌-◌, ◌≤ℤ◌, ◌%◌, ℕ, ℤ, Bool, true, false, pos, negsuc, unsigned_abs}
+use Rattle.std.specs.Prelude.{◌≡◌, ◌≤◌, ◌^◌, ◌<◌, ◌-◌, ◌||◌, ◌≤ℤ◌, ◌%◌, ℕ, ℤ, Bool, true, false, pos, negsuc, unsigned_abs}
+use Rattle.std.specs.Bool.{OnTrue}
 use Rattle.std.proofs.Common.{◌∙◌, ap, arith, subst}
 use Rattle.std.proofs.lemmas.Int.{ints}
 use Rattle.std.proofs.lemmas.Nat.{pow_pos}
 use Rattle.arbitrary_base.specs.Range.{InRange}
-use Rattle.arbitrary_base.specs.Residue.{Congruent, SignedCongruent, residue, wrap}
+use Rattle.arbitrary_base.specs.Residue.{Congruent, residue, wrap}
 use Rattle.arbitrary_base.proofs.modular.Congruence.{pow_le}
 use Rattle.arbitrary_base.proofs.modular.Truncation.{InRange-signed, wrap-residue}
 use Rattle.arbitrary_base.proofs.storages.Primitive.{residue-pos, wrap-pos}
@@ -19,11 +20,11 @@ pub ruleset conversions = (wrap-to_u128_bits)
 pub ruleset wider_types = (InRange-signed)
 
 -- a congruence between types of any signs is one where a sign has a part in it
-pub congruent-told : (s t : Bool) (B : ℕ) (x y : ℤ) → Congruent B x y → SignedCongruent s t B x y
-congruent-told false false B x y c = tt
-congruent-told false true B x y c = c
-congruent-told true false B x y c = c
-congruent-told true true B x y c = c
+pub congruent-signed : (s t : Bool) (B : ℕ) (x y : ℤ) → Congruent B x y → OnTrue (s || t) (Congruent B x y)
+congruent-signed false false B x y c = tt
+congruent-signed false true B x y c = c
+congruent-signed true false B x y c = c
+congruent-signed true true B x y c = c
 
 -- the truncation of x at a width that is known to be B
 pub wrap-at : (s : Bool) {W B : ℕ} (x : ℤ) {z : ℤ} → W ≡ B → z ≡ wrap s W x → z ≡ wrap s B x

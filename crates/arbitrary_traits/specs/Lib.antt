@@ -2,4 +2,3 @@
 pub use Rattle.arbitrary_base.specs.Range
 pub use Rattle.arbitrary_base.specs.Residue
 pub use Rattle.arbitrary_base.specs.BitList
-pub mod Assigned

@@ -8,7 +8,7 @@ ghost use Rattle.std.specs.Fmt.{signed_decimal};
 ghost use Rattle.arbitrary_base.specs.Range.{lo, hi, InRange};
 ghost use Rattle.arbitrary_base.specs.Residue.{wrap, Congruent};
 ghost use Rattle.arbitrary_base.specs.BitList.{bits, bits_and, bits_or, bits_xor, val};
-ghost use Rattle.arbitrary_traits.specs.Assigned.{IsAssigned};
+ghost use Rattle.arbitrary_base.specs.Assigned.{IsAssigned};
 
 use crate::numbered::Numbered;
 use arbitrary_base::error::TryNewError;

@@ -1,9 +1,10 @@
 //! The trait `Numbered`: the width, the sign and the number of a value, and the conversions between any two such types,
 //! each written once. It requires little, so that a caller's proof carries little: `Integer`, which has the operators, is above it.
 
-ghost use Rattle.std.specs.Prelude.{◌≡◌, ◌≤◌, ◌<◌, ◌%◌, ◌^◌, ℕ, ℤ, Bool, true, false, pos, not, unsigned_abs};
+ghost use Rattle.std.specs.Prelude.{◌≡◌, ◌≤◌, ◌<◌, ◌%◌, ◌^◌, ◌||◌, ℕ, ℤ, Bool, true, false, pos, not, unsigned_abs};
+ghost use Rattle.std.specs.Bool.{OnTrue};
 ghost use Rattle.arbitrary_base.specs.Range.{InRange};
-ghost use Rattle.arbitrary_base.specs.Residue.{residue, wrap, Congruent, SignedCongruent};
+ghost use Rattle.arbitrary_base.specs.Residue.{residue, wrap, Congruent};
 
 use arbitrary_base::storage::Sealed;
 
@@ -74,8 +75,8 @@ pub trait Numbered: Copy + Sealed {
         ensures congruent { (y : ℤ) → T.number value ≡ y → Congruent BITS (number result) y }
         ensures congruent_to { (y : ℤ) → BITS ≤ T.BITS
             → Congruent T.BITS (T.number value) y → Congruent BITS (number result) y }
-        ensures told { let given = T.number value in
-            SignedCongruent T.IS_SIGNED IS_SIGNED BITS (number result) given }
+        ensures congruent_signed { let given = T.number value in
+            OnTrue (T.IS_SIGNED || IS_SIGNED) (Congruent BITS (number result) given) }
         ensures range { InRange T.IS_SIGNED T.BITS (T.number value) }
         ensures width { T.valid }
     {
@@ -98,8 +99,8 @@ pub trait Numbered: Copy + Sealed {
         ensures congruent { (y : ℤ) → number self ≡ y → Congruent T.BITS (T.number result) y }
         ensures congruent_to { (y : ℤ) → T.BITS ≤ BITS
             → Congruent BITS (number self) y → Congruent T.BITS (T.number result) y }
-        ensures told { let given = number self in
-            SignedCongruent IS_SIGNED T.IS_SIGNED T.BITS (T.number result) given }
+        ensures congruent_signed { let given = number self in
+            OnTrue (IS_SIGNED || T.IS_SIGNED) (Congruent T.BITS (T.number result) given) }
         ensures range { InRange IS_SIGNED BITS (number self) }
         ensures width { valid }
     {

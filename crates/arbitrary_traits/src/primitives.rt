@@ -5,7 +5,7 @@ ghost use Rattle.std.specs.Ordering.{int_eq};
 ghost use Rattle.std.specs.Fmt.{signed_decimal};
 ghost use Rattle.arbitrary_base.specs.Range.{InRange};
 ghost use Rattle.arbitrary_base.specs.BitList.{bits, bits_and, bits_or, bits_xor, val};
-ghost use Rattle.arbitrary_traits.specs.Assigned.{IsAssigned};
+ghost use Rattle.arbitrary_base.specs.Assigned.{IsAssigned};
 
 use crate::integer::Integer;
 use crate::numbered::Numbered;

@@ -4,7 +4,7 @@ use Rattle.std.proofs.Common.{sym, subst, ◌∙◌}
 use Rattle.arbitrary_int.specs.Field.{field}
 use Rattle.arbitrary_int.specs.Residue.{Congruent, wrap}
 use Rattle.arbitrary_int.specs.BitList.{val}
-use Rattle.arbitrary_int.specs.BitField.{field_bits}
+use Rattle.bit_fields.specs.BitField.{field_bits}
 use Rattle.arbitrary_int.proofs.ExtractedField.{val-items, items-plain}
 use Rattle.arbitrary_int.proofs.Residue.{wrap-congruent}
 

@@ -1,3 +1,4 @@
+pub mod Placing
 pub mod Replacing
 pub mod Putting
 pub mod Getting

@@ -8,14 +8,14 @@ use Rattle.arbitrary_int.specs.Range.{InRange}
 use Rattle.arbitrary_int.specs.Residue.{Congruent, residue}
 use Rattle.arbitrary_int.specs.Field.{field}
 use Rattle.arbitrary_int.specs.BitList.{bits, num, val}
-use Rattle.arbitrary_int.specs.BitField.{field_bits, with_field}
+use Rattle.bit_fields.specs.BitField.{field_bits, with_field}
 use Rattle.arbitrary_int.proofs.Ring.{add-mul_z}
 use Rattle.arbitrary_int.proofs.Truncation.{masked-residue, residue-wrap}
 use Rattle.arbitrary_int.proofs.UnsignedNumber.{length-bits, num-bits_small}
 use Rattle.arbitrary_int.proofs.TwosComplement.{bits-residue, bits-val, val-bits_in_range}
 use Rattle.arbitrary_int.proofs.Residue.{residue-congruent, residue-lt, wrap-of_in_range}
 use Rattle.bit_fields.proofs.Replacing.{num-placed}
-use Rattle.arbitrary_int.proofs.Field.{field-put, field-put_above, field-put_below, length-field}
+use Rattle.bit_fields.proofs.Placing.{field-put, field-put_above, field-put_below, length-field}
 
 -- the low bits of a number's 128 are its residue
 pub masked-is : (width p mask : ℕ) (x : ℤ) → (1 ≤ width) × (width ≤ 128) → p ≡ residue 128 x → mask + 1 ≡ 2 ^ width → bit_and p mask ≡ residue width x

@@ -5,7 +5,7 @@ use Rattle.std.proofs.lemmas.Nat.{pow_pos, and_block, or_block, or_shifted, and_
 use Rattle.std.specs.Int.Bits.{and_zero_r, or_zero_r}
 use Rattle.arbitrary_int.specs.BitList.{bits, num}
 use Rattle.arbitrary_int.proofs.UnsignedNumber.{length-bits, num-bits_small, num-append, num-take, num-drop}
-use Rattle.arbitrary_int.specs.BitField.{with_field}
+use Rattle.bit_fields.specs.BitField.{with_field}
 
 -- the number of a list with another in its middle
 pub num-placed : (r s k v : ℕ) → r < 2 ^ 128 → s + k ≤ 128 → v < 2 ^ k

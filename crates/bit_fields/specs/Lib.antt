@@ -1,1 +1,1 @@
-pub mod HasNumber
+pub mod BitField

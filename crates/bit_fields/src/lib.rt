@@ -2,15 +2,16 @@
 #![tactic(auto)]
 
 ghost use Rattle.std.specs.Prelude.{◌≡◌, ◌+◌, ◌/◌, ◌%◌, ◌≤◌, ◌<◌, ◌^◌, ◌↔◌, ℕ, false, pos, IsTrue};
-ghost use Rattle.arbitrary_int.specs.BitField.{AreDisjoint, field_bits, with_field};
 ghost use Rattle.arbitrary_int.specs.BitList.{bits as bits_of, val};
 ghost use Rattle.arbitrary_int.specs.Field.{field};
 ghost use Rattle.arbitrary_int.specs.Range.{InRange};
 ghost use Rattle.arbitrary_int.specs.Residue.{residue, Congruent};
-ghost use Rattle.bit_fields.specs.HasNumber.{HasNumber};
+ghost use Rattle.bit_fields.specs.BitField.{AreDisjoint, HasNumber, field_bits, with_field};
 
+use arbitrary_base::truncation::low_mask;
 use arbitrary_int::traits::Numbered;
 
+pub mod laws;
 #[cfg(test)]
 mod vectors;
 
@@ -58,18 +59,6 @@ impl Record {
             → field_bits self.new.bits other width ≡ field_bits self.old.bits other width }
     {
         self.bits = replaced(self.bits, start, F::BITS, bits_alone(value));
-    }
-}
-
-/// The pattern whose low `count` bits are one.
-fn low_mask(count: usize) -> u128
-    requires { count ≤ 128 }
-    ensures { result + 1 ≡ 2 ^ count }
-{
-    if count == 128 {
-        u128::MAX
-    } else {
-        (1 << count) - 1
     }
 }
 

@@ -10,7 +10,7 @@
 //! | 0 to 7   | source address     | `u8`  |
 
 ghost use Rattle.std.specs.Prelude.{◌≡◌, pos, false};
-ghost use Rattle.arbitrary_int.specs.BitField.{field_bits};
+ghost use Rattle.bit_fields.specs.BitField.{field_bits};
 ghost use Rattle.arbitrary_int.specs.BitList.{val};
 
 use arbitrary_int::prelude::*;

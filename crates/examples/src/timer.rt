@@ -2,7 +2,7 @@
 //! reserved bits stay as they are.
 
 ghost use Rattle.std.specs.Prelude.{◌≡◌, pos, false};
-ghost use Rattle.arbitrary_int.specs.BitField.{field_bits};
+ghost use Rattle.bit_fields.specs.BitField.{field_bits};
 ghost use Rattle.arbitrary_int.specs.BitList.{val};
 
 use crate::register::Control;

@@ -10,9 +10,9 @@ use Rattle.std.proofs.lemmas.List.{length-replicate, length-reverse, reverse-app
 use Rattle.std.specs.Int.{reverse_bits_onto}
 use Rattle.std.specs.Int.Bits.{bit_and, bit_or, bit_xor, and_mask, or_shifted, or_shifted_r, xor_add_and}
 use Rattle.std.specs.Int.Count.{ones as count_ones, count_trailing_zeros, count_leading_zeros}
-use Rattle.arbitrary_base.specs.BitList.{bits, num, bits_and, bits_or, bits_xor, rotr}
+use Rattle.arbitrary_base.specs.BitList.{bits, num, bits_and, bits_or, bits_xor}
 use Rattle.arbitrary_base.proofs.bit_lists.UnsignedNumber.{length-bits, same_length, length-not, num-bits_small, bits-num_of, num-lt_of, same_num, num-not, num-and, num-or, num-xor, num-append, num-zeros}
-use Rattle.arbitrary_base.proofs.bit_lists.Movement.{num-reverse_onto, num-reverse_zeros, num-rotl, num-rotr, shl-mod}
+use Rattle.arbitrary_base.proofs.bit_lists.Movement.{num-reverse_onto, num-reverse_zeros, num-rotl, num-rotr, shl-mod, rotr}
 use Rattle.arbitrary_base.proofs.bit_lists.Count.{popcount-num, trailing-num, leading-num, leading-wide, front-append, front-not, tail-not}
 
 -- m is the pattern of w ones: this is what `truncation::low_mask` says of its result

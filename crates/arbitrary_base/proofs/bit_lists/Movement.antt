@@ -6,8 +6,12 @@ use Rattle.std.proofs.Math.Nat.{pow-suc, mul-mod_left}
 use Rattle.std.proofs.Math.Pow.{mod-pow-add, shl-shr}
 use Rattle.std.proofs.lemmas.List.{length-replicate, length-reverse, reverse-append, take_at, drop_at, drop-take, map-append, drop-map}
 use Rattle.std.specs.Int.{reverse_bits_onto}
-use Rattle.arbitrary_base.specs.BitList.{num, shl, shr, rotr}
+use Rattle.arbitrary_base.specs.BitList.{num, shl, shr}
 use Rattle.arbitrary_base.proofs.bit_lists.UnsignedNumber.{digit, num-append, num-zeros, num-take, num-drop, cons-mod, cons-div}
+
+-- l without its first k items, then these
+abbrev pub rotr : List Bool → ℕ → List Bool
+rotr l k = drop k l ++ take k l
 
 -- ---- lengths
 

@@ -4,9 +4,9 @@ use Rattle.std.specs.Bool.{beq}
 use Rattle.std.specs.List.{zip, slice_rotate_right}
 use Rattle.std.proofs.Common.{refl, sym, ap, ap₂, ◌∙◌, arith, length-drop}
 use Rattle.std.proofs.lemmas.List.{length-reverse, map-append, take-map, drop-map}
-use Rattle.arbitrary_base.specs.BitList.{bits_and, bits_or, bits_xor, shl, shr, rotr}
+use Rattle.arbitrary_base.specs.BitList.{bits_and, bits_or, bits_xor, shl, shr}
 use Rattle.arbitrary_base.proofs.bit_lists.UnsignedNumber.{length-not}
-use Rattle.arbitrary_base.proofs.bit_lists.Movement.{reverse-cons}
+use Rattle.arbitrary_base.proofs.bit_lists.Movement.{reverse-cons, rotr}
 
 -- `bits_and`, `bits_or` and `bits_xor` are this
 abbrev pub pointwise : (Bool → Bool → Bool) → List Bool → List Bool → List Bool

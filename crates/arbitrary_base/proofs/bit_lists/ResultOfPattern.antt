@@ -4,13 +4,13 @@ use Rattle.std.specs.List.{slice_rotate_right}
 use Rattle.std.proofs.Common.{arith, refl, ap, sym, ◌∙◌, length-drop}
 use Rattle.std.proofs.lemmas.List.{length-reverse, take-append-le}
 use Rattle.arbitrary_base.specs.Residue.{residue, wrap}
-use Rattle.arbitrary_base.specs.BitList.{bits, num, val, bits_and, bits_or, bits_xor, shl, shr, rotr}
+use Rattle.arbitrary_base.specs.BitList.{bits, num, val, bits_and, bits_or, bits_xor, shl, shr}
 use Rattle.arbitrary_base.proofs.modular.Congruence.{Congruent-sym, Congruent-trans, Congruent-mul_left, Congruent-narrower}
 use Rattle.arbitrary_base.proofs.modular.Residue.{residue-congruent, wrap-same}
 use Rattle.arbitrary_base.proofs.storages.Primitive.{mod-congruent}
 use Rattle.arbitrary_base.proofs.storages.CheckedSum.{wrap-wrap}
 use Rattle.arbitrary_base.proofs.bit_lists.UnsignedNumber.{length-bits, length-and, length-or, length-xor, length-not, num-take, num-drop}
-use Rattle.arbitrary_base.proofs.bit_lists.Movement.{length-rotl, length-rotr, length-shr, length-items}
+use Rattle.arbitrary_base.proofs.bit_lists.Movement.{length-rotl, length-rotr, length-shr, length-items, rotr}
 use Rattle.arbitrary_base.proofs.bit_lists.Count.{popcount-fit, front-fits, tail-fits}
 use Rattle.arbitrary_base.proofs.bit_lists.TwosComplement.{num-bits_residue, bits-residue, bits-val, val-num}
 use Rattle.arbitrary_base.proofs.bit_lists.SignBit.{val-shl}

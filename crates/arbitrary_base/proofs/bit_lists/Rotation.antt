@@ -5,8 +5,8 @@ use Rattle.std.specs.List.{slice_rotate_right}
 use Rattle.std.proofs.Common.{refl, sym, ap, ap₂, ◌∙◌, arith, length-drop, take-append-drop, take-take}
 use Rattle.std.proofs.lemmas.List.{append_assoc, append-nil, drop-append-le, drop-drop, drop-replicate, length-replicate, length-reverse, length-take-le, replicate-append-replicate, reverse-append, reverse-reverse, take-append-le, take-replicate}
 use Rattle.std.proofs.Math.Seq.{drop-append_seam, drop-length, take-add, take-append-add, take-append_seam, take-length}
-use Rattle.arbitrary_base.specs.BitList.{bits_and, bits_or, shl, shr, rotr}
-use Rattle.arbitrary_base.proofs.bit_lists.Movement.{length-rotr, length-rotl, length-shl, length-shr, reverse-cons}
+use Rattle.arbitrary_base.specs.BitList.{bits_and, bits_or, shl, shr}
+use Rattle.arbitrary_base.proofs.bit_lists.Movement.{length-rotr, length-rotl, length-shl, length-shr, reverse-cons, rotr}
 use Rattle.arbitrary_base.proofs.bit_lists.Pointwise.{append-pointwise, or-comm, or-zeros, and-zeros, and-ones}
 
 -- ---- rotations

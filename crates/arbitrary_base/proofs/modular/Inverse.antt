@@ -8,11 +8,11 @@ use Rattle.std.proofs.lemmas.Int.{ints}
 use Rattle.std.proofs.lemmas.List.{length-reverse, reverse-reverse, take_at, drop_at}
 use Rattle.arbitrary_base.specs.Range.{InRange}
 use Rattle.arbitrary_base.specs.Residue.{wrap}
-use Rattle.arbitrary_base.specs.BitList.{bits, val, bits_xor, rotr}
+use Rattle.arbitrary_base.specs.BitList.{bits, val, bits_xor}
 use Rattle.arbitrary_base.proofs.modular.Congruence.{Congruent-refl, Congruent-add}
 use Rattle.arbitrary_base.proofs.modular.Residue.{wrap-congruent, wrap-of_in_range, wrap-same}
 use Rattle.arbitrary_base.proofs.bit_lists.UnsignedNumber.{length-bits, same_length, length-xor}
-use Rattle.arbitrary_base.proofs.bit_lists.Movement.{length-rotl, length-rotr, rotr-rotl}
+use Rattle.arbitrary_base.proofs.bit_lists.Movement.{length-rotl, length-rotr, rotr-rotl, rotr}
 use Rattle.arbitrary_base.proofs.bit_lists.TwosComplement.{bits-val, val-bits_in_range}
 use Rattle.arbitrary_base.proofs.modular.ExactOrCongruent.{wrapped-congruent}
 

@@ -9,7 +9,8 @@ use Rattle.std.proofs.lemmas.Int.{ints}
 use Rattle.std.proofs.lemmas.List.{append-nil, drop_all, reverse-reverse, take_all}
 use Rattle.arbitrary_base.specs.Range.{InRange}
 use Rattle.arbitrary_base.specs.Residue.{Congruent, wrap}
-use Rattle.arbitrary_base.specs.BitList.{bits, val, fill, rotr}
+use Rattle.arbitrary_base.specs.BitList.{bits, val, fill}
+use Rattle.arbitrary_base.proofs.bit_lists.Movement.{rotr}
 use Rattle.arbitrary_base.specs.Operation.{bitwise_and, bitwise_not, bitwise_or, bitwise_xor, reversed, rotated_left, rotated_right, shifted_left, shifted_right, wrapped_difference, wrapped_product, wrapped_sum}
 use Rattle.arbitrary_base.proofs.bit_lists.Rotation.{rotl-none, shl-none, shr-none}
 use Rattle.arbitrary_base.proofs.bit_lists.TwosComplement.{val-bits}

@@ -8,10 +8,10 @@ use Rattle.std.proofs.lemmas.List.{length-reverse}
 use Rattle.std.proofs.lemmas.Nat.{pow_pos}
 use Rattle.arbitrary_base.specs.Range.{InRange}
 use Rattle.arbitrary_base.specs.Residue.{Congruent, wrap}
-use Rattle.arbitrary_base.specs.BitList.{bits, val, bits_and, bits_or, bits_xor, fill, rotr, shl, shr}
+use Rattle.arbitrary_base.specs.BitList.{bits, val, bits_and, bits_or, bits_xor, fill, shl, shr}
 use Rattle.arbitrary_base.specs.Operation.{bitwise_and, bitwise_or, bitwise_xor, bitwise_not, reversed, rotated_left, rotated_right, shifted_left, shifted_right, wrapped_difference, wrapped_product, wrapped_sum}
 use Rattle.arbitrary_base.proofs.bit_lists.UnsignedNumber.{length-bits, length-not, same_length}
-use Rattle.arbitrary_base.proofs.bit_lists.Movement.{length-rotl, length-rotr, length-shl, length-shr, replicate-not}
+use Rattle.arbitrary_base.proofs.bit_lists.Movement.{length-rotl, length-rotr, length-shl, length-shr, replicate-not, rotr}
 use Rattle.arbitrary_base.proofs.bit_lists.TwosComplement.{bits-val, bits-congruent, bits-negsuc, val-bits_in_range, val-num}
 use Rattle.arbitrary_base.proofs.modular.Residue.{wrap-in_range}
 use Rattle.arbitrary_base.proofs.bit_lists.Pointwise.{pointwise, length-pointwise}

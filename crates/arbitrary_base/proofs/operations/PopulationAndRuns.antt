@@ -7,11 +7,11 @@ use Rattle.std.proofs.Common.{refl, sym, ap, ◌∙◌, arith, take-append-drop}
 use Rattle.std.proofs.lemmas.List.{reverse-reverse}
 use Rattle.std.proofs.lemmas.List.Sums.{sum_by-append}
 use Rattle.arbitrary_base.specs.Range.{InRange}
-use Rattle.arbitrary_base.specs.BitList.{bits, val, bits_and, bits_or, rotr}
+use Rattle.arbitrary_base.specs.BitList.{bits, val, bits_and, bits_or}
 use Rattle.arbitrary_base.specs.Operation.{bitwise_and, bitwise_not, bitwise_or, reversed, rotated_left, rotated_right}
 use Rattle.arbitrary_base.proofs.bit_lists.Count.{front-not, popcount-cons, popcount-not, tail-not}
 use Rattle.arbitrary_base.proofs.bit_lists.UnsignedNumber.{digit, length-bits, same_length}
-use Rattle.arbitrary_base.proofs.bit_lists.Movement.{reverse-cons}
+use Rattle.arbitrary_base.proofs.bit_lists.Movement.{reverse-cons, rotr}
 use Rattle.arbitrary_base.proofs.operations.Definition.{bits-and, bits-highest, bits-minus_one, bits-not, bits-not_zero, bits-or, bits-reversed, bits-rotl, bits-rotr, bits-zero, of-bits, zero-is}
 use Rattle.arbitrary_base.proofs.bit_lists.Pointwise.{and-comm, not-not}
 use Rattle.arbitrary_base.proofs.bit_lists.Rotation.{reverse-alike}

@@ -5,13 +5,13 @@ use Rattle.std.specs.Bool.{beq}
 use Rattle.std.proofs.Common.{sym, ap, ap₂, ◌∙◌, arith}
 use Rattle.std.proofs.lemmas.List.{drop-replicate, length-replicate, replicate-append-replicate, reverse-reverse, take-replicate}
 use Rattle.arbitrary_base.specs.Range.{InRange}
-use Rattle.arbitrary_base.specs.BitList.{bits, bits_and, bits_or, bits_xor, rotr, shl, shr}
+use Rattle.arbitrary_base.specs.BitList.{bits, bits_and, bits_or, bits_xor, shl, shr}
 use Rattle.arbitrary_base.specs.Operation.{bitwise_and, bitwise_not, bitwise_or, bitwise_xor, reversed, rotated_left, rotated_right, shifted_left, shifted_right}
 use Rattle.arbitrary_base.proofs.bit_lists.UnsignedNumber.{length-bits, same_length}
 use Rattle.arbitrary_base.proofs.bit_lists.Pointwise.{not-reverse, not-rotl, not-rotr, reverse-pointwise, rotl-pointwise, rotr-pointwise}
 use Rattle.arbitrary_base.proofs.bit_lists.Rotation.{reverse-alike, reverse-rotl, reverse-rotr, reverse-shl, reverse-shr, rotl-long, rotl-none, rotl-shifts, rotl-short, rotr-as_rotl, rotr-long, rotr-none, rotr-short}
 use Rattle.arbitrary_base.proofs.modular.Inverse.{rotl-rotr}
-use Rattle.arbitrary_base.proofs.bit_lists.Movement.{rotr-rotl}
+use Rattle.arbitrary_base.proofs.bit_lists.Movement.{rotr-rotl, rotr}
 use Rattle.arbitrary_base.proofs.operations.Definition.{and-is, or-is, xor-is, not-is, left-is, right-is, rotl-is, rotr-is, reversed-is, bits-and, bits-highest, bits-left, bits-minus_one, bits-not, bits-not_zero, bits-or, bits-reversed, bits-right, bits-rotl, bits-rotr, bits-xor, bits-zero, by-bits, of-bits, minus_one-in_range, not-in_range, zero-in_range}
 
 -- ---- rotations one after the other

@@ -1,11 +1,11 @@
 //! Shifts, rotations and reversal of the bits of integers of fixed width.
 
-ghost use Rattle.std.specs.Prelude.{◌≡◌, ◌↔◌, ◌≤◌, ◌<◌, ◌-◌, ◌*◌, ◌%◌, ◌^◌, ◌≤ℤ◌, ◌<ℤ◌, ◌+ℤ◌, ◌*ℤ◌, ℤ, pos, unsigned_abs, IsTrue, IsNone, IfSome, false, int_div, reverse, Some};
+ghost use Rattle.std.specs.Prelude.{◌≡◌, ◌↔◌, ◌≤◌, ◌<◌, ◌-◌, ◌*◌, ◌%◌, ◌^◌, ◌≤ℤ◌, ◌<ℤ◌, ◌+ℤ◌, ◌*ℤ◌, ◌++◌, ℤ, pos, unsigned_abs, IsTrue, IsNone, IfSome, false, int_div, reverse, drop, take, Some};
 ghost use Rattle.std.specs.List.{slice_rotate_right};
 ghost use Rattle.arbitrary_base.specs.Range.{InRange};
 ghost use Rattle.arbitrary_base.specs.Residue.{Congruent};
 ghost use Rattle.arbitrary_base.specs.Operation.{reversed, rotated_left, rotated_right, shifted_left, shifted_right};
-ghost use Rattle.arbitrary_base.specs.BitList.{bits, val, fill, rotr, shl, shr};
+ghost use Rattle.arbitrary_base.specs.BitList.{bits, val, fill, shl, shr};
 
 use crate::low_bits::LowBits;
 use crate::stored::Stored;
@@ -183,7 +183,7 @@ pub trait ShiftCalls: Stored + LowBits {
             number result ≡ rotated_right Self.IS_SIGNED Self.BITS (number self) places }
         ensures value { let places = amount % Self.BITS in
             (y : ℤ) → Self.number self ≡ y → let list = bits Self.BITS y in
-            Self.number result ≡ val Self.IS_SIGNED (rotr list places) }
+            Self.number result ≡ val Self.IS_SIGNED (drop places list ++ take places list) }
         ensures undo { let number = Self.number in let places = amount % Self.BITS in
             rotated_left Self.IS_SIGNED Self.BITS (number result) places ≡ number self }
         ensures round { amount % Self.BITS ≡ 0 → Self.number result ≡ Self.number self }

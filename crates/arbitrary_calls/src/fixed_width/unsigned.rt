@@ -15,7 +15,7 @@ ghost use Rattle.arbitrary_base.proofs.operations.OperatorOrder.{and-at_most, an
 ghost use Rattle.arbitrary_core.proofs.UnsignedQuotient.{quotient-in_range};
 ghost use Rattle.arbitrary_core.proofs.SingleBits.{and-one, one-moved, rest-is_complement};
 ghost use Rattle.arbitrary_core.proofs.EndOfTwo.{greater-at_least, lesser-at_most};
-ghost use Rattle.arbitrary_calls.specs.GenericLaws.{bit_sums-hold, complements-hold, counts-hold, moved_bits-hold, orders-hold, products-hold, sums-hold};
+ghost use Rattle.arbitrary_core.proofs.GenericLaws.{bit_sums-hold, complements-hold, counts-hold, moved_bits-hold, orders-hold, products-hold, sums-hold};
 
 use crate::fixed_width::FixedWidth;
 use arbitrary_base::storage::{BuiltinInteger, SignedOf, UnsignedOf, UnsignedStorage};

@@ -5,7 +5,7 @@ ghost use Rattle.std.specs.Prelude.{refl};
 ghost use Rattle.std.specs.Int.{IsInRange};
 ghost use Rattle.std.proofs.Common.{le_trans};
 ghost use Rattle.std.proofs.lemmas.Nat.{pow_below};
-ghost use Rattle.arbitrary_traits.specs.Assigned.{all_assigned};
+ghost use Rattle.arbitrary_base.proofs.operations.Assigned.{all_assigned};
 
 use crate::signed::Int;
 use crate::unsigned::UInt;

@@ -3,7 +3,7 @@ use Rattle.std.specs.Prelude.{◌≡◌, ℕ, ℤ, false, pos, ◌++◌, length,
 use Rattle.std.proofs.Common.{ap, ◌∙◌, arith, length-take}
 use Rattle.arbitrary_base.specs.Range.{InRange}
 use Rattle.arbitrary_base.specs.BitList.{bits, num}
-use Rattle.arbitrary_base.specs.BitField.{with_field}
+use Rattle.bit_fields.specs.BitField.{with_field}
 use Rattle.arbitrary_base.proofs.bit_lists.UnsignedNumber.{length-bits, num-append, num-take, num-drop, num-zeros}
 use Rattle.arbitrary_base.proofs.bit_lists.StdBitwise.{num-plain}
 use Rattle.arbitrary_base.proofs.operations.Definition.{bits-zero}

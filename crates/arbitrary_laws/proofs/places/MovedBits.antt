@@ -12,10 +12,10 @@ use Rattle.std.proofs.lemmas.Grind.{low_zeros}
 use Rattle.std.proofs.lemmas.List.{get_or-append_right, get_or-drop, get_or-map, get_or-replicate, get_or-take, get_or_append_left, length-replicate}
 use Rattle.arbitrary_base.specs.Range.{InRange}
 use Rattle.arbitrary_base.specs.Residue.{wrap}
-use Rattle.arbitrary_base.specs.BitList.{bits, fill, rotr, shl, shr, val}
+use Rattle.arbitrary_base.specs.BitList.{bits, fill, shl, shr, val}
 use Rattle.arbitrary_base.specs.Operation.{bitwise_or, rotated_left, rotated_right, shifted_left, shifted_right}
 use Rattle.arbitrary_base.proofs.modular.Residue.{wrap-in_range}
-use Rattle.arbitrary_base.proofs.bit_lists.Movement.{length-rotl, length-rotr, length-shl, length-shr}
+use Rattle.arbitrary_base.proofs.bit_lists.Movement.{length-rotl, length-rotr, length-shl, length-shr, rotr}
 use Rattle.arbitrary_base.proofs.bit_lists.TwosComplement.{bits-negsuc, bits-wrap, val-num}
 use Rattle.arbitrary_base.proofs.bit_lists.UnsignedNumber.{length-bits}
 use Rattle.arbitrary_base.proofs.operations.Definition.{bits-left, bits-right, bits-rotl, bits-rotr, left-is, right-is, rotl-is, rotr-is}

@@ -6,9 +6,9 @@ use Rattle.std.proofs.lemmas.Bool.Decides.{Decides-int_eq}
 use Rattle.std.proofs.lemmas.Int.{ints}
 use Rattle.arbitrary_base.specs.Range.{InRange}
 use Rattle.arbitrary_base.specs.Residue.{wrap}
-use Rattle.arbitrary_base.specs.BitList.{bits, bits_and, fill, rotr, shr}
+use Rattle.arbitrary_base.specs.BitList.{bits, bits_and, fill, shr}
 use Rattle.arbitrary_base.specs.Operation.{bitwise_and, bitwise_not, bitwise_or, bitwise_xor, reversed, rotated_right, shifted_left, shifted_right}
-use Rattle.arbitrary_base.proofs.bit_lists.Movement.{length-rotr, length-shr}
+use Rattle.arbitrary_base.proofs.bit_lists.Movement.{length-rotr, length-shr, rotr}
 use Rattle.arbitrary_base.proofs.bit_lists.Pointwise.{and-zeros, cons}
 use Rattle.arbitrary_base.proofs.bit_lists.UnsignedNumber.{length-bits}
 use Rattle.arbitrary_base.proofs.operations.Bitwise.{and-distributes_or, and-distributes_xor, bitwise_and-commutes}

@@ -5,9 +5,9 @@ use Rattle.std.specs.List.{slice_rotate_right}
 use Rattle.std.proofs.Common.{inl, inr, sym, ap, ◌∙◌, arith}
 use Rattle.std.proofs.lemmas.Bool.{cases_lt}
 use Rattle.std.proofs.lemmas.Bool.Decides.{Decides-int_eq}
-use Rattle.arbitrary_base.specs.BitList.{bits, rotr}
+use Rattle.arbitrary_base.specs.BitList.{bits}
 use Rattle.arbitrary_base.specs.Operation.{rotated_left, rotated_right}
-use Rattle.arbitrary_base.proofs.bit_lists.Movement.{length-rotr}
+use Rattle.arbitrary_base.proofs.bit_lists.Movement.{length-rotr, rotr}
 use Rattle.arbitrary_base.proofs.bit_lists.Rotation.{rotr-long, rotr-short}
 use Rattle.arbitrary_base.proofs.bit_lists.UnsignedNumber.{length-bits}
 use Rattle.arbitrary_base.proofs.operations.Cancellation.{right_rotations-equal}

@@ -5,7 +5,8 @@ use Rattle.std.specs.Prelude.{◌≡◌, ℕ, ℤ, Bool, List, reverse, ◌≤�
 use Rattle.std.specs.List.{slice_rotate_right}
 use Rattle.std.proofs.Common.{sym, ap, ◌∙◌}
 use Rattle.std.proofs.lemmas.Bool.Decides.{Decides-int_eq}
-use Rattle.arbitrary_base.specs.BitList.{bits, rotr, val}
+use Rattle.arbitrary_base.specs.BitList.{bits, val}
+use Rattle.arbitrary_base.proofs.bit_lists.Movement.{rotr}
 use Rattle.arbitrary_base.specs.Residue.{wrap}
 use Rattle.arbitrary_base.specs.Operation.{bitwise_and, bitwise_not, bitwise_or, bitwise_xor, reversed, rotated_left, rotated_right, shifted_left, wrapped_difference, wrapped_product, wrapped_sum}
 use Rattle.arbitrary_base.proofs.modular.LowBitOperation.{low-and, low-difference, low-not, low-or, low-product, low-shl, low-sum, low-xor, wrap-wide}

@@ -11,9 +11,9 @@ use Rattle.std.proofs.lemmas.List.{length-reverse}
 use Rattle.std.proofs.lemmas.Nat.{pow_pos}
 use Rattle.arbitrary_base.specs.Range.{lo, hi}
 use Rattle.arbitrary_base.specs.Residue.{Congruent, wrap}
-use Rattle.arbitrary_base.specs.BitList.{bits, num, val, bits_and, bits_or, bits_xor, rotr, shl}
+use Rattle.arbitrary_base.specs.BitList.{bits, num, val, bits_and, bits_or, bits_xor, shl}
 use Rattle.arbitrary_base.specs.Operation.{bitwise_and, bitwise_not, bitwise_or, bitwise_xor, reversed, rotated_left, rotated_right, shifted_left, shifted_right}
-use Rattle.arbitrary_base.proofs.bit_lists.Movement.{length-rotl, length-rotr, num-reverse_onto, num-rotl, num-rotr}
+use Rattle.arbitrary_base.proofs.bit_lists.Movement.{length-rotl, length-rotr, num-reverse_onto, num-rotl, num-rotr, rotr}
 use Rattle.arbitrary_base.proofs.bit_lists.SignBit.{val-shl, val-shr}
 use Rattle.arbitrary_base.proofs.bit_lists.TwosComplement.{bits-congruent, num-bits_residue, val-num}
 use Rattle.arbitrary_base.proofs.bit_lists.UnsignedNumber.{length-and, length-bits, length-not, length-or, length-xor, num-and, num-bits, num-not, num-or, num-xor, same_length}

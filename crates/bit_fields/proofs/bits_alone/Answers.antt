@@ -7,7 +7,7 @@ use Rattle.bit_fields.proofs.bits_alone.Goals as goal
 pub returns-then-IS_SIGNED-clause-value : goal.returns-then-IS_SIGNED-clause-value
 returns-then-IS_SIGNED-clause-value g c =
     masked-is g.F.Numbered.BITS c.to_u128_bits-pattern.result c.low_mask.result (g.F.Numbered.number c.args.value) (g.met.F.Numbered.width_law c.to_u128_bits-pattern.ensures.width)
-    c.to_u128_bits-pattern.ensures.value (c.low_mask.ensures ∙ ap (λ (n : ℕ). 2 ^ n) c.BITS.ensures)
+    c.to_u128_bits-pattern.ensures.value (c.low_mask.ensures.value ∙ ap (λ (n : ℕ). 2 ^ n) c.BITS.ensures)
 
 pub returns-else-IS_SIGNED-clause-value : goal.returns-else-IS_SIGNED-clause-value
 returns-else-IS_SIGNED-clause-value g c =

@@ -1,5 +1,6 @@
 use Rattle.std.proofs.Common.{◌∙◌, ℕ, sym, ap, pos}
-use Rattle.arbitrary_base.specs.BitList.{bits, num, rotr}
+use Rattle.arbitrary_base.specs.BitList.{bits, num}
+use Rattle.arbitrary_base.proofs.bit_lists.Movement.{rotr}
 use Rattle.arbitrary_base.proofs.bit_lists.CodeOnPatterns.{rotr_pattern, rotr_pattern_zero}
 use Rattle.arbitrary_base.proofs.patterns.rotate_right.Goals as goal
 

@@ -5,7 +5,7 @@ use Rattle.arbitrary_base.specs.Residue.{Congruent}
 use Rattle.arbitrary_base.proofs.modular.Congruence.{Congruent-narrower, Congruent-trans}
 use Rattle.arbitrary_base.proofs.modular.ExactOrCongruent.{wrapped-congruent, wrapped-exact}
 use Rattle.arbitrary_base.proofs.modular.Truncation.{InRange-of_unsigned, InRange-wider}
-use Rattle.arbitrary_traits.proofs.Conversion.{congruent-told, low-of_unsigned, wrap-to_u128_bits}
+use Rattle.arbitrary_traits.proofs.Conversion.{congruent-signed, low-of_unsigned, wrap-to_u128_bits}
 use Rattle.arbitrary_traits.proofs.numbered.Numbered.masked_new.Goals as goal
 
 pub returns : goal.returns
@@ -30,7 +30,7 @@ returns g c =
       other_sign = λ d. congruent;
       congruent = λ y d. subst (λ (z : ℤ). Congruent B (g.Self.Numbered.number c.from_u128_bits.result) z) d congruent;
       congruent_to = λ y l d. Congruent-trans B _ x y congruent (Congruent-narrower B A x y l d);
-      told = congruent-told g.T.Numbered.IS_SIGNED s B _ _ congruent;
+      congruent_signed = congruent-signed g.T.Numbered.IS_SIGNED s B _ _ congruent;
       range = c.to_u128_bits.ensures.range;
       width = c.to_u128_bits.ensures.width;
     }

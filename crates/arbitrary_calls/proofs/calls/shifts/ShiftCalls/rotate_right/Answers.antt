@@ -1,6 +1,7 @@
 use Rattle.std.specs.Prelude.{◌≡◌, pos, ◌%◌, ◌≤◌, ℤ}
 use Rattle.std.proofs.Common.{ap, arith, sym, ◌∙◌, subst}
-use Rattle.arbitrary_base.specs.BitList.{bits, num, rotr, val}
+use Rattle.arbitrary_base.specs.BitList.{bits, num, val}
+use Rattle.arbitrary_base.proofs.bit_lists.Movement.{rotr}
 use Rattle.arbitrary_base.specs.Operation.{rotated_right}
 use Rattle.arbitrary_base.proofs.bit_lists.ResultOfPattern.{rotr-value}
 use Rattle.arbitrary_base.proofs.modular.Inverse.{rotl-undoes}

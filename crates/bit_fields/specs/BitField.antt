@@ -1,8 +1,7 @@
--- Fields in a word of 128 bits, and lists of puts into such fields: the contracts of `bit_fields` cite these. `Field` has the number
--- of one field of a word.
-use Rattle.std.specs.Prelude.{◌≡◌, ℕ, ◌+◌, ◌-◌, ◌≤◌, ◌<◌, ◌^◌, Bool, false, List, [], ◌∷◌, length, take, drop, get_or, pos, All, AllPairs, Contains, IsPermutation}
+-- Fields in a word of 128 bits, and lists of puts into such fields. `Field` of `arbitrary_base` has the number of one field of a word.
+use Rattle.std.specs.Prelude.{◌≡◌, ℕ, ◌+◌, ◌-◌, ◌≤◌, ◌<◌, ◌^◌, ℤ, Bool, false, List, [], ◌∷◌, length, take, drop, get_or, pos, All, AllPairs, Contains, IsPermutation}
 use Rattle.std.specs.List.{fold, replace_range}
-use Rattle.arbitrary_base.specs.BitList.{bits, num}
+use Rattle.arbitrary_int.specs.BitList.{bits, num, val}
 
 -- the bits of the field that begins at bit `start` and is `width` bits wide
 unfoldable pub field_bits : ℕ → ℕ → ℕ → List Bool
@@ -11,6 +10,10 @@ field_bits word start width = take width (drop start (bits 128 (pos word)))
 -- the word whose 128 bits are those of this one, with l in the places from start on
 unfoldable pub with_field : ℕ → ℕ → List Bool → ℕ
 with_field word start l = num (replace_range (bits 128 (pos word)) start (start + length l) l)
+
+-- the field of `width` bits from bit `start` on has this number; s is whether the field has a sign
+abbrev pub HasNumber : Bool → ℕ → ℕ → ℕ → ℤ → Type 0
+HasNumber s word start width x = val s (field_bits word start width) ≡ x
 
 unfoldable pub bit_of : ℕ → ℕ → Bool
 bit_of word i = get_or (bits 128 (pos word)) i false

@@ -6,9 +6,9 @@ use Rattle.std.proofs.lemmas.List.{get_or_append_left, get_or-append_right, get_
 use Rattle.std.proofs.lemmas.List.Elements.{All-nil, All-cons, All-head, All-tail, All-get_or}
 use Rattle.std.proofs.lemmas.List.Sorted.{All-permutation, Contains-permutation}
 use Rattle.std.proofs.lemmas.Bool.{cases_lt, cases_order}
-use Rattle.arbitrary_base.specs.BitList.{bits, num}
-use Rattle.arbitrary_base.specs.BitField.{field_bits, with_field, bit_of, IsInField, AreDisjoint, Put, IsInBounds, after_puts}
-use Rattle.arbitrary_base.proofs.bit_lists.UnsignedNumber.{length-bits, bits-num_of, num-lt_of, num-bits_small}
+use Rattle.arbitrary_int.specs.BitList.{bits, num}
+use Rattle.bit_fields.specs.BitField.{field_bits, with_field, bit_of, IsInField, AreDisjoint, Put, IsInBounds, after_puts}
+use Rattle.arbitrary_int.proofs.UnsignedNumber.{length-bits, bits-num_of, num-lt_of, num-bits_small}
 use Rattle.arbitrary_base.proofs.bit_lists.Movement.{length-items, items-items}
 
 -- ---- a list in the middle of another
