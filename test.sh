@@ -1,5 +1,5 @@
 #!/usr/bin/env bash
-# Checks the short names, the words, the examples of the documents, the count of the definitions and bitrun.sh, then proves, tests and runs
+# Checks the names, the twins, the words, the examples of the documents, the count of the definitions and bitrun.sh, then proves, tests and runs
 # everything, and tries each edit that must be refused. Beside that it runs the program with each growth of memory refused in turn. Then it
 # runs the program on damaged and on random inputs, as both compilers have just built it, and tries further wrong bodies. Before the last
 # line it prints what all that took.
@@ -7,6 +7,8 @@ set -euo pipefail
 unset CDPATH
 cd -- "$(dirname -- "$0")"
 python3 tools/short_names.py
+python3 tools/names.py
+python3 tools/twins.py
 # the pages: their links, pictures, index of public items, words and sets of laws
 python3 tools/links.py
 python3 tools/charts.py
@@ -15,7 +17,6 @@ python3 tools/glossary.py
 python3 tools/document_examples.py
 python3 tools/find_set.py --listed
 python3 tools/believed.py
-python3 tools/believed_apart.py
 python3 tools/bitrun_cases.py
 log="$(mktemp)"
 spent="$(mktemp)"

@@ -2,9 +2,9 @@
 """believed.py [--words] [--write]
 
 Counts the lines that a reader of the contracts must believe: the definitions in specs/ that the contracts of the libraries'
-public items cite, and those of the program's `serve` and `Fault`, then the definitions that these cite, and so on. Comments,
-blank lines and imports are not counted. With --words it prints every word, its lines, and where it stands. It fails where
-docs/ARCHITECTURE.md gives another figure; with --write it writes the figure there.
+public items cite, then the definitions that these cite, and so on; and how many more those of `bit_fields` take, and of the
+program's `serve` and `Fault`. Comments, blank lines and imports are not counted. With --words it prints every word, its lines,
+and where it stands. It fails where docs/ARCHITECTURE.md gives another figure; with --write it writes the figures there.
 
 What is proved need not be believed: lemmas, and the statements of laws, which are words without arguments whose type is
 `Type 0`, or groups of laws, whose names end in `Laws`. Nor need the words that only the contracts inside a crate cite.
@@ -15,6 +15,7 @@ from pathlib import Path
 
 ROOT = Path(__file__).resolve().parent.parent
 LIBRARIES = ['arbitrary_base', 'arbitrary_traits', 'arbitrary_core', 'arbitrary_calls', 'arbitrary_int']
+FIELDS = 'bit_fields'
 # Of the modules of the program and of its library, those whose contracts speak of what it does as a whole.
 PROGRAM = [ROOT / 'crates' / name for name in ['bitrun_service/src/serving.rt', 'bitrun_text/src/fault.rt']]
 WORD = re.compile(r'[^\s(){}\[\],.;:]+')
@@ -86,12 +87,8 @@ def contracts(file):
     return set(WORD.findall('\n'.join(said)))
 
 
-def main():
-    known = {}
-    for crate in LIBRARIES + ['bitrun_text', 'bitrun_service']:
-        for file in sorted((ROOT / 'crates' / crate / 'specs').rglob('*.antt')):
-            known |= {(file, name): lines for name, lines in definitions(file).items()}
-    sources = PROGRAM + [file for crate in LIBRARIES for file in (ROOT / 'crates' / crate / 'src').rglob('*.rt')]
+def cited_by(known, sources):
+    """The definitions that the contracts of these files cite, and those that these cite in turn."""
     cited = {key for file in sources for key in meant(known, file, contracts(file))}
     todo = list(cited)
     while todo:
@@ -99,20 +96,33 @@ def main():
         more = meant(known, key[0], WORD.findall('\n'.join(known[key]))) - cited
         cited |= more
         todo += more
-    count = {'believed': 0, 'proved': 0, 'inside': 0}
-    for key, lines in known.items():
-        kind = 'proved' if is_proved(lines) else 'believed' if key in cited else 'inside'
-        count[kind] += len(lines)
-        if '--words' in sys.argv[1:]:
+    return {key for key in cited if not is_proved(known[key])}
+
+
+def main():
+    known = {}
+    for crate in LIBRARIES + [FIELDS, 'bitrun_text', 'bitrun_service']:
+        for file in sorted((ROOT / 'crates' / crate / 'specs').rglob('*.antt')):
+            known |= {(file, name): lines for name, lines in definitions(file).items()}
+    library = cited_by(known, [file for crate in LIBRARIES for file in (ROOT / 'crates' / crate / 'src').rglob('*.rt')])
+    fields = cited_by(known, (ROOT / 'crates' / FIELDS / 'src').rglob('*.rt')) - library
+    program = cited_by(known, PROGRAM) - library - fields
+    kinds = {'library': library, 'fields': fields, 'program': program}
+    if '--words' in sys.argv[1:]:
+        for key, lines in known.items():
+            kind = next((kind for kind, keys in kinds.items() if key in keys), 'proved' if is_proved(lines) else 'inside')
             print(f'{kind:9}{len(lines):3}  {key[0].relative_to(ROOT)}  {key[1]}')
-    print(f'{count["believed"]} lines must be believed; {count["proved"]} are of what is proved, {count["inside"]} are used inside a crate')
+    counts = [sum(len(known[key]) for key in keys) for keys in kinds.values()]
+    print(f'{counts[0]} lines must be believed, {counts[1]} more for `bit_fields`, and {counts[2]} more for the program')
     page = ROOT / 'docs/ARCHITECTURE.md'
-    figure = re.compile(r'\b\d+(?= lines must be believed)')
-    stated = figure.sub(str(count['believed']), page.read_text())
+    stated = text = page.read_text()
+    figures = [r'\b\d+(?= lines must be believed)', r'\b\d+(?= more for `bit_fields`)', r'\b\d+(?= more for the program)']
+    for figure, count in zip(figures, counts):
+        stated = re.sub(figure, str(count), stated)
     if '--write' in sys.argv[1:]:
         page.write_text(stated)
-    elif stated != page.read_text() or not figure.search(stated):
-        print(f'{page}: gives another figure; write it by tools/believed.py --write')
+    elif stated != text or not all(re.search(figure, text) for figure in figures):
+        print(f'{page}: gives other figures; write them by tools/believed.py --write')
         return 1
     return 0
 

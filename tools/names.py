@@ -1,0 +1,64 @@
+#!/usr/bin/env python3
+"""names.py
+
+Checks names and widths. A module of specs/ has the name of the module of src/ whose contracts cite it, but for the words of several
+modules, which SHARED lists. A folder of proofs/ that answers the goals of a module has its name, so none is left of a module that is
+gone. No line of a clause is longer than 100 columns. It prints each that differs, and how many.
+"""
+import re
+import sys
+from pathlib import Path
+
+CRATES = Path(__file__).resolve().parent.parent / 'crates'
+COLUMNS = 100
+# the words of several modules, or of a crate above
+SHARED = {
+    'arbitrary_base': ['Range', 'Residue', 'Field', 'BitList', 'Operation', 'Assigned', 'Order'],
+    'arbitrary_core': ['GenericLaws'],
+    'arbitrary_int': ['GenericLaws'],
+    'bit_fields': ['BitField'],
+}
+LIBRARIES = ['arbitrary_base', 'arbitrary_traits', 'arbitrary_core', 'arbitrary_calls', 'arbitrary_int', 'bit_fields']
+CLAUSE = re.compile(r'\s*(requires|ensures)\b')
+
+
+def snake(name):
+    return re.sub(r'(?<!^)(?=[A-Z])', '_', name).lower()
+
+
+def misnamed(crate):
+    """The modules of specs/ and the folders of proofs/ that no module of src/ has the name of."""
+    modules = [file.relative_to(CRATES / crate / 'src').with_suffix('') for file in (CRATES / crate / 'src').rglob('*.rt')]
+    names = {module.name for module in modules}
+    for file in sorted((CRATES / crate / 'specs').glob('*.antt')):
+        if file.stem != 'Lib' and snake(file.stem) not in names and file.stem not in SHARED.get(crate, []):
+            yield f'{file}: src/ has no module `{snake(file.stem)}`'
+    for name in SHARED.get(crate, []):
+        if not (CRATES / crate / 'specs' / f'{name}.antt').exists():
+            yield f'tools/names.py: {crate} has no words {name}'
+    for file in sorted((CRATES / crate / 'proofs').rglob('Answers.antt')):
+        parts = file.relative_to(CRATES / crate / 'proofs').parts
+        top = (CRATES / crate / 'src/lib.rt').read_text()
+        if parts[0] not in {module.parts[0] for module in modules} and not re.search(rf'\b(fn|struct|trait|impl) {parts[0]}\b', top):
+            yield f'{file}: src/ has no module or item `{parts[0]}`'
+
+
+def too_long(file):
+    """The lines of clauses that are longer than they may be."""
+    depth = 0
+    for number, line in enumerate(file.read_text().splitlines(), 1):
+        if CLAUSE.match(line) or depth > 0:
+            depth = max(0, depth + line.count('{') - line.count('}'))
+            if len(line) > COLUMNS:
+                yield f'{file}:{number}: {len(line)} columns'
+
+
+def main():
+    wrong = [line for crate in LIBRARIES for line in misnamed(crate)]
+    wrong += [line for file in sorted(CRATES.glob('*/src/**/*.rt')) for line in too_long(file)]
+    print('\n'.join(line.replace(f'{CRATES.parent}/', '') for line in wrong) or 'names: as they should be')
+    return 1 if wrong else 0
+
+
+if __name__ == '__main__':
+    sys.exit(main())
