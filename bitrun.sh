@@ -1,7 +1,7 @@
 #!/usr/bin/env bash
-# Runs bitrun on standard input, and gives its output and its status. It is proved and built first, where that is not
-# done or a source has changed since: standard error shows how that goes. Where it can't be had, the status is 1, and
-# the last line on standard error says why.
+# Runs bitrun on standard input, with its output and its status. It is proved and built first, unless that is done and no
+# source has changed since: standard error shows the progress. If that fails, the status is 1, and the last line on standard
+# error says why.
 set -euo pipefail
 # With CDPATH set, `cd` looks elsewhere, and prints where it went.
 unset CDPATH
@@ -16,7 +16,7 @@ stop() {
     exit 1
 }
 
-# Each source, with the moment at which it last changed or came here. A file that is edited while it is read has another one.
+# Each source with its time of change, so that an edit during the build is noticed.
 sources() {
     (cd "$here" && find crates.txt crates -name out -prune -o -type f \( -name '*.rt' -o -name '*.antt' -o -name crates.txt \) \
         -printf '%p %C@ %i\n' | LC_ALL=C sort)
@@ -27,15 +27,15 @@ is_built() {
 }
 
 prove_and_build() {
-    command -v rt >/dev/null || stop "bitrun is still to be proved and built, and there is no rt on the PATH to do it with"
+    command -v rt >/dev/null || stop "bitrun is not built yet, and there is no rt on the PATH to prove and build it"
     mkdir -p "$out"
     exec {lock}>"$out/bitrun.lock"
-    flock -n "$lock" || stop "another bitrun.sh is proving and building bitrun right now; try again when it is done"
+    flock -n "$lock" || stop "another bitrun.sh is proving bitrun now; try again when it is done"
     local now
     now="$(sources)"
-    echo "bitrun.sh: proving and building bitrun first, which takes ten to thirty minutes in a fresh clone, and less after that" >&2
+    "$here/prove.sh" bitrun >&2 || stop "bitrun is not proved: the lines above say why"
     # `rt run` builds and then runs: on this input, with status 0.
-    (cd "$here/crates/bitrun" && rt run <<<$'run u7\n' >/dev/null) || stop "bitrun was not proved and built: rt says why, above"
+    (cd "$here/crates/bitrun" && rt run <<<$'run u7\n' >/dev/null) || stop "bitrun was not built: rt says why, above"
     printf '%s\n' "$now" >"$built_from"
     exec {lock}>&-
 }

@@ -50,9 +50,10 @@ python3 tools/wrong_bodies.py --some 4 \
     arbitrary_core/{order_is_that_of_the_bits,text_is_that_of_the_bits,valid_width_is_constant} \
     arbitrary_core/{default_of_a_signed_type_is_its_minimum,saturated_sum_by_the_trait_wraps} \
     arbitrary_core/{greatest_number_by_the_trait_is_one_too_small_at_full_widths,greater_number_is_that_of_the_bits} \
-    arbitrary_core/{greatest_constant_is_half_as_great,least_constant_is_the_greatest,zero_test_is_negated} \
+    arbitrary_constants/{greatest_constant_is_half_as_great,least_constant_is_the_greatest,mask_constant_lacks_the_highest_bit} \
+    arbitrary_core/zero_test_is_negated \
     arbitrary_core/{wider_number_is_its_negation,wider_number_loses_its_highest_bit} \
-    arbitrary_core/{mask_constant_lacks_the_highest_bit,sum_of_many_leaves_out_the_first} \
+    arbitrary_core/sum_of_many_leaves_out_the_first \
     arbitrary_core/{saturated_difference_by_the_trait_is_a_sum,wrapped_difference_of_num_traits_is_turned} \
     arbitrary_int/{every_list_is_well_formed,no_list_is_well_formed,negation_step_saturates,tells_the_place_after} \
     arbitrary_int/undoes_an_earlier_step_at_a_stop \

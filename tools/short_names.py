@@ -63,8 +63,8 @@ def room(first, last):
         '',
         'ghost use Rattle.std.proofs.Common.{lit≤, le_trans};',
         '',
-        'use crate::widths::HasWidth;',
-        f'use crate::widths::room::{traits[0] if len(traits) == 1 else "{" + ", ".join(traits) + "}"};',
+        'use crate::HasWidth;',
+        f'use crate::room::{traits[0] if len(traits) == 1 else "{" + ", ".join(traits) + "}"};',
     ]
     for bits in range(first, last + 1):
         law = f'T.room_{storage(bits)}_law'
@@ -91,8 +91,8 @@ def fits(first, last):
         '',
         'ghost use Rattle.std.proofs.Common.{lit≤, le_trans};',
         '',
-        'use crate::widths::FitsIn;',
-        f'use crate::widths::most::{{{", ".join(traits)}}};',
+        'use crate::FitsIn;',
+        f'use crate::most::{{{", ".join(traits)}}};',
     ]
     for bits in range(first, last + 1):
         law = f'T.most_{widest(bits)}_law'
@@ -135,10 +135,10 @@ def main():
     for letter, name, module in signs:
         texts[core / f'bits/{module}_to_64.rt'] = constants(letter, name, module, 1, 64)
         texts[core / f'bits/{module}_to_128.rt'] = constants(letter, name, module, 65, 128)
-    texts[core / 'widths/to_64.rt'] = room(1, 64)
-    texts[core / 'widths/to_128.rt'] = room(65, 128)
-    texts[core / 'widths/fits_to_64.rt'] = fits(8, 64)
-    texts[core / 'widths/fits_to_128.rt'] = fits(65, 128)
+    texts[CRATES / 'arbitrary_widths/src/to_64.rt'] = room(1, 64)
+    texts[CRATES / 'arbitrary_widths/src/to_128.rt'] = room(65, 128)
+    texts[CRATES / 'arbitrary_widths/src/fits_to_64.rt'] = fits(8, 64)
+    texts[CRATES / 'arbitrary_widths/src/fits_to_128.rt'] = fits(65, 128)
     for file, text in texts.items():
         if '--write' in sys.argv[1:]:
             file.write_text(text)

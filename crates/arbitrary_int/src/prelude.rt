@@ -41,12 +41,12 @@ pub use arbitrary_core::aliases::unsigned::{
     u101, u102, u103, u104, u105, u106, u107, u108, u109, u110, u111, u112, u113, u114, u115, u116,
     u117, u118, u119, u120, u121, u122, u123, u124, u125, u126, u127,
 };
-pub use arbitrary_core::constants::Constants;
+pub use arbitrary_constants::Constants;
+pub use arbitrary_constants::valid::ValidWidth;
 pub use arbitrary_core::signed::Int;
 pub use arbitrary_core::unsigned::UInt;
-pub use arbitrary_core::widths::valid::ValidWidth;
-pub use arbitrary_core::widths::{FitsIn, HasWidth};
 pub use arbitrary_traits::counterparts::{SignedCounterpart, UnsignedCounterpart};
 pub use arbitrary_traits::integer::{Integer, SignedInteger, UnsignedInteger};
 pub use arbitrary_traits::numbered::Numbered;
 pub use arbitrary_traits::shift_amount::ShiftAmount;
+pub use arbitrary_widths::{FitsIn, HasWidth};

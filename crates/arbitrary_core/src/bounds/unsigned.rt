@@ -7,7 +7,7 @@ ghost use Rattle.arbitrary_base.proofs.storages.CheckedSum.{in_range-of_wrap, wr
 ghost use Rattle.arbitrary_base.proofs.storages.RangeEnds.{bounds, low_fits, high_fits, saturates};
 
 use crate::unsigned::UInt;
-use crate::widths::HasWidth;
+use arbitrary_widths::HasWidth;
 use arbitrary_base::ends::{highest, is_zero, lowest};
 use arbitrary_base::saturating;
 use arbitrary_base::storage::UnsignedStorage;

@@ -6,7 +6,7 @@ ghost use Rattle.arbitrary_base.specs.Range.{InRange};
 
 use crate::conversions::signed::stored;
 use crate::signed::Int;
-use crate::widths::HasWidth;
+use arbitrary_widths::HasWidth;
 use arbitrary_base::storage::{BuiltinInteger, SignedStorage, UnsignedOf};
 
 /// The number, in another storage that has room for its width.

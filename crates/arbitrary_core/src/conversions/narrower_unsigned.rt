@@ -6,7 +6,7 @@ ghost use Rattle.arbitrary_base.specs.Range.{InRange};
 
 use crate::conversions::unsigned::stored;
 use crate::unsigned::UInt;
-use crate::widths::HasWidth;
+use arbitrary_widths::HasWidth;
 use arbitrary_base::storage::UnsignedStorage;
 
 /// The number, in another storage that has room for its width.

@@ -6,7 +6,7 @@ ghost use Rattle.std.specs.Prelude.{◌≡◌, pos, false};
 ghost use Rattle.arbitrary_base.specs.Range.{InRange};
 
 use crate::unsigned::UInt;
-use crate::widths::{FitsIn, HasWidth};
+use arbitrary_widths::{FitsIn, HasWidth};
 use arbitrary_base::storage::UnsignedStorage;
 use arbitrary_base::truncation::cast;
 

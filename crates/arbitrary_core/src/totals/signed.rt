@@ -6,7 +6,7 @@ ghost use Rattle.arbitrary_base.specs.Range.{InRange};
 
 use crate::signed::Int;
 use crate::totals::{Total, product_from, sum_from};
-use crate::widths::HasWidth;
+use arbitrary_widths::HasWidth;
 use arbitrary_base::storage::{BuiltinInteger, SignedStorage, UnsignedOf};
 use arbitrary_base::truncation::from_low_bits;
 use std::iter::{Product, Sum};

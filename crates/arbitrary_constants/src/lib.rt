@@ -1,13 +1,15 @@
-//! The constants of an integer type under their names in the Rust crate: `u7::MAX` is what `u7::max_value()` gives.
+//! The constants of an integer type under their names in the Rust crate: `u7::MAX` is what `u7::max_value()` returns.
+#![tactic(auto)]
 
 ghost use Rattle.std.specs.Prelude.{◌≡◌, ◌-ℤ◌, ◌^◌, false, pos};
 ghost use Rattle.arbitrary_base.specs.Range.{lo, hi};
 
-use crate::widths::valid::ValidWidth;
+use crate::valid::ValidWidth;
 
 pub mod primitives;
 pub mod signed;
 pub mod unsigned;
+pub mod valid;
 
 /// An integer type of a valid width, with its constants: `UInt` and `Int` at each width from 1 to that of their storage,
 /// and the primitives.

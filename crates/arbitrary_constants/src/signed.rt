@@ -5,11 +5,11 @@ ghost use Rattle.std.proofs.Common.{true≢false};
 ghost use Rattle.std.specs.Int.{IsInRange};
 ghost use Rattle.arbitrary_base.specs.Range.{lo, hi};
 
-use crate::constants::Constants;
-use crate::signed::Int;
-use crate::widths::HasWidth;
+use crate::Constants;
 use arbitrary_base::storage::{BuiltinInteger, SignedStorage, UnsignedOf};
 use arbitrary_base::truncation::low_mask;
+use arbitrary_core::signed::Int;
+use arbitrary_widths::HasWidth;
 
 /// The number 0, of its bits: all are zero.
 const fn zero<T: BuiltinInteger + SignedStorage, const BITS: usize>(

@@ -3,8 +3,8 @@
 
 ghost use Rattle.std.proofs.Common.{lit≤, le_trans};
 
-use crate::widths::FitsIn;
-use crate::widths::most::{AtMost64, AtMost128};
+use crate::FitsIn;
+use crate::most::{AtMost64, AtMost128};
 
 impl<T: AtMost64> FitsIn<65> for T {
     ghost fits_law = { le_trans T.most_64_law (lit≤ tt) };

@@ -1,5 +1,6 @@
-//! The widths that a storage has room for, shown by a trait: so a function with no argument, as std's `default`, can make
-//! a value of every type that has one. `to_64` and `to_128` have the impls, over `room`; `valid` has the same of an integer type.
+//! The widths that a storage has room for, shown by a trait. So a function without arguments, as std's `default`, can make a value of
+//! every valid type. `to_64` and `to_128` have the impls of `HasWidth`, over `room`; `fits_to_64` and `fits_to_128` those of `FitsIn`.
+#![tactic(auto)]
 
 ghost use Rattle.std.specs.Prelude.{◌≤◌};
 ghost use Rattle.std.specs.Int.{IsInRange};
@@ -12,7 +13,6 @@ pub mod most;
 pub mod room;
 pub mod to_128;
 pub mod to_64;
-pub mod valid;
 
 /// The storage has room for `B` bits: each does for every `B` from 1 to its own width, and for no other.
 pub trait HasWidth<const B: usize>: Storage {

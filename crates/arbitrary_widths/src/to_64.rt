@@ -3,8 +3,8 @@
 
 ghost use Rattle.std.proofs.Common.{lit≤, le_trans};
 
-use crate::widths::HasWidth;
-use crate::widths::room::{AtLeast8, AtLeast16, AtLeast32, AtLeast64};
+use crate::HasWidth;
+use crate::room::{AtLeast8, AtLeast16, AtLeast32, AtLeast64};
 
 impl<T: AtLeast8> HasWidth<1> for T {
     ghost valid_law = { (lit≤ tt, le_trans (lit≤ tt) T.room_8_law) };

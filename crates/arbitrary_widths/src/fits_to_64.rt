@@ -3,8 +3,8 @@
 
 ghost use Rattle.std.proofs.Common.{lit≤, le_trans};
 
-use crate::widths::FitsIn;
-use crate::widths::most::{AtMost8, AtMost16, AtMost32, AtMost64};
+use crate::FitsIn;
+use crate::most::{AtMost8, AtMost16, AtMost32, AtMost64};
 
 impl<T: AtMost8> FitsIn<8> for T {
     ghost fits_law = { T.most_8_law };

@@ -6,13 +6,13 @@ ghost use Rattle.arbitrary_base.specs.Range.{lo, hi};
 ghost use Rattle.arbitrary_base.proofs.storages.RangeEnds.{ends-in_order};
 ghost use Rattle.std.proofs.Common.{rules};
 
-use crate::signed::Int;
-use crate::unsigned::UInt;
-use crate::widths::HasWidth;
 use arbitrary_base::storage::{
     BuiltinInteger, SignedOf, SignedStorage, UnsignedOf, UnsignedStorage,
 };
+use arbitrary_core::signed::Int;
+use arbitrary_core::unsigned::UInt;
 use arbitrary_traits::integer::Integer;
+use arbitrary_widths::HasWidth;
 
 /// An integer type of a valid width: `UInt` and `Int` at each width from 1 to that of their storage, and the primitives.
 /// With this bound `V::zero()`, `V::new(..)` and what else requires a valid width need no `requires` of their own.

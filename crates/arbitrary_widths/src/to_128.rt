@@ -3,8 +3,8 @@
 
 ghost use Rattle.std.proofs.Common.{lit≤, le_trans};
 
-use crate::widths::HasWidth;
-use crate::widths::room::AtLeast128;
+use crate::HasWidth;
+use crate::room::AtLeast128;
 
 impl<T: AtLeast128> HasWidth<65> for T {
     ghost valid_law = { (lit≤ tt, le_trans (lit≤ tt) T.room_128_law) };

@@ -6,10 +6,10 @@ ghost use Rattle.std.proofs.lemmas.Nat.{pow_pos};
 ghost use Rattle.arbitrary_base.specs.Range.{lo, hi};
 ghost use Rattle.arbitrary_base.proofs.modular.Truncation.{low_mask-number};
 
-use crate::constants::Constants;
-use crate::unsigned::UInt;
-use crate::widths::HasWidth;
+use crate::Constants;
 use arbitrary_base::truncation::low_mask;
+use arbitrary_core::unsigned::UInt;
+use arbitrary_widths::HasWidth;
 
 impl<const BITS: usize> Constants for UInt<u8, BITS>
 where
