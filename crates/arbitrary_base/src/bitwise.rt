@@ -1,4 +1,4 @@
-//! The bitwise operators at `bits` bits.
+//! The bitwise operators at `bits` bits, as functions over a storage. `bitwise` of `arbitrary_core` calls them for `& | ^ !` of the types.
 
 ghost use Rattle.std.specs.Prelude.{◌≡◌, ◌≤◌, map, not};
 ghost use Rattle.arbitrary_base.specs.Range.{InRange};

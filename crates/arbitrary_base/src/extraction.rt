@@ -1,4 +1,4 @@
-//! A number out of the middle of another's bits.
+//! A number out of the middle of another's bits, as a function over storages. `extraction` of `arbitrary_calls` has the call on the types.
 
 ghost use Rattle.std.specs.Prelude.{◌≡◌, ◌≤◌, ◌+◌, take, drop};
 ghost use Rattle.arbitrary_base.specs.Range.{InRange};

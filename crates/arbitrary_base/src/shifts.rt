@@ -1,4 +1,5 @@
-//! Shifts at `bits` bits, by an amount below `bits`.
+//! Shifts at `bits` bits, by an amount below `bits`, as functions over a storage. `shifting` of `arbitrary_core` calls them for `<<` and
+//! `>>` of the types, and `calls::shifts` of `arbitrary_calls` has the calls that take any amount.
 
 ghost use Rattle.std.specs.Prelude.{◌≡◌, ◌≤◌, ◌<◌, ◌%◌};
 ghost use Rattle.arbitrary_base.specs.Range.{InRange};

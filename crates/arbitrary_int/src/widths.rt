@@ -1,4 +1,4 @@
-//! Lists of steps on wide registers of which the low bits are wanted.
+//! Lists of steps on wide registers of which the low bits are wanted. `widths` of `arbitrary_core` is about the widths of a storage.
 
 ghost use Rattle.std.specs.Prelude.{◌≡◌, ◌<◌, ◌≤◌, map, length, Ok, All};
 ghost use Rattle.arbitrary_int.specs.Widths.{IsLowBit};

@@ -17,6 +17,7 @@ use arbitrary_base::{checked, overflowing, saturating};
 /// `clamp` of it the type's number that is nearest.
 pub trait SumCalls: Stored + LowBits {
     /// The sum, wrapped.
+    // On the low bits, which an `Int` stores, so neither number is made first. `+` adds the numbers, of which its condition speaks.
     final fn wrapping_add(self, rhs: Self) -> Self
         ensures operation { let number = Self.number in
             number result ≡ wrapped_sum Self.IS_SIGNED Self.BITS (number self) (number rhs) }
