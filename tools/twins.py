@@ -24,8 +24,8 @@ SIGNS = [
     (r'\.to_bits\(\)', '.value()'), (r'\bNumber::from_bits\(', 'Number::new('),
 ]
 PAIRS = [f'arbitrary_core/src/{module}' for module in [
-    'bitwise/', 'bounds/', 'comparisons/', 'constants/', 'conversions/', 'conversions/narrower_', 'formats/', 'hashing/', 'integer/',
-    'numeric/', 'operators/', 'radix/', 'shifting/', 'totals/', '']] + ['arbitrary_calls/src/fixed_width/']
+    'bitwise/', 'bounds/', 'comparisons/', 'conversions/', 'conversions/narrower_', 'formats/', 'hashing/', 'integer/',
+    'numeric/', 'operators/', 'radix/', 'shifting/', 'totals/', '']] + ['arbitrary_constants/src/', 'arbitrary_calls/src/fixed_width/']
 WIDTHS = [8, 16, 32, 64, 128]
 FAMILIES = ['arbitrary_base/src/storage/bits{}.rt', 'arbitrary_traits/src/primitives/bits{}.rt']
 
