@@ -3,7 +3,6 @@ pub mod Primitive
 pub mod CheckedSum
 pub mod Clamp
 pub mod SpareBit
-pub mod HighHalf
 pub mod SixteenBits
 pub mod RaisedNumber
 pub mod PrimitiveOperators

@@ -9,8 +9,8 @@ use crate::truncation::is_in_range;
 use crate::{raised, small, wrapping};
 
 /// The sum where the type has it.
-// With a bit to spare the storage's sum is in range exactly where the exact one is. Small signed numbers have
-// the processor's flag, which costs less.
+// With a bit to spare the storage's sum is in range exactly where the exact one is. The compiler makes vectors of the two
+// comparisons, and none of the processor's flag.
 #[tactic(auto, using(crate::proofs::storages::CheckedSum::arithmetic))]
 pub fn add<T: Storage>(x: T, y: T, bits: usize) -> Option<T>
     requires width { 1 ≤ bits }
@@ -20,10 +20,7 @@ pub fn add<T: Storage>(x: T, y: T, bits: usize) -> Option<T>
     ensures { SomeIff (option_map T.number result)
         (InRange T.SIGNED bits (T.number x +ℤ T.number y)) (T.number x +ℤ T.number y) }
 {
-    if T::SIGNED && T::WIDTH <= 16 {
-        let (sum, overflow) = raised::add(x, y, bits);
-        if overflow { None } else { Some(sum) }
-    } else if bits < T::WIDTH {
+    if bits < T::WIDTH {
         let sum = x.wrapping_add(y);
         if is_within(&sum, bits) {
             Some(sum)
@@ -96,8 +93,8 @@ pub(crate) fn sub_by_order<T: Storage>(x: T, y: T, bits: usize) -> Option<T>
 }
 
 /// The product where the type has it.
-// In 64 bits the product of two small numbers is exact; elsewhere the storage multiplies once. A signed number with a
-// bit to spare has the processor's flag. Callers have `x` in range, and the compiler sees it: there the test of it costs nothing.
+// In 64 bits the product of two small numbers is exact, and the compiler makes vectors of it. Elsewhere the storage multiplies
+// once. A wide signed number with a bit to spare has the processor's flag: moved up to the storage's end, it takes no other test.
 #[tactic(auto, using(crate::proofs::storages::CheckedSum::arithmetic))]
 pub fn mul<T: Storage>(x: T, y: T, bits: usize) -> Option<T>
     requires width { 1 ≤ bits }
@@ -105,16 +102,16 @@ pub fn mul<T: Storage>(x: T, y: T, bits: usize) -> Option<T>
     ensures { SomeIff (option_map T.number result)
         (InRange T.SIGNED bits (T.number x *ℤ T.number y)) (T.number x *ℤ T.number y) }
 {
-    if T::SIGNED && (bits < T::WIDTH && is_in_range(x, bits)) {
-        let (product, overflow) = raised::flagged_mul(x, y, bits);
-        if overflow { None } else { Some(product) }
-    } else if T::WIDTH <= 16 {
+    if T::WIDTH <= 16 {
         let product = small::product(x, y);
         if small::is_number_of::<T>(product, bits) {
             Some(small::from_i64(product))
         } else {
             None
         }
+    } else if T::SIGNED && (bits < T::WIDTH && is_in_range(x, bits)) {
+        let (product, overflow) = raised::mul(x, y, bits);
+        if overflow { None } else { Some(product) }
     } else {
         let (product, overflow) = x.overflowing_mul(y);
         if overflow {

@@ -2,29 +2,13 @@
 //! out of range.
 
 ghost use Rattle.std.specs.Prelude.{◌≡◌, ◌≢◌, ◌↔◌, ◌≤◌, ◌+ℤ◌, ◌-ℤ◌, ◌*ℤ◌, neg_ℤ, pos, int_div, IsTrue};
-ghost use Rattle.std.specs.Ordering.{int_eq};
 ghost use Rattle.arbitrary_base.specs.Range.{InRange};
 ghost use Rattle.arbitrary_base.specs.Residue.{wrap};
 
-use crate::ends::zero;
+use crate::ends::{is_within, zero};
 use crate::storage::Storage;
-use crate::truncation::{cast, equal, is_in_range, truncated};
+use crate::truncation::{cast, is_in_range, truncated};
 use crate::{checked, raised, small, wrapping};
-
-/// Whether the truncation of a number is the number.
-// In 128 bits it has the low half of the number, so the high halves tell: one comparison.
-fn is_unchanged<T: Storage>(truncation: T, x: T, bits: usize) -> bool
-    requires width { 1 ≤ bits }
-    requires storage { bits ≤ T.WIDTH }
-    requires truncation { T.number truncation ≡ wrap T.SIGNED bits (T.number x) }
-    ensures { result ≡ int_eq (T.number truncation) (T.number x) }
-{
-    if T::WIDTH == 128 && 64 <= bits {
-        (truncation.pattern() >> 64) as u64 == (x.pattern() >> 64) as u64
-    } else {
-        equal(&truncation, &x)
-    }
-}
 
 /// The sum, wrapped, and whether the exact one is out of range.
 #[tactic(auto, using(crate::proofs::storages::Clamp::overflow_laws))]
@@ -37,12 +21,9 @@ pub fn add<T: Storage>(x: T, y: T, bits: usize) -> (T, bool)
     ensures range { InRange T.SIGNED bits (T.number result.0) }
     ensures overflow { IsTrue result.1 ↔ ¬ (InRange T.SIGNED bits (T.number x +ℤ T.number y)) }
 {
-    if T::SIGNED && T::WIDTH <= 16 {
-        raised::add(x, y, bits)
-    } else if T::SIGNED && bits < T::WIDTH {
-        let spare = x.wrapping_add(y);
-        let sum = truncated(spare, bits);
-        (sum, !is_unchanged(sum, spare, bits))
+    if bits < T::WIDTH {
+        let sum = x.wrapping_add(y);
+        (truncated(sum, bits), !is_within(&sum, bits))
     } else {
         let exact = checked::add_by_order(x, y, bits);
         (wrapping::add(x, y, bits), exact.is_none())
@@ -60,10 +41,9 @@ pub fn sub<T: Storage>(x: T, y: T, bits: usize) -> (T, bool)
     ensures range { InRange T.SIGNED bits (T.number result.0) }
     ensures overflow { IsTrue result.1 ↔ ¬ (InRange T.SIGNED bits (T.number x -ℤ T.number y)) }
 {
-    if T::SIGNED && bits < T::WIDTH {
-        let spare = x.wrapping_sub(y);
-        let difference = truncated(spare, bits);
-        (difference, !equal(&difference, &spare))
+    if bits < T::WIDTH {
+        let difference = x.wrapping_sub(y);
+        (truncated(difference, bits), !is_within(&difference, bits))
     } else {
         let exact = checked::sub_by_order(x, y, bits);
         (wrapping::sub(x, y, bits), exact.is_none())
@@ -71,8 +51,7 @@ pub fn sub<T: Storage>(x: T, y: T, bits: usize) -> (T, bool)
 }
 
 /// The product, wrapped, and whether the exact one is out of range.
-// Callers have `x` in range, and the compiler sees it: there the test of it costs nothing. In 8 bits the storage's own flag costs
-// less here than that of 32.
+// As `checked::mul`.
 #[tactic(auto, using(crate::proofs::storages::Clamp::overflow_laws))]
 pub fn mul<T: Storage>(x: T, y: T, bits: usize) -> (T, bool)
     requires width { 1 ≤ bits }
@@ -81,18 +60,14 @@ pub fn mul<T: Storage>(x: T, y: T, bits: usize) -> (T, bool)
     ensures range { InRange T.SIGNED bits (T.number result.0) }
     ensures overflow { IsTrue result.1 ↔ ¬ (InRange T.SIGNED bits (T.number x *ℤ T.number y)) }
 {
-    if T::SIGNED && (bits < T::WIDTH && is_in_range(x, bits)) {
-        if T::WIDTH == 8 {
-            raised::mul(x, y, bits)
-        } else {
-            raised::flagged_mul(x, y, bits)
-        }
-    } else if T::WIDTH <= 16 {
+    if T::WIDTH <= 16 {
         let product = small::product(x, y);
         (
             cast(product, bits),
             !small::is_number_of::<T>(product, bits),
         )
+    } else if T::SIGNED && (bits < T::WIDTH && is_in_range(x, bits)) {
+        raised::mul(x, y, bits)
     } else {
         let (product, overflow) = x.overflowing_mul(y);
         (

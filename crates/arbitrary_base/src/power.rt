@@ -7,8 +7,8 @@ ghost use Rattle.arbitrary_base.specs.Range.{InRange, hi};
 ghost use Rattle.arbitrary_base.specs.Saturation.{clamp};
 ghost use Rattle.arbitrary_base.specs.Power.{PowersOfSums, PowersOfProducts};
 
+use crate::checked;
 use crate::ends::{end, is_below_zero};
-use crate::raised;
 use crate::storage::Storage;
 use crate::truncation::{equal, is_in_range};
 
@@ -27,7 +27,7 @@ fn one<T: Storage>() -> T
 }
 
 /// At how many bits the products on the way are tested, which is at least as many as 1 takes.
-// Small signed numbers stop at the range of their type: its flag costs no more than the storage's.
+// Small signed numbers stop at the range of their type, which takes no more than the storage's.
 fn tested_bits<T: Storage>(bits: usize) -> usize
     requires { bits ≤ T.WIDTH }
     ensures low { bits ≤ result }
@@ -54,8 +54,7 @@ fn multiply<T: Storage>(x: T, y: T, bits: usize, count: &mut u32) -> Option<T>
 {
     *count += 1;
     if bits < T::WIDTH {
-        let (product, overflow) = raised::mul(x, y, bits);
-        if overflow { None } else { Some(product) }
+        checked::mul(x, y, bits)
     } else if T::WIDTH == 128 && is_in_range(x, 64) && is_in_range(y, 64) {
         Some(x.wrapping_mul(y))
     } else {

@@ -4,12 +4,30 @@ ghost use Rattle.std.specs.Prelude.{◌≡◌, ◌≢◌, ◌≤◌, ◌+ℤ◌,
 ghost use Rattle.arbitrary_base.specs.Range.{InRange};
 ghost use Rattle.arbitrary_base.specs.Saturation.{clamp};
 
-use crate::ends::{end, highest, is_below_zero, zero};
+use crate::ends::{end, highest, is_below, is_below_zero, lowest, zero};
 use crate::storage::Storage;
-use crate::{checked, overflowing, raised, small};
+use crate::{checked, overflowing, small};
+
+/// The number, or the end of the range of `bits` bits that is nearest to it.
+#[tactic(auto, using(crate::proofs::storages::Clamp::two_tests))]
+fn clamped<T: Storage>(x: T, bits: usize) -> T
+    requires width { 1 ≤ bits }
+    requires storage { bits ≤ T.WIDTH }
+    ensures { T.number result ≡ clamp T.SIGNED bits (T.number x) }
+{
+    let low = lowest::<T>(bits);
+    let high = highest::<T>(bits);
+    if is_below(&x, &low) {
+        low
+    } else if is_below(&high, &x) {
+        high
+    } else {
+        x
+    }
+}
 
 /// The sum, or the end of the range that is nearest to it.
-// A signed sum that overflows comes out on the other side of 0.
+// With a bit to spare the storage has the sum. Elsewhere a signed sum that overflows comes out on the other side of 0.
 #[tactic(auto, using(crate::proofs::storages::Clamp::clamped_sums))]
 pub fn add<T: Storage>(x: T, y: T, bits: usize) -> T
     requires width { 1 ≤ bits }
@@ -19,8 +37,8 @@ pub fn add<T: Storage>(x: T, y: T, bits: usize) -> T
     ensures value { T.number result ≡ clamp T.SIGNED bits (T.number x +ℤ T.number y) }
     ensures range { InRange T.SIGNED bits (T.number result) }
 {
-    if T::SIGNED && T::WIDTH <= 16 {
-        raised::saturating_add(x, y, bits)
+    if bits < T::WIDTH {
+        clamped(x.wrapping_add(y), bits)
     } else if T::SIGNED {
         let (sum, overflow) = overflowing::add(x, y, bits);
         if overflow {
@@ -37,7 +55,7 @@ pub fn add<T: Storage>(x: T, y: T, bits: usize) -> T
 }
 
 /// The difference, or the end of the range that is nearest to it.
-// So does a signed difference.
+// So it is with a signed difference. An unsigned one below 0 wraps.
 #[tactic(auto, using(crate::proofs::storages::Clamp::clamped_differences))]
 pub fn sub<T: Storage>(x: T, y: T, bits: usize) -> T
     requires width { 1 ≤ bits }
@@ -47,7 +65,9 @@ pub fn sub<T: Storage>(x: T, y: T, bits: usize) -> T
     ensures value { T.number result ≡ clamp T.SIGNED bits (T.number x -ℤ T.number y) }
     ensures range { InRange T.SIGNED bits (T.number result) }
 {
-    if T::SIGNED {
+    if T::SIGNED && bits < T::WIDTH {
+        clamped(x.wrapping_sub(y), bits)
+    } else if T::SIGNED {
         let (difference, overflow) = overflowing::sub(x, y, bits);
         if overflow {
             end(!is_below_zero(&difference), bits)

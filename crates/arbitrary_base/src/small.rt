@@ -1,7 +1,7 @@
-//! The numbers of small storages in 64 bits, where sums of at most 32 bits and products of at most 16 are exact. So one is made
-//! once, and `checked`, `saturating`, `overflowing` and `raised` test it.
+//! The numbers of storages of at most 16 bits in 64 bits, where each product is exact. `checked`, `saturating` and `overflowing`
+//! test it.
 
-ghost use Rattle.std.specs.Prelude.{◌≡◌, ◌↔◌, ◌≤◌, ◌+ℤ◌, ◌*ℤ◌, IsTrue};
+ghost use Rattle.std.specs.Prelude.{◌≡◌, ◌↔◌, ◌≤◌, ◌*ℤ◌, IsTrue};
 ghost use Rattle.arbitrary_base.specs.Range.{InRange};
 ghost use Rattle.arbitrary_base.specs.Saturation.{clamp};
 
@@ -11,7 +11,7 @@ use crate::truncation::cast;
 
 /// The number.
 fn number<T: Storage>(x: T) -> i64
-    requires small { T.WIDTH ≤ 32 }
+    requires small { T.WIDTH ≤ 16 }
     ensures value { result ≡ T.number x }
     ensures range { InRange T.SIGNED T.WIDTH (T.number x) }
 {
@@ -29,18 +29,10 @@ pub(crate) fn product<T: Storage>(x: T, y: T) -> i64
     number(x) * number(y)
 }
 
-/// The exact sum.
-pub(crate) fn sum<T: Storage>(x: T, y: T) -> i64
-    requires small { T.WIDTH ≤ 32 }
-    ensures { result ≡ T.number x +ℤ T.number y }
-{
-    number(x) + number(y)
-}
-
 /// Whether the type of `bits` bits over the storage has the number.
 #[tactic(auto, using(crate::proofs::storages::SixteenBits::tests))]
 pub(crate) fn is_number_of<T: Storage>(x: i64, bits: usize) -> bool
-    requires small { T.WIDTH ≤ 32 }
+    requires small { T.WIDTH ≤ 16 }
     requires width { 1 ≤ bits }
     requires storage { bits ≤ T.WIDTH }
     ensures { IsTrue result ↔ InRange T.SIGNED bits x }
@@ -60,7 +52,7 @@ pub(crate) fn from_i64<T: Storage>(x: i64) -> T
 /// The number, or the end of the range of `bits` bits over the storage that is nearest to it.
 #[tactic(auto, using(crate::proofs::storages::SixteenBits::clamps))]
 pub(crate) fn clamped<T: Storage>(x: i64, bits: usize) -> i64
-    requires small { T.WIDTH ≤ 32 }
+    requires small { T.WIDTH ≤ 16 }
     requires width { 1 ≤ bits }
     requires storage { bits ≤ T.WIDTH }
     ensures { result ≡ clamp T.SIGNED bits x }

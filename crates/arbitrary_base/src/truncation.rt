@@ -6,7 +6,6 @@ ghost use Rattle.std.specs.Ordering.{int_cmp, int_eq};
 ghost use Rattle.arbitrary_base.specs.Range.{lo, InRange};
 ghost use Rattle.arbitrary_base.specs.Residue.{Congruent, residue, wrap};
 
-use crate::raised;
 use crate::storage::Storage;
 use std::cmp::Ordering;
 
@@ -47,28 +46,30 @@ pub(crate) fn reach_below_zero(signed: bool, bits: usize) -> u128
 
 /// The 128 bits of the number of a type of `bits` bits that is congruent to the pattern:
 /// zero extension, and sign extension where the type has a sign.
-// Shifting the range up to start at 0 makes the truncation exact for both signs, with no branch. Past 64 bits two shifts cost less.
+// Shifting the range up to start at 0 makes the truncation exact for both signs, with no branch.
 pub fn extend(signed: bool, pattern: u128, bits: usize) -> u128
     requires width { 1 ≤ bits }
     requires storage { bits ≤ 128 }
     ensures { Congruent 128 (pos result) (wrap signed bits (pos pattern)) }
 {
-    if signed && 64 < bits {
-        raised::sign_extended(pattern, bits)
-    } else {
-        let offset = reach_below_zero(signed, bits);
-        masked(pattern.wrapping_add(offset), bits).wrapping_sub(offset)
-    }
+    let offset = reach_below_zero(signed, bits);
+    masked(pattern.wrapping_add(offset), bits).wrapping_sub(offset)
 }
 
 /// The number, truncated to the type of `bits` bits.
+// Two shifts of the storage extend the sign: the compiler makes vectors of them.
 pub fn truncated<T: Storage>(x: T, bits: usize) -> T
     requires width { 1 ≤ bits }
     requires storage { bits ≤ T.WIDTH }
     ensures value { T.number result ≡ wrap T.SIGNED bits (T.number x) }
     ensures range { InRange T.SIGNED bits (T.number result) }
 {
-    T::from_pattern(extend(T::SIGNED, x.pattern(), bits))
+    if T::SIGNED {
+        let places = T::WIDTH - bits;
+        x.shl_by(places).shr_by(places)
+    } else {
+        T::from_pattern(masked(x.pattern(), bits))
+    }
 }
 
 /// The residue of the number modulo `2 ^ bits`.
@@ -104,7 +105,7 @@ pub fn from_low_bits<T: Storage>(pattern: u128, bits: usize) -> T
     ensures value { T.number result ≡ wrap T.SIGNED bits (pos pattern) }
     ensures range { InRange T.SIGNED bits (T.number result) }
 {
-    T::from_pattern(extend(T::SIGNED, pattern, bits))
+    truncated(T::from_pattern(pattern), bits)
 }
 
 /// The residue of the number modulo `2 ^ 128`: its pattern, extended to 128 bits.

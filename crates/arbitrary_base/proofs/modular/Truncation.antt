@@ -69,20 +69,6 @@ residue-mod A B x one h =
     (unsigned-in_range A _ (mod-lt (residue B x) (pow_pos A))) (unsigned-in_range A _ (residue-lt A x))
     (Congruent-trans A _ x _ (masked-congruent A B x h) (Congruent-sym A _ x (residue-congruent A x))))
 
--- a number of the narrow type that is congruent is the truncation
-pub wrap-narrow : (s : Bool) (A B : ℕ) (p : ℕ) (x : ℤ) → 1 ≤ A → A ≤ B → B ≤ 128
-    → Congruent 128 (pos p) (wrap s A x) → wrap s B (pos p) ≡ wrap s A x
-wrap-narrow s A B p x h g k c =
-    wrap-unique s B (pos p) (wrap s A x) (omega arith) (InRange-wider s A B _ h g (wrap-in_range s A x h))
-    (Congruent-narrower B 128 _ _ k (Congruent-sym 128 _ _ c))
-
--- the storage's number of the extended pattern
-pub narrowed : (s : Bool) (A W p q : ℕ) (x : ℤ) → 1 ≤ A → A ≤ W → W ≤ 128 → q ≡ residue W x
-    → Congruent 128 (pos p) (wrap s A (pos q)) → wrap s W (pos p) ≡ wrap s A x
-narrowed s A W p q x h g k e c =
-    let same : wrap s A (pos q) ≡ wrap s A x = wrap-same s A (pos q) x h (rw e (Congruent-narrower A W _ x g (residue-congruent W x))) in
-    wrap-narrow s A W p x h g k (rw same at c)
-
 -- adding the reach below 0, cutting and taking it off again extends a pattern
 pub extended_by : (s : Bool) (B low h a q r : ℕ) → B ≤ 128 → pos h ≡ neg_ℤ (lo s B) → h ≤ 2 ^ 128 → a ≡ (low + h) % 2 ^ 128 → q ≡ a % 2 ^ B
     → r ≡ (q + (2 ^ 128 - h)) % 2 ^ 128 → Congruent 128 (pos r) (wrap s B (pos low))
@@ -106,6 +92,13 @@ pub ruleset low_mask_laws = (low_mask-number)
 
 pub masked-residue : (B W p : ℕ) (x : ℤ) → 1 ≤ B → B ≤ W → p ≡ residue W x → p % 2 ^ B ≡ residue B x
 masked-residue B W p x h g e = ap (λ (n : ℕ). n % 2 ^ B) e ∙ residue-mod B W x h g
+
+-- and where there is no sign it is the truncated number, in the storage
+pub masked-number : (s : Bool) (B W p q : ℕ) (x z : ℤ) → s ≡ false → 1 ≤ B → B ≤ W → p ≡ residue W x → q ≡ p % 2 ^ B → z ≡ wrap s W (pos q) → z ≡ wrap s B x
+masked-number true B W p q x z t h g e f n = cc
+masked-number false B W p q x z t h g e f n =
+    let k : pos q ≡ wrap false B x = ap pos (f ∙ masked-residue B W p x h g e) ∙ residue-wrap B x h in
+    n ∙ wrap-of_in_range false W (pos q) (omega arith) (InRange-wider false B W (pos q) h g (InRange-of_wrap false B x (pos q) h k)) ∙ k
 
 pub below_residue : (B p : ℕ) (x : ℤ) → p ≡ residue B x → p < 2 ^ B
 below_residue B p x e = subst (λ (n : ℕ). n < 2 ^ B) (sym e) (residue-lt B x)

@@ -55,6 +55,18 @@ clamped-below s B x z f e = e ∙ clamp-below s B x f
 
 pub ruleset clamped = (clamp-fits, clamp-below, clamp-above)
 
+-- a number clamped by two tests, where l and h are the ends
+pub clamped-low : (s : Bool) (B : ℕ) (x l : ℤ) (b : Bool) → l ≡ lo s B → b ≡ int_lt x l → b ≡ true → l ≡ clamp s B x
+clamped-low s B x l b e f t = let u : x <ℤ lo s B = grind (arith, ints) in e ∙ sym (clamp-below s B x u)
+
+pub clamped-high : (s : Bool) (B : ℕ) (x h : ℤ) (b : Bool) → 1 ≤ B → h ≡ hi s B → b ≡ int_lt h x → b ≡ true → h ≡ clamp s B x
+clamped-high s B x h b one e f t = let u : hi s B <ℤ x = grind (arith, ints) in e ∙ sym (clamp-above s B x one u)
+
+pub clamped-between : (s : Bool) (B : ℕ) (x l h : ℤ) (a b : Bool) → l ≡ lo s B → h ≡ hi s B → a ≡ int_lt x l → a ≡ false → b ≡ int_lt h x → b ≡ false → x ≡ clamp s B x
+clamped-between s B x l h a b d e f t g u = clamp-in_range s B x x (record { low = grind (arith, ints); high = grind (arith, ints) }) refl
+
+pub ruleset two_tests = (clamped-low, clamped-high, clamped-between)
+
 -- a number out of range, on the side that the flag tells
 pub clamp-out : (s : Bool) (B : ℕ) (x : ℤ) (low : Bool) → 1 ≤ B → (InRange s B x → ⊥) → (low ≡ true → x ≤ℤ pos 0) → (low ≡ false → lo s B ≤ℤ x)
     → range_end s B low ≡ clamp s B x

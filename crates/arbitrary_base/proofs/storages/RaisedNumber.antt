@@ -1,21 +1,17 @@
 -- Numbers moved up to the storage's end, from B bits to W: multiples of 2 ^ (W - B).
-use Rattle.std.specs.Prelude.{◌≡◌, ◌↔◌, ℕ, ℤ, Bool, true, false, not, pos, neg_ℤ, ◌+ℤ◌, ◌-ℤ◌, ◌*ℤ◌, ◌≤ℤ◌, ◌<ℤ◌, ◌*◌, ◌-◌, ◌%◌, ◌^◌, ◌≤◌, IsTrue, unsigned_abs}
+use Rattle.std.specs.Prelude.{◌≡◌, ◌↔◌, ℕ, ℤ, Bool, true, false, not, pos, neg_ℤ, ◌+ℤ◌, ◌-ℤ◌, ◌*ℤ◌, ◌≤ℤ◌, ◌<ℤ◌, ◌*◌, ◌-◌, ◌^◌, ◌≤◌, IsTrue, unsigned_abs}
 use Rattle.std.specs.Int.{int_shr}
-use Rattle.std.proofs.Common.{arith, refl, ap, sym, subst, ◌∙◌, ⊎_elim, lit≤}
+use Rattle.std.proofs.Common.{arith, refl, ap, sym, subst, ◌∙◌}
 use Rattle.std.proofs.lemmas.Int.{ints, by_lt_z}
 use Rattle.std.proofs.lemmas.Nat.{pow_pos}
 use Rattle.arbitrary_base.specs.Range.{lo, hi, InRange}
 use Rattle.arbitrary_base.specs.Residue.{Congruent, residue, wrap}
-use Rattle.arbitrary_base.specs.Saturation.{clamp}
 use Rattle.arbitrary_base.specs.BitList.{bits, val, fill, shl, shr}
 use Rattle.arbitrary_base.proofs.integers.Ring.{add-mul_z, sub-mul_z, neg-mul_z, mul_assoc_z, pos-unsigned_abs}
 use Rattle.arbitrary_base.proofs.modular.Congruence.{pow_split, Congruent-mul_left}
 use Rattle.arbitrary_base.proofs.modular.Residue.{wrap-unique, wrap-same, wrap-in_range, wrap-congruent, wrap-of_in_range, residue-congruent}
 use Rattle.arbitrary_base.proofs.bit_lists.SignBit.{val-shl, val-shr}
 use Rattle.arbitrary_base.proofs.operations.ShiftAsProduct.{int_shr-low, int_shr-high}
-use Rattle.arbitrary_base.proofs.storages.CheckedSum.{three_ways}
-use Rattle.arbitrary_base.proofs.storages.Primitive.{mod-congruent}
-use Rattle.arbitrary_base.proofs.storages.Clamp.{clamp-fits, clamp-below, clamp-above}
 
 -- a multiple of the greater number is greater
 times-le : (x y : ℤ) (n : ℕ) → x ≤ℤ y → (x *ℤ pos n) ≤ℤ (y *ℤ pos n)
@@ -100,11 +96,14 @@ pub int_shr-raised : (k : ℕ) (x : ℤ) → int_shr (x *ℤ pos (2 ^ k)) k ≡ 
 int_shr-raised k x = let p = pow_pos k in int_shr-between k x (x *ℤ pos (2 ^ k)) (omega (arith, ints)) (omega (arith, ints))
 
 -- the storage's shifts; v is its width as the code reads it
-pub raise-value : (s : Bool) (B W v : ℕ) (x z : ℤ) → 1 ≤ B → B ≤ W → InRange s B x → v ≡ W → z ≡ val s (shl (bits W x) (v - B)) → z ≡ x *ℤ pos (2 ^ (W - B))
-raise-value s B W v x z h g i q e =
+raise-wraps : (s : Bool) (B W v : ℕ) (x z : ℤ) → 1 ≤ B → B ≤ W → v ≡ W → z ≡ val s (shl (bits W x) (v - B)) → z ≡ wrap s W (x *ℤ pos (2 ^ (W - B)))
+raise-wraps s B W v x z h g q e =
     e ∙ ap (λ (n : ℕ). val s (shl (bits W x) (n - B))) q ∙ val-shl s W (W - B) (residue W x) x (omega arith) (omega arith) refl
     ∙ wrap-same s W (pos (residue W x * 2 ^ (W - B))) (x *ℤ pos (2 ^ (W - B))) (omega arith) (Congruent-mul_left W (pos (residue W x)) x (pos (2 ^ (W - B))) (residue-congruent W x))
-    ∙ wrap-of_in_range s W (x *ℤ pos (2 ^ (W - B))) (omega arith) ((raised-InRange s B W x h g).1 i)
+
+pub raise-value : (s : Bool) (B W v : ℕ) (x z : ℤ) → 1 ≤ B → B ≤ W → InRange s B x → v ≡ W → z ≡ val s (shl (bits W x) (v - B)) → z ≡ x *ℤ pos (2 ^ (W - B))
+raise-value s B W v x z h g i q e =
+    raise-wraps s B W v x z h g q e ∙ wrap-of_in_range s W (x *ℤ pos (2 ^ (W - B))) (omega arith) ((raised-InRange s B W x h g).1 i)
 
 pub lower-value : (s : Bool) (B W v : ℕ) (x z : ℤ) → 1 ≤ B → B ≤ W → InRange s W x → v ≡ W → z ≡ val s (shr (bits W x) (v - B) (fill s (bits W x))) → z ≡ int_shr x (W - B)
 lower-value s B W v x z h g i q e = e ∙ ap (λ (n : ℕ). val s (shr (bits W x) (n - B) (fill s (bits W x)))) q ∙ val-shr s W (W - B) x (omega arith) (omega arith) i
@@ -114,49 +113,17 @@ pub lowered : (s : Bool) (B W : ℕ) (e m w z : ℤ) → 1 ≤ B → B ≤ W →
 lowered s B W e m w z h g p q r =
     r ∙ ap (λ (v : ℤ). int_shr v (W - B)) (q ∙ ap (wrap s W) p ∙ wrap-raised s B W e h g) ∙ int_shr-raised (W - B) (wrap s B e)
 
+-- so a number moved up and down again is truncated, whatever it was
+pub shifted-back : (s : Bool) (B W v : ℕ) (x m z : ℤ) → 1 ≤ B → B ≤ W → v ≡ W → m ≡ val s (shl (bits W x) (v - B))
+    → z ≡ val s (shr (bits W m) (v - B) (fill s (bits W m))) → z ≡ wrap s B x
+shifted-back s B W v x m z h g p e f =
+    let k = raise-wraps s B W v x m h g p e in
+    let i : InRange s W m = subst (λ (a : ℤ). InRange s W a) (sym k) (wrap-in_range s W (x *ℤ pos (2 ^ (W - B))) (omega arith)) in
+    lowered s B W x (x *ℤ pos (2 ^ (W - B))) m z h g refl k (lower-value s B W v m z h g i p f)
+
 -- the flag, by a test of the multiple; n and a are the storage's width and the multiple as the code reads them
 pub raised-overflow : (s : Bool) (B W n : ℕ) (e m a : ℤ) (b : Bool) → 1 ≤ B → B ≤ W → m ≡ e *ℤ pos (2 ^ (W - B)) → n ≡ W → a ≡ m → (IsTrue b ↔ InRange s n a)
     → IsTrue (not b) ↔ ¬ (InRange s B e)
 raised-overflow s B W n e m a true h g p u v q = ((λ t. cc), (λ o. absurd (o ((raised-InRange s B W e h g).0 (subst (λ (z : ℤ). InRange s W z) (v ∙ p) (subst (λ (k : ℕ). InRange s k a) u (q.0 refl)))))))
 raised-overflow s B W n e m a false h g p u v q =
     ((λ t i. let y : IsTrue false = q.1 (subst (λ (k : ℕ). InRange s k a) (sym u) (subst (λ (z : ℤ). InRange s W z) (sym (v ∙ p)) ((raised-InRange s B W e h g).1 i))) in cc), (λ t. refl))
-
--- the sum of two multiples is that of the sum
-pub raised-sum : (k : ℕ) (x y a b m : ℤ) → a ≡ x *ℤ pos (2 ^ k) → b ≡ y *ℤ pos (2 ^ k) → m ≡ a +ℤ b → m ≡ (x +ℤ y) *ℤ pos (2 ^ k)
-raised-sum k x y a b m p q r = let e = add-mul_z x y (pos (2 ^ k)) in omega (arith, ints)
-
--- the multiple of e, clamped in the storage and moved down, is e clamped: of the high end of W a shift down makes that of B
-pub clamp-raised : (s : Bool) (B W : ℕ) (e : ℤ) → 1 ≤ B → B ≤ W → int_shr (clamp s W (e *ℤ pos (2 ^ (W - B)))) (W - B) ≡ clamp s B e
-clamp-raised s B W e h g =
-    let k = W - B in
-    let l = lo-raised s B W h g in
-    let u = hi-raised s B W h g in
-    let p = pow_pos k in
-    let one : 1 ≤ W = omega arith in
-    let down = λ (v : ℤ). int_shr v k in
-    ⊎_elim
-    (λ i. ap down (clamp-fits s W (e *ℤ pos (2 ^ k)) ((raised-InRange s B W e h g).1 i)) ∙ int_shr-raised k e ∙ sym (clamp-fits s B e i))
-    (⊎_elim
-    (λ a. let t = times-lt e (lo s B) (2 ^ k) a in
-    ap down (clamp-below s W (e *ℤ pos (2 ^ k)) (omega (arith, ints)) ∙ l) ∙ int_shr-raised k (lo s B) ∙ sym (clamp-below s B e a))
-    (λ a. let t = times-le (hi s B +ℤ pos 1) e (2 ^ k) (omega (arith, ints)) in
-    let v : (hi s B +ℤ pos 1) *ℤ pos (2 ^ k) ≡ hi s B *ℤ pos (2 ^ k) +ℤ pos (1 * 2 ^ k) = add-mul_z (hi s B) (pos 1) (pos (2 ^ k)) in
-    ap down (clamp-above s W (e *ℤ pos (2 ^ k)) one (omega (arith, ints))) ∙ int_shr-between k (hi s B) (hi s W) (omega (arith, ints)) (omega (arith, ints))
-    ∙ sym (clamp-above s B e h a)))
-    (three_ways s B e)
-
--- the clamped sum, as the code makes it: m is the sum of the multiples p and q, n and v are m and w as the code reads them
-pub raised-clamp : (s : Bool) (B W : ℕ) (x y a b p q m n w v z : ℤ) → 1 ≤ B → B ≤ W → a ≡ x → b ≡ y → p ≡ a *ℤ pos (2 ^ (W - B)) → q ≡ b *ℤ pos (2 ^ (W - B))
-    → m ≡ p +ℤ q → n ≡ m → w ≡ clamp s W n → v ≡ w → z ≡ int_shr v (W - B) → z ≡ clamp s B (x +ℤ y)
-raised-clamp s B W x y a b p q m n w v z h g ea eb ep eq em en ew ev ez =
-    let t : n ≡ (x +ℤ y) *ℤ pos (2 ^ (W - B)) = en ∙ raised-sum (W - B) a b p q m ep eq em ∙ (λ i. (ea i +ℤ eb i) *ℤ pos (2 ^ (W - B))) in
-    ez ∙ ap (λ (c : ℤ). int_shr c (W - B)) (ev ∙ ew ∙ ap (clamp s W) t) ∙ clamp-raised s B W (x +ℤ y) h g
-
--- the low B bits of a pattern moved up to the end of 128 bits, and down again; n is the pattern moved up
-pub sign-extended : (B p n q : ℕ) (r z : ℤ) → 1 ≤ B → B ≤ 128 → n ≡ (p * 2 ^ (128 - B)) % 2 ^ 128 → r ≡ wrap true 128 (pos n) → z ≡ int_shr r (128 - B) → q ≡ residue 128 z
-    → Congruent 128 (pos q) (wrap true B (pos p))
-sign-extended B p n q r z h g en er ez eq =
-    let m = pos p *ℤ pos (2 ^ (128 - B)) in
-    let c : Congruent 128 (pos n) m = subst (λ (k : ℕ). Congruent 128 (pos k) m) (sym en) (mod-congruent 128 (p * 2 ^ (128 - B))) in
-    let d : z ≡ wrap true B (pos p) = lowered true B 128 (pos p) m r z h g refl (er ∙ wrap-same true 128 (pos n) m (lit≤ tt) c) ez in
-    subst (λ (v : ℤ). Congruent 128 (pos q) v) d (subst (λ (k : ℕ). Congruent 128 (pos k) z) (sym eq) (residue-congruent 128 z))

@@ -1,39 +1,25 @@
--- Numbers of at most 16 or 32 bits, stored in 64.
-use Rattle.std.specs.Prelude.{◌≡◌, ◌↔◌, ℕ, ℤ, Bool, true, false, ◌&&◌, pos, negsuc, ◌+ℤ◌, ◌*ℤ◌, ◌<ℤ◌, ◌-◌, ◌≤◌, int_lt, int_le, IsTrue, unsigned_abs, FitsSigned}
-use Rattle.std.specs.Int.{w32, w64, cast_signed, cast_unsigned}
-use Rattle.std.proofs.Common.{arith, sym, subst, ◌∙◌, lit≤, to_z-of_z}
+-- Numbers of at most 16 bits, stored in 64.
+use Rattle.std.specs.Prelude.{◌≡◌, ◌↔◌, ℕ, ℤ, Bool, true, false, ◌&&◌, pos, negsuc, ◌*ℤ◌, ◌<ℤ◌, ◌-◌, ◌≤◌, int_lt, int_le, IsTrue, unsigned_abs, FitsSigned}
+use Rattle.std.specs.Int.{w64}
+use Rattle.std.proofs.Common.{arith, sym, subst, ◌∙◌, lit≤}
 use Rattle.std.proofs.lemmas.Int.{ints, fits_signed_mul}
 use Rattle.arbitrary_base.specs.Range.{lo, hi, InRange}
 use Rattle.arbitrary_base.specs.Residue.{wrap}
 use Rattle.arbitrary_base.specs.Saturation.{clamp}
 use Rattle.arbitrary_base.proofs.modular.Congruence.{pow_le}
 use Rattle.arbitrary_base.proofs.modular.Residue.{wrap-of_in_range}
-use Rattle.arbitrary_base.proofs.modular.Truncation.{InRange-wider, InRange-signed}
-use Rattle.arbitrary_base.proofs.storages.Primitive.{signed-fits}
+use Rattle.arbitrary_base.proofs.modular.Truncation.{InRange-wider}
 use Rattle.arbitrary_base.proofs.storages.Clamp.{clamp-in_range, clamp-below, clamp-above}
 
 -- 64 bits have each number of either sign
-InRange-64 : (s : Bool) (W : ℕ) (x : ℤ) → 1 ≤ W → W ≤ 32 → InRange s W x → InRange true 64 x
+InRange-64 : (s : Bool) (W : ℕ) (x : ℤ) → 1 ≤ W → W ≤ 16 → InRange s W x → InRange true 64 x
 InRange-64 false W x h g i =
-    let a = pow_le W 32 g in let l = i.low in let u = i.high in
+    let a = pow_le W 16 g in let l = i.low in let u = i.high in
     record { low = omega (arith, ints); high = omega (arith, ints) }
 InRange-64 true W x h g i = InRange-wider true W 64 x h (omega arith) i
 
-pub small-number : (s : Bool) (W : ℕ) (x z : ℤ) → 1 ≤ W → W ≤ 32 → InRange s W x → z ≡ wrap true 64 x → z ≡ x
+pub small-number : (s : Bool) (W : ℕ) (x z : ℤ) → 1 ≤ W → W ≤ 16 → InRange s W x → z ≡ wrap true 64 x → z ≡ x
 small-number s W x z h g i e = e ∙ wrap-of_in_range true 64 x (lit≤ tt) (InRange-64 s W x h g i)
-
--- 32 bits have each of at most 16
-pub number-32 : (s : Bool) (W : ℕ) (x z : ℤ) → 1 ≤ W → W ≤ 16 → InRange s W x → z ≡ wrap true 32 x → z ≡ x
-number-32 s W x z h g i e = e ∙ wrap-of_in_range true 32 x (lit≤ tt) (InRange-signed s W 32 x h (omega arith) i)
-
--- a number in 32 bits, as the code reads it
-pub read-32 : (B : ℕ) (z : ℤ) → 1 ≤ B → B ≤ 16 → InRange true B z → cast_signed w32 (cast_unsigned w32 z) ≡ z
-read-32 B z h g i = to_z-of_z {w = w32} {z = z} (signed-fits w32 z (InRange-wider true B 32 z h (omega arith) i))
-
--- and back in its storage
-pub back-in_range : (s : Bool) (B W : ℕ) (z : ℤ) → s ≡ true → 1 ≤ B → B ≤ W → W ≤ 16 → InRange true B z → InRange s W (cast_signed w32 (cast_unsigned w32 z))
-back-in_range s B W z e h g k i =
-    subst (λ (v : ℤ). InRange s W v) (sym (read-32 B z h (omega arith) i)) (InRange-wider s B W z h g (subst (λ (t : Bool). InRange t B z) (sym e) i))
 
 -- and each product
 small-size : (s : Bool) (W : ℕ) (x : ℤ) → 1 ≤ W → W ≤ 16 → InRange s W x → unsigned_abs x ≤ 65536
@@ -48,19 +34,6 @@ small-product s W x y a b h g i j e f =
     (fits_signed_mul w64 x y 65536 65536 (small-size s W x h g i) (small-size s W y h g j) (lit≤ tt))
 
 pub ruleset products = (small-product)
-
--- and each sum
-InRange-33 : (s : Bool) (W : ℕ) (x : ℤ) → 1 ≤ W → W ≤ 32 → InRange s W x → InRange true 33 x
-InRange-33 false W x h g i =
-    let a = pow_le W 32 g in let l = i.low in let u = i.high in
-    record { low = omega (arith, ints); high = omega (arith, ints) }
-InRange-33 true W x h g i = InRange-wider true W 33 x h (omega arith) i
-
-pub small-sum : (s : Bool) (W : ℕ) (x y a b : ℤ) → 1 ≤ W → W ≤ 32 → InRange s W x → InRange s W y → a ≡ x → b ≡ y → FitsSigned w64 (a +ℤ b)
-small-sum s W x y a b h g i j e f =
-    let m = InRange-33 s W x h g i in let n = InRange-33 s W y h g j in
-    let p = m.low in let q = m.high in let r = n.low in let t = n.high in
-    signed-fits w64 (a +ℤ b) (record { low = omega (arith, ints); high = omega (arith, ints) })
 
 -- in range, by both ends
 pub within_test : (s : Bool) (B : ℕ) (x l h : ℤ) → l ≡ lo s B → h ≡ hi s B → IsTrue (int_le l x && int_le x h) ↔ InRange s B x

@@ -1,15 +1,14 @@
 -- What the number that the storage keeps of a sum, a difference or a product tells of the exact one.
-use Rattle.std.specs.Prelude.{◌≡◌, ◌↔◌, ℕ, suc, ℤ, Bool, true, false, not, ◌||◌, pos, ◌+ℤ◌, ◌-ℤ◌, ◌≤ℤ◌, ◌*◌, ◌^◌, ◌≤◌, ◌<◌, IsTrue}
-use Rattle.std.specs.Ordering.{int_eq}
+use Rattle.std.specs.Prelude.{◌≡◌, ◌↔◌, ℕ, suc, ℤ, Bool, true, false, not, ◌||◌, pos, ◌+ℤ◌, ◌-ℤ◌, ◌≤ℤ◌, ◌*◌, ◌-◌, ◌^◌, ◌≤◌, ◌<◌, IsTrue}
 use Rattle.std.proofs.Common.{arith, refl, ap, sym, subst, ◌∙◌, ⊎_elim}
 use Rattle.std.proofs.lemmas.Int.{ints}
 use Rattle.std.proofs.lemmas.Nat.{pow_pos}
 use Rattle.arbitrary_base.specs.Range.{lo, hi, InRange}
 use Rattle.arbitrary_base.specs.Residue.{wrap}
-use Rattle.arbitrary_base.proofs.modular.Congruence.{pow_le, span}
+use Rattle.arbitrary_base.proofs.modular.Congruence.{pow_half, pow_le, span}
 use Rattle.arbitrary_base.proofs.modular.Residue.{wrap-of_in_range}
 use Rattle.arbitrary_base.proofs.modular.Truncation.{InRange-wider}
-use Rattle.arbitrary_base.proofs.storages.CheckedSum.{range_test, three_ways, wrap-above, wrap-below, wrap-wrap, zero-in_range}
+use Rattle.arbitrary_base.proofs.storages.CheckedSum.{three_ways, wrap-above, wrap-below, wrap-wrap, zero-in_range}
 
 -- the stored number w is in range only where the exact one e is, and there it is e
 abbrev pub Tells : Bool → ℕ → ℤ → ℤ → Type 0
@@ -51,11 +50,25 @@ sub-tells s B W x y w h g i j n =
 pub none-told : (s : Bool) (B : ℕ) (e w : ℤ) (b : Bool) → Tells s B e w → (IsTrue b ↔ InRange s B w) → b ≡ false → InRange s B e → ⊥
 none-told s B e w b t d f i = let u : IsTrue b = d.1 (subst (λ (v : ℤ). InRange s B v) (sym (t.1 i)) i) in cc
 
--- where narrowing changes the stored number, the exact one is out of range
-pub overflow-told : (s : Bool) (B : ℕ) (e w n : ℤ) (b : Bool) → 1 ≤ B → Tells s B e w → n ≡ wrap s B w → b ≡ int_eq n w → IsTrue (not b) ↔ ¬ (InRange s B e)
-overflow-told s B e w n true h t m p = ((λ u. cc), (λ u. absurd (u (t.0 ((range_test s B w n true h m p).0 refl)).0)))
-overflow-told s B e w n false h t m p =
-    ((λ u i. none-told s B e w false t (range_test s B w n false h m p) refl i), (λ u. refl))
+-- and so the negated test tells an overflow
+pub overflow-told : (s : Bool) (B : ℕ) (e w : ℤ) (b : Bool) → Tells s B e w → (IsTrue b ↔ InRange s B w) → IsTrue (not b) ↔ ¬ (InRange s B e)
+overflow-told s B e w true t d = ((λ u. cc), (λ u. absurd (u (t.0 (d.0 refl)).0)))
+overflow-told s B e w false t d = ((λ u i. none-told s B e w false t d refl i), (λ u. refl))
+
+-- the storage has the sum, and where there is a sign the difference
+pub sum-stays : (s : Bool) (B W : ℕ) (x y w : ℤ) → 1 ≤ B → B < W → InRange s B x → InRange s B y → w ≡ wrap s W (x +ℤ y) → w ≡ x +ℤ y
+sum-stays false B W x y w h g i j n =
+    let p = twice B W h g in let b = i.low in let c = i.high in let d = j.low in let f = j.high in
+    n ∙ wrap-of_in_range false W (x +ℤ y) (omega arith) (record { low = omega (arith, ints); high = omega (arith, ints) })
+sum-stays true B W x y w h g i j n =
+    let p = pow_le B (W - 1) (omega arith) in let k = pow_half B h in let b = i.low in let c = i.high in let d = j.low in let f = j.high in
+    n ∙ wrap-of_in_range true W (x +ℤ y) (omega arith) (record { low = omega (arith, ints); high = omega (arith, ints) })
+
+pub difference-stays : (s : Bool) (B W : ℕ) (x y w : ℤ) → s ≡ true → 1 ≤ B → B < W → InRange s B x → InRange s B y → w ≡ wrap s W (x -ℤ y) → w ≡ x -ℤ y
+difference-stays false B W x y w t h g i j n = cc
+difference-stays true B W x y w t h g i j n =
+    let p = pow_le B (W - 1) (omega arith) in let k = pow_half B h in let b = i.low in let c = i.high in let d = j.low in let f = j.high in
+    n ∙ wrap-of_in_range true W (x -ℤ y) (omega arith) (record { low = omega (arith, ints); high = omega (arith, ints) })
 
 -- the truncation of the stored number is the truncation of the exact one
 pub wrap-stays : (s : Bool) (B W : ℕ) (e w n : ℤ) → 1 ≤ B → B ≤ W → n ≡ wrap s B w → w ≡ wrap s W e → n ≡ wrap s B e

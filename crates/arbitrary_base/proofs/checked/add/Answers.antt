@@ -1,19 +1,16 @@
 use Rattle.std.proofs.Common.{arith, ◌<◌}
-use Rattle.arbitrary_base.proofs.storages.SpareBit.{add-tells, none-told, flag-exact}
+use Rattle.arbitrary_base.proofs.storages.SpareBit.{add-tells, none-told}
 use Rattle.arbitrary_base.proofs.checked.add.Goals as goal
 
 pub returns-then-is_within : goal.returns-then-is_within
 returns-then-is_within g c =
-    let room : c.args.bits < g.T.Storage.WIDTH = omega (arith, c.WIDTH-else-SIGNED.ensures, c.if-bits-WIDTH.true) in
+    let room : c.args.bits < g.T.Storage.WIDTH = omega (arith, c.WIDTH.ensures, c.if-bits-WIDTH.true) in
     (add-tells g.T.Storage.SIGNED c.args.bits g.T.Storage.WIDTH _ _ _ c.requires.width room c.requires.x_in c.requires.y_in c.wrapping_add-sum.ensures).0
     (c.is_within.ensures.0 c.if-is_within.true)
 
 pub returns-else-is_within : goal.returns-else-is_within
 returns-else-is_within g c =
-    let room : c.args.bits < g.T.Storage.WIDTH = omega (arith, c.WIDTH-else-SIGNED.ensures, c.if-bits-WIDTH.true) in
+    let room : c.args.bits < g.T.Storage.WIDTH = omega (arith, c.WIDTH.ensures, c.if-bits-WIDTH.true) in
     none-told g.T.Storage.SIGNED c.args.bits _ _ _
     (add-tells g.T.Storage.SIGNED c.args.bits g.T.Storage.WIDTH _ _ _ c.requires.width room c.requires.x_in c.requires.y_in c.wrapping_add-sum.ensures)
     c.is_within.ensures c.if-is_within.false
-
-pub returns-else-overflow : goal.returns-else-overflow
-returns-else-overflow g c = flag-exact g.T.Storage.SIGNED c.args.bits _ _ _ c.requires.width c.add-sum.ensures.value c.add-sum.ensures.overflow c.if-overflow.false

@@ -8,10 +8,10 @@ from_i64-requires g c = record {
 }
 
 pub returns-then-overflow : goal.returns-then-overflow
-returns-then-overflow g c = flag-none g.T.Storage.SIGNED c.args.bits _ _ c.flagged_mul-product.ensures.overflow c.if-overflow.true
+returns-then-overflow g c = flag-none g.T.Storage.SIGNED c.args.bits _ _ c.mul-product.ensures.overflow c.if-overflow.true
 
 pub returns-else-overflow : goal.returns-else-overflow
-returns-else-overflow g c = flag-exact g.T.Storage.SIGNED c.args.bits _ _ _ c.requires.width c.flagged_mul-product.ensures.value c.flagged_mul-product.ensures.overflow c.if-overflow.false
+returns-else-overflow g c = flag-exact g.T.Storage.SIGNED c.args.bits _ _ _ c.requires.width c.mul-product.ensures.value c.mul-product.ensures.overflow c.if-overflow.false
 
 pub returns-then-overflow-2 : goal.returns-then-overflow-2
 returns-then-overflow-2 g c =

@@ -4,11 +4,11 @@ use Rattle.arbitrary_base.proofs.overflowing.add.Goals as goal
 
 pub returns-then-bits-WIDTH-clause-value : goal.returns-then-bits-WIDTH-clause-value
 returns-then-bits-WIDTH-clause-value g c =
-    wrap-stays g.T.Storage.SIGNED c.args.bits g.T.Storage.WIDTH _ _ _ c.requires.width c.requires.storage c.truncated-sum.ensures.value c.wrapping_add-spare.ensures
+    wrap-stays g.T.Storage.SIGNED c.args.bits g.T.Storage.WIDTH _ _ _ c.requires.width c.requires.storage c.truncated.ensures.value c.wrapping_add-sum.ensures
 
 pub returns-then-bits-WIDTH-clause-overflow : goal.returns-then-bits-WIDTH-clause-overflow
 returns-then-bits-WIDTH-clause-overflow g c =
-    let room : c.args.bits < g.T.Storage.WIDTH = omega (arith, c.WIDTH-then-SIGNED-2.ensures, c.if-bits-WIDTH.true) in
-    overflow-told g.T.Storage.SIGNED c.args.bits _ _ _ _ c.requires.width
-    (add-tells g.T.Storage.SIGNED c.args.bits g.T.Storage.WIDTH _ _ _ c.requires.width room c.requires.x_in c.requires.y_in c.wrapping_add-spare.ensures)
-    c.truncated-sum.ensures.value c.is_unchanged.ensures
+    let room : c.args.bits < g.T.Storage.WIDTH = omega (arith, c.WIDTH.ensures, c.if-bits-WIDTH.true) in
+    overflow-told g.T.Storage.SIGNED c.args.bits _ _ _
+    (add-tells g.T.Storage.SIGNED c.args.bits g.T.Storage.WIDTH _ _ _ c.requires.width room c.requires.x_in c.requires.y_in c.wrapping_add-sum.ensures)
+    c.is_within.ensures

@@ -1,11 +1,11 @@
 use Rattle.arbitrary_base.proofs.storages.SpareBit.{wrap-stays, mul-overflow_told}
 use Rattle.arbitrary_base.proofs.overflowing.mul.Goals as goal
 
-pub returns-else-WIDTH-le16-clause-value : goal.returns-else-WIDTH-le16-clause-value
-returns-else-WIDTH-le16-clause-value g c =
+pub returns-else-SIGNED-clause-value : goal.returns-else-SIGNED-clause-value
+returns-else-SIGNED-clause-value g c =
     wrap-stays g.T.Storage.SIGNED c.args.bits g.T.Storage.WIDTH _ _ _ c.requires.width c.requires.storage c.truncated.ensures.value c.overflowing_mul-product.ensures.value
 
-pub returns-else-WIDTH-le16-clause-overflow : goal.returns-else-WIDTH-le16-clause-overflow
-returns-else-WIDTH-le16-clause-overflow g c =
+pub returns-else-SIGNED-clause-overflow : goal.returns-else-SIGNED-clause-overflow
+returns-else-SIGNED-clause-overflow g c =
     mul-overflow_told g.T.Storage.SIGNED c.args.bits g.T.Storage.WIDTH _ _ _ _ c.requires.width c.requires.storage c.overflowing_mul-product.ensures.value
-    c.overflowing_mul-product.ensures.overflow c.is_in_range-else-WIDTH-le16.ensures
+    c.overflowing_mul-product.ensures.overflow c.is_in_range-else-SIGNED.ensures

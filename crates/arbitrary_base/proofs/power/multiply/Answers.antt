@@ -1,14 +1,10 @@
--- For `multiply` in src/power.rt, a reply for each of its three ways: with a bit to spare by the flag (Spare.antt), at 128 bits by factors of 64
+-- For `multiply` in src/power.rt, a reply for each of its three ways: with a bit to spare by `checked::mul`, at 128 bits by factors of 64
 -- (Squaring.antt), else by `checked_mul`.
 use Rattle.std.proofs.Common.{◌≡◌, ℕ, arith, sym, subst, refl, ◌∙◌}
 use Rattle.arbitrary_base.specs.Range.{InRange}
 use Rattle.std.specs.Prelude.{◌*ℤ◌, Some, SomeIff, option_map}
-use Rattle.arbitrary_base.proofs.storages.SpareBit.{flag-exact}
 use Rattle.arbitrary_base.proofs.integers.Squaring.{half-product}
 use Rattle.arbitrary_base.proofs.power.multiply.Goals as goal
-
-pub returns-else-overflow-clause-product : goal.returns-else-overflow-clause-product
-returns-else-overflow-clause-product g c = flag-exact g.T.Storage.SIGNED c.args.bits _ _ _ c.requires.width c.mul-product.ensures.value c.mul-product.ensures.overflow c.if-overflow.false
 
 pub returns-then-is_in_range-2-clause-product : goal.returns-then-is_in_range-2-clause-product
 returns-then-is_in_range-2-clause-product g c =

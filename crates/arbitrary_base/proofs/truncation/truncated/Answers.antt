@@ -1,18 +1,20 @@
-use Rattle.std.proofs.Common.{◌∙◌}
-use Rattle.std.specs.Prelude.{pos}
-use Rattle.arbitrary_base.specs.Residue.{wrap, Congruent}
-use Rattle.arbitrary_base.proofs.modular.Truncation.{narrowed, InRange-of_wrap}
+-- For `truncated` in src/truncation.rt: with a sign by two shifts, without one by a mask.
+use Rattle.std.proofs.Common.{sym, ◌∙◌}
+use Rattle.arbitrary_base.proofs.modular.Truncation.{masked-number, InRange-of_wrap}
+use Rattle.arbitrary_base.proofs.storages.RaisedNumber.{shifted-back}
 use Rattle.arbitrary_base.proofs.truncation.truncated.Goals as goal
 
-value : goal.returns-clause-value
-value g c =
-    let s = g.T.Storage.SIGNED in
-    let h : Congruent 128 (pos c.extend.result) (wrap s c.args.bits (pos c.pattern.result)) = rw c.SIGNED.ensures at c.extend.ensures in
-    c.from_pattern.ensures
-    ∙ narrowed s c.args.bits g.T.Storage.WIDTH c.extend.result c.pattern.result (g.T.Storage.number c.args.x) c.requires.width c.requires.storage (g.met.T.Storage.width_law.1) c.pattern.ensures.value h
+pub returns-then-SIGNED-clause-value : goal.returns-then-SIGNED-clause-value
+returns-then-SIGNED-clause-value g c =
+    shifted-back g.T.Storage.SIGNED c.args.bits g.T.Storage.WIDTH _ _ _ _ c.requires.width c.requires.storage c.WIDTH.ensures c.shl_by.ensures c.shr_by.ensures
 
-pub returns-clause-value : goal.returns-clause-value
-returns-clause-value g c = value g c
+pub returns-then-SIGNED-clause-range : goal.returns-then-SIGNED-clause-range
+returns-then-SIGNED-clause-range g c = InRange-of_wrap g.T.Storage.SIGNED c.args.bits _ _ c.requires.width (returns-then-SIGNED-clause-value g c)
 
-pub returns-clause-range : goal.returns-clause-range
-returns-clause-range g c = InRange-of_wrap g.T.Storage.SIGNED c.args.bits _ _ c.requires.width (value g c)
+pub returns-else-SIGNED-clause-value : goal.returns-else-SIGNED-clause-value
+returns-else-SIGNED-clause-value g c =
+    masked-number g.T.Storage.SIGNED c.args.bits g.T.Storage.WIDTH _ _ _ _ (sym c.SIGNED.ensures ∙ c.if-SIGNED.false) c.requires.width c.requires.storage
+    c.pattern.ensures.value c.masked.ensures c.from_pattern.ensures
+
+pub returns-else-SIGNED-clause-range : goal.returns-else-SIGNED-clause-range
+returns-else-SIGNED-clause-range g c = InRange-of_wrap g.T.Storage.SIGNED c.args.bits _ _ c.requires.width (returns-else-SIGNED-clause-value g c)
