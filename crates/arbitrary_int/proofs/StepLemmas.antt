@@ -1,21 +1,21 @@
 -- Why a step is right: from the contract of each call to the meaning of its operation.
-use Rattle.std.specs.Prelude.{◌≡◌, ◌≢◌, ◌↔◌, ℕ, ℤ, Bool, true, false, pos, ◌<◌, ◌≤◌, List, length, map, get_or, set, Option, Some, None, Result, Ok, Err, ok_or, int_div, nat_eq, nat_lt, MatchResult, IsNone, IfSome, if◌then◌else◌, SomeIff, option_map}
 use Rattle.std.specs.Bool.{then_some}
 use Rattle.std.specs.Ordering.{int_eq}
+use Rattle.std.specs.Prelude.{Bool, Err, IfSome, IsNone, List, MatchResult, None, Ok, Option, Result, Some, SomeIff, false, get_or, if◌then◌else◌, int_div, length, map, nat_eq, nat_lt, ok_or, option_map, pos, set, true, ℕ, ℤ, ◌<◌, ◌↔◌, ◌≡◌, ◌≢◌, ◌≤◌}
 use Rattle.std.specs.Result.{result_map_both}
-use Rattle.std.proofs.Common.{arith, refl, ap, sym, ◌∙◌, subst, lit≤, lit<}
+use Rattle.std.proofs.Common.{ap, arith, lit<, lit≤, refl, subst, sym, ◌∙◌}
 use Rattle.std.proofs.lemmas.Int.{ints}
 use Rattle.std.proofs.lemmas.List.{get_or-map, map-set}
 use Rattle.arbitrary_base.specs.Range.{InRange, in_range}
-use Rattle.arbitrary_base.specs.Residue.{residue, Congruent}
+use Rattle.arbitrary_base.specs.Residue.{Congruent, residue}
 use Rattle.arbitrary_base.proofs.modular.Residue.{congruent-same, residue-congruent}
-use Rattle.arbitrary_base.proofs.modular.Truncation.{InRange-wider, in_range-true, in_range-false}
-use Rattle.arbitrary_base.proofs.storages.Primitive.{residue-pos}
+use Rattle.arbitrary_base.proofs.modular.Truncation.{InRange-wider, in_range-false, in_range-true}
 use Rattle.arbitrary_base.proofs.storages.CheckedSum.{zero-in_range}
-use Rattle.arbitrary_int.specs.Step.{two_meaning, one_meaning, by_meaning}
-use Rattle.arbitrary_int.specs.declared.steps.TwoOp.{TwoOp}
-use Rattle.arbitrary_int.specs.declared.steps.OneOp.{OneOp}
+use Rattle.arbitrary_base.proofs.storages.Primitive.{residue-pos}
+use Rattle.arbitrary_int.specs.Step.{by_meaning, one_meaning, two_meaning}
 use Rattle.arbitrary_int.specs.declared.steps.ByOp.{ByOp}
+use Rattle.arbitrary_int.specs.declared.steps.OneOp.{OneOp}
+use Rattle.arbitrary_int.specs.declared.steps.TwoOp.{TwoOp}
 use Rattle.arbitrary_int.specs.declared.steps.Why.{Why}
 use Rattle.arbitrary_int.specs.declared.steps.Why.TheVariants.{Refused}
 
@@ -88,8 +88,6 @@ below-checks number B amount x (Some v) r h g e = rw e (by_test (nat_lt amount B
     by_test false p = let l : B ≤ amount = grind arith in let n = h.1 l in absurd (cc)
 
 pub ruleset results = (exact-checks, quotient-checks, below-checks)
-
-pub ruleset divisors = (nonzero, unless_zero-zero, unless_zero-other)
 
 -- ---- registers
 

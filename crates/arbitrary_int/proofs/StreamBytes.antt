@@ -1,46 +1,12 @@
 -- The bytes of a number in a stream: how many they are, and that they tell the number, also where more bytes follow.
-use Rattle.std.specs.Prelude.{◌≡◌, ℕ, ℤ, Bool, true, false, pos, List, ◌++◌, length, reverse, take, ◌≤◌, ◌<◌, ◌*◌, ◌^◌}
-use lib.Dec.{eqb}
-use lib.Pointwise.{bytes_decides, pointwise}
-use Rattle.std.proofs.Common.{refl, sym, ap, subst, ◌∙◌, arith}
-use Rattle.std.proofs.Math.Seq.{take-append_seam}
-use Rattle.std.proofs.lemmas.List.{reverse-reverse, take_all}
-use Rattle.std.specs.Int.{div_ceil}
+use Rattle.std.specs.Prelude.{Bool, List, false, pos, true, ℕ, ℤ, ◌<◌, ◌^◌, ◌≡◌, ◌≤◌}
+use Rattle.std.proofs.Common.{ap, subst, sym, ◌∙◌}
+use Rattle.arbitrary_base.specs.Bytes.{bytes_number}
 use Rattle.arbitrary_base.specs.Range.{InRange}
 use Rattle.arbitrary_base.specs.Residue.{Congruent, wrap}
-use Rattle.arbitrary_base.specs.Bytes.{BorshBytes, bytes, bytes_number}
 use Rattle.arbitrary_base.proofs.modular.ExactOrCongruent.{wrapped-congruent}
 use Rattle.arbitrary_base.proofs.modular.Residue.{wrap-of_in_range}
 use Rattle.arbitrary_base.proofs.storages.Primitive.{unsigned-in_range}
-use Rattle.arbitrary_base.proofs.bytes.NumberOfBytes.{Borsh-canonical, bytes-wrap, length-Borsh, wrap-Borsh, wrap-bytes_number}
-
-pub Borsh-told : (B : ℕ) (x : ℤ) → (BorshBytes B x ≡ BorshBytes B x) × (length (BorshBytes B x) ≡ div_ceil B 8) × (bytes_number (BorshBytes B x) < 2 ^ B)
-Borsh-told B x = (refl, length-Borsh B x, (Borsh-canonical B x).below)
-
--- the number that the first bytes of a list tell
-unfoldable pub told : Bool → ℕ → List ℕ → ℤ
-told s B l = wrap s B (pos (bytes_number (take (div_ceil B 8) l)))
-
-module _ (s : Bool) (B : ℕ) (x : ℤ) (h : 1 ≤ B) (f : InRange s B x) where
-  told-alone : told s B (BorshBytes B x) ≡ x
-  unfolding told
-  told-alone = ap (λ (l : List ℕ). wrap s B (pos (bytes_number l))) (take_all (div_ceil B 8) (BorshBytes B x) (omega (arith, length-Borsh B x))) ∙ wrap-Borsh s B x h f
-
-  told-first : (more : List ℕ) → told s B (BorshBytes B x ++ more) ≡ x
-  unfolding told
-  told-first more = ap (λ (l : List ℕ). wrap s B (pos (bytes_number l))) (ap (λ (n : ℕ). take n (BorshBytes B x ++ more)) (sym (length-Borsh B x)) ∙ take-append_seam (BorshBytes B x) more) ∙ wrap-Borsh s B x h f
-
-pub number-of_Borsh : (B : ℕ) (x : ℤ) → 1 ≤ B → InRange false B x → (BorshBytes B x ≡ BorshBytes B x) × (told false B (BorshBytes B x) ≡ x)
-number-of_Borsh B x h f = (refl, told-alone false B x h f)
-
-pub number-of_Borsh_signed : (B : ℕ) (x : ℤ) → 1 ≤ B → InRange true B x → (BorshBytes B x ≡ BorshBytes B x) × (told true B (BorshBytes B x) ≡ x)
-number-of_Borsh_signed B x h f = (refl, told-alone true B x h f)
-
-pub first-of_Borsh : (B : ℕ) (x : ℤ) (more : List ℕ) → 1 ≤ B → InRange false B x → (BorshBytes B x ++ more ≡ BorshBytes B x ++ more) × (told false B (BorshBytes B x ++ more) ≡ x)
-first-of_Borsh B x more h f = (refl, told-first false B x h f more)
-
-pub first-of_Borsh_signed : (B : ℕ) (x : ℤ) (more : List ℕ) → 1 ≤ B → InRange true B x → (BorshBytes B x ++ more ≡ BorshBytes B x ++ more) × (told true B (BorshBytes B x ++ more) ≡ x)
-first-of_Borsh_signed B x more h f = (refl, told-first true B x h f more)
 
 -- the number that is read from canonical bytes: the one that they tell, and with a sign one that is congruent to it
 pub number-of_pattern : (s : Bool) (B p : ℕ) (l : List ℕ) (x : ℤ) → 1 ≤ B → p ≡ bytes_number l → bytes_number l < 2 ^ B → x ≡ wrap s B (pos p)
@@ -48,24 +14,3 @@ pub number-of_pattern : (s : Bool) (B p : ℕ) (l : List ℕ) (x : ℤ) → 1 �
 number-of_pattern s B p l x w e h f =
     let g : x ≡ wrap s B (pos (bytes_number l)) = f ∙ ap (λ (k : ℕ). wrap s B (pos k)) e in
     ((λ u. g ∙ wrap-of_in_range s B (pos (bytes_number l)) w (subst (λ (t : Bool). InRange t B (pos (bytes_number l))) (sym u) (unsigned-in_range B (bytes_number l) h))), (λ _. wrapped-congruent s B (pos (bytes_number l)) x g))
-
--- a test of two arrays of bytes
-pub bytes-compared : (l m : List ℕ) → (pointwise eqb l m ≡ pointwise eqb l m) × (l ≡ m → pointwise eqb l m ≡ true) × (pointwise eqb l m ≡ true → l ≡ m)
-bytes-compared l m = let d = bytes_decides l m in (refl, d.1, d.0)
-
--- the bytes of a number that is converted to the other sign
-pub bytes-converted : (s : Bool) (B n : ℕ) (x : ℤ) → B ≡ 8 * n → bytes n (wrap s B x) ≡ bytes n x
-bytes-converted s B n x e = bytes-wrap s B n x (wrap s B x) e refl
-
--- a number by its bytes, and bytes by those in the other order
-abbrev pub spelled : Bool → ℕ → List ℕ → ℤ
-spelled s n l = wrap s (8 * n) (pos (bytes_number l))
-
-pub bytes-spell : (n : ℕ) (x : ℤ) → 1 ≤ n → InRange false (8 * n) x → (bytes n x ≡ bytes n x) × (spelled false n (bytes n x) ≡ x)
-bytes-spell n x h f = (refl, wrap-bytes_number false n x h f)
-
-pub bytes-spell_signed : (n : ℕ) (x : ℤ) → 1 ≤ n → InRange true (8 * n) x → (bytes n x ≡ bytes n x) × (spelled true n (bytes n x) ≡ x)
-bytes-spell_signed n x h f = (refl, wrap-bytes_number true n x h f)
-
-pub reverse-back : (l : List ℕ) → (reverse l ≡ reverse l) × (reverse (reverse l) ≡ l)
-reverse-back l = (refl, reverse-reverse l)

@@ -10,7 +10,9 @@ pub mod written
 pub mod signs
 pub mod counts
 pub mod shifts
+pub mod rotations
 pub mod sums
+pub mod orders
 pub mod numbers
 pub mod bytes
 pub mod steps

@@ -7,26 +7,27 @@ use Rattle.std.proofs.lemmas.List.{map-id, reverse-reverse}
 use Rattle.arbitrary_base.proofs.LawProof.{in_range-tells}
 use Rattle.arbitrary_base.proofs.integers.Ring.{pos-unsigned_abs}
 use Rattle.arbitrary_base.proofs.modular.Residue.{wrap-congruent, wrap-of_in_range}
-use Rattle.arbitrary_base.proofs.operations.KnownMask.{and-by_complement, and-digits}
-use Rattle.arbitrary_base.proofs.operations.RotatedNumber.{rotated_left-number, rotated_right-number}
 use Rattle.arbitrary_base.proofs.storages.Clamp.{clamp-above, clamp-below, clamp-fits}
-use Rattle.arbitrary_laws.proofs.fields.EmptyWord.{with_field-of_nothing}
+use Rattle.arbitrary_int.proofs.RangeNumbers.{numbers-count}
 use Rattle.arbitrary_laws.proofs.Everyday.{or_three}
+use Rattle.arbitrary_laws.proofs.bits.OwnBits.{own_bits-in_range}
+use Rattle.arbitrary_laws.proofs.bytes.StreamBytes.{Borsh-told, bytes-compared, bytes-converted, bytes-spell, bytes-spell_signed, first-of_Borsh, first-of_Borsh_signed, number-of_Borsh, number-of_Borsh_signed, reverse-back}
+use Rattle.arbitrary_laws.proofs.fields.EmptyWord.{with_field-of_nothing}
 use Rattle.arbitrary_laws.proofs.fields.JoinedFields.{joined-five, joined-four, joined-three}
 use Rattle.arbitrary_laws.proofs.fields.JoinedWords.{words_read_back}
-use Rattle.arbitrary_laws.proofs.written.KnownNumbers.{and-of_negative, and-of_positive, and-with_negative, left-of_negative, left-of_positive, not-of_negative, not-of_positive, or-of_negative, or-of_positive, or-with_negative, reversed-of_negative, reversed-of_positive, right-of_negative, right-of_positive, rotated_left-of_negative, rotated_left-of_positive, rotated_right-of_negative, rotated_right-of_positive, signed_wrap-of_negative, signed_wrap-of_positive, wrap-of_negative, wrap-of_positive, xor-of_negative, xor-of_positive, xor-with_negative}
 use Rattle.arbitrary_laws.proofs.fields.MovedIn.{numeral_three, numeral_two, or_moved_above, or_moved_in, or_two_moved_in}
-use Rattle.arbitrary_laws.proofs.places.OtherBits.{gone-cleared, other_bit-cleared, other_bit-set, other_bit-turned, same_bit-set, same_bit-turned}
-use Rattle.arbitrary_laws.proofs.bits.OwnBits.{own_bits-in_range}
-use Rattle.arbitrary_laws.proofs.places.PrimitiveBit.{bit_cleared, bit_cleared-other, bit_set, bit_set-kept, bit_set-other, bit_tested, bit_turned, bit_turned-other, set_then_cleared}
 use Rattle.arbitrary_laws.proofs.fields.PrimitiveFlags.{and_beside, or_flags, xor_flags}
-use Rattle.arbitrary_int.proofs.RangeNumbers.{last_of-joined, numbers-count, numbers-end, numbers-head}
 use Rattle.arbitrary_laws.proofs.fields.ReadBack.{low_of_three, middle_of_three}
 use Rattle.arbitrary_laws.proofs.fields.ReplacedField.{and_around, or-into_cleared, or_below_mask, or_into_hole, written-inside, written-outside}
 use Rattle.arbitrary_laws.proofs.fields.SideBySide.{below_numeral, numeral_next, or_five, or_four, or_next, or_six, or_three_up}
-use Rattle.arbitrary_laws.proofs.steps.StepWords.{difference-step, product-step, sum-step}
-use Rattle.arbitrary_int.proofs.StreamBytes.{Borsh-told, bytes-compared, bytes-converted, bytes-spell, bytes-spell_signed, first-of_Borsh, first-of_Borsh_signed, number-of_Borsh, number-of_Borsh_signed, reverse-back}
+use Rattle.arbitrary_laws.proofs.masks.NumberUnderMask.{and-by_complement, and-digits}
 use Rattle.arbitrary_laws.proofs.numbers.TextLength.{length-of_text}
+use Rattle.arbitrary_laws.proofs.places.OtherBits.{gone-cleared, other_bit-cleared, other_bit-set, other_bit-turned, same_bit-set, same_bit-turned}
+use Rattle.arbitrary_laws.proofs.places.PrimitiveBit.{bit_cleared, bit_cleared-other, bit_set, bit_set-kept, bit_set-other, bit_tested, bit_turned, bit_turned-other, set_then_cleared}
+use Rattle.arbitrary_laws.proofs.rotations.RotatedNumber.{rotated_left-number, rotated_right-number}
+use Rattle.arbitrary_laws.proofs.steps.RangeNumbers.{last_of-joined, numbers-end, numbers-head}
+use Rattle.arbitrary_laws.proofs.steps.StepWords.{difference-step, product-step, sum-step}
+use Rattle.arbitrary_laws.proofs.written.KnownNumbers.{and-of_negative, and-of_positive, and-with_negative, left-of_negative, left-of_positive, not-of_negative, not-of_positive, or-of_negative, or-of_positive, or-with_negative, reversed-of_negative, reversed-of_positive, right-of_negative, right-of_positive, rotated_left-of_negative, rotated_left-of_positive, rotated_right-of_negative, rotated_right-of_positive, signed_wrap-of_negative, signed_wrap-of_positive, wrap-of_negative, wrap-of_positive, xor-of_negative, xor-of_positive, xor-with_negative}
 
 -- three to six fields put together by `|`, and one read back under a mask
 pub ruleset fields = (or_three, or_four, or_five, or_six, or_three_up, joined-three, joined-four, joined-five, and_numeral)

@@ -5,3 +5,5 @@ pub mod ComplementParts
 pub mod LongerSide
 pub mod NegatedParts
 pub mod OwnBits
+pub mod Identities
+pub mod Parts

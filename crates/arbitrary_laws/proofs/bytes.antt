@@ -1,1 +1,2 @@
 pub mod SwappedBytes
+pub mod StreamBytes

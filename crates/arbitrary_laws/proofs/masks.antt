@@ -5,3 +5,4 @@ pub mod MaskTests
 pub mod MaskedResults
 pub mod VariableMasks
 pub mod WrittenMask
+pub mod NumberUnderMask

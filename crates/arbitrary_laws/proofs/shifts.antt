@@ -1,7 +1,7 @@
-pub mod BackRotations
 pub mod FoldingOrder
 pub mod MovedProducts
-pub mod RightRotations
 pub mod ShiftPairs
 pub mod Truncations
 pub mod VariableAmounts
+pub mod Folding
+pub mod ShiftAndBack

@@ -6,3 +6,10 @@ pub mod LowSums
 pub mod Saturations
 pub mod SerialNumbers
 pub mod WrappedWords
+pub mod BitsBesideSums
+pub mod Carry
+pub mod Complements
+pub mod HighestBit
+pub mod Multiple
+pub mod Offset
+pub mod Ring

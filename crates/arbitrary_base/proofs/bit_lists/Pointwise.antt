@@ -1,12 +1,12 @@
 -- Bit lists taken together item by item, whatever is done to two items, and the laws of `and`, `or`, `xor` and `not` on them.
-use Rattle.std.specs.Prelude.{◌≡◌, ℕ, zero, suc, ◌-◌, Bool, true, false, not, ◌&&◌, ◌||◌, List, [], ◌∷◌, ◌++◌, map, reverse, length, take, drop, replicate}
 use Rattle.std.specs.Bool.{beq}
-use Rattle.std.specs.List.{zip, slice_rotate_right}
-use Rattle.std.proofs.Common.{refl, sym, ap, ap₂, ◌∙◌, arith, length-drop}
-use Rattle.std.proofs.lemmas.List.{length-reverse, map-append, take-map, drop-map}
+use Rattle.std.specs.List.{slice_rotate_right, zip}
+use Rattle.std.specs.Prelude.{Bool, List, [], drop, false, length, map, not, replicate, reverse, suc, take, true, zero, ℕ, ◌&&◌, ◌++◌, ◌-◌, ◌||◌, ◌∷◌, ◌≡◌}
+use Rattle.std.proofs.Common.{ap, ap₂, arith, length-drop, refl, sym, ◌∙◌}
+use Rattle.std.proofs.lemmas.List.{drop-map, length-reverse, map-append, take-map}
 use Rattle.arbitrary_base.specs.BitList.{bits_and, bits_or, bits_xor, shl, shr}
-use Rattle.arbitrary_base.proofs.bit_lists.UnsignedNumber.{length-not}
 use Rattle.arbitrary_base.proofs.bit_lists.Movement.{reverse-cons, rotr}
+use Rattle.arbitrary_base.proofs.bit_lists.UnsignedNumber.{length-not}
 
 -- `bits_and`, `bits_or` and `bits_xor` are this
 abbrev pub pointwise : (Bool → Bool → Bool) → List Bool → List Bool → List Bool
@@ -101,301 +101,42 @@ not-reverse (a ∷ l) =
     reverse-cons (not a) (map not l) ∙ ap (λ (r : List Bool). r ++ not a ∷ []) (not-reverse l)
     ∙ sym (map-append not (reverse l) (a ∷ [])) ∙ ap (map not) (sym (reverse-cons a l))
 
--- ---- one operation
+-- ---- the laws of one operation that proofs over lists cite; operations/Expression.antt has those over numbers
 
 pub cons : {a b : Bool} {l m : List Bool} → a ≡ b → l ≡ m → a ∷ l ≡ b ∷ m
 cons e f = ap₂ (λ (x : Bool) (y : List Bool). x ∷ y) e f
 
+swapped : (f : Bool → Bool → Bool) (l m : List Bool) → ((a b : Bool) → f a b ≡ f b a) → pointwise f l m ≡ pointwise f m l
+swapped f [] [] h = refl
+swapped f [] (b ∷ m) h = refl
+swapped f (a ∷ l) [] h = refl
+swapped f (a ∷ l) (b ∷ m) h = cons (h a b) (swapped f l m h)
+
 pub and-comm : (l m : List Bool) → bits_and l m ≡ bits_and m l
-and-comm [] [] = refl
-and-comm [] (b ∷ m) = refl
-and-comm (a ∷ l) [] = refl
-and-comm (a ∷ l) (b ∷ m) = cons (item a b) (and-comm l m)
-  where
-    item : (a b : Bool) → (a && b) ≡ (b && a)
-    item true true = refl
-    item true false = refl
-    item false true = refl
-    item false false = refl
+and-comm l m = swapped (λ a b. a && b) l m (λ a b. grind arith)
 
 pub or-comm : (l m : List Bool) → bits_or l m ≡ bits_or m l
-or-comm [] [] = refl
-or-comm [] (b ∷ m) = refl
-or-comm (a ∷ l) [] = refl
-or-comm (a ∷ l) (b ∷ m) = cons (item a b) (or-comm l m)
-  where
-    item : (a b : Bool) → (a || b) ≡ (b || a)
-    item true true = refl
-    item true false = refl
-    item false true = refl
-    item false false = refl
+or-comm l m = swapped (λ a b. a || b) l m (λ a b. grind arith)
 
-pub and-assoc : (l m n : List Bool) → bits_and (bits_and l m) n ≡ bits_and l (bits_and m n)
-and-assoc [] m n = refl
-and-assoc (a ∷ l) [] n = refl
-and-assoc (a ∷ l) (b ∷ m) [] = refl
-and-assoc (a ∷ l) (b ∷ m) (c ∷ n) = cons (item a b c) (and-assoc l m n)
-  where
-    item : (a b c : Bool) → ((a && b) && c) ≡ (a && (b && c))
-    item true true true = refl
-    item true true false = refl
-    item true false true = refl
-    item true false false = refl
-    item false true true = refl
-    item false true false = refl
-    item false false true = refl
-    item false false false = refl
+-- a list and one whose items are alike
+beside : (f : Bool → Bool → Bool) (g : Bool → Bool) (c : Bool) (l : List Bool) → ((a : Bool) → f a c ≡ g a) → pointwise f l (replicate (length l) c) ≡ map g l
+beside f g c [] h = refl
+beside f g c (a ∷ l) h = cons (h a) (beside f g c l h)
 
-pub or-assoc : (l m n : List Bool) → bits_or (bits_or l m) n ≡ bits_or l (bits_or m n)
-or-assoc [] m n = refl
-or-assoc (a ∷ l) [] n = refl
-or-assoc (a ∷ l) (b ∷ m) [] = refl
-or-assoc (a ∷ l) (b ∷ m) (c ∷ n) = cons (item a b c) (or-assoc l m n)
-  where
-    item : (a b c : Bool) → ((a || b) || c) ≡ (a || (b || c))
-    item true true true = refl
-    item true true false = refl
-    item true false true = refl
-    item true false false = refl
-    item false true true = refl
-    item false true false = refl
-    item false false true = refl
-    item false false false = refl
+same-items : (g : Bool → Bool) (l : List Bool) → ((a : Bool) → g a ≡ a) → map g l ≡ l
+same-items g [] h = refl
+same-items g (a ∷ l) h = cons (h a) (same-items g l h)
 
-pub xor-assoc : (l m n : List Bool) → bits_xor (bits_xor l m) n ≡ bits_xor l (bits_xor m n)
-xor-assoc [] m n = refl
-xor-assoc (a ∷ l) [] n = refl
-xor-assoc (a ∷ l) (b ∷ m) [] = refl
-xor-assoc (a ∷ l) (b ∷ m) (c ∷ n) = cons (item a b c) (xor-assoc l m n)
-  where
-    item : (a b c : Bool) → not (beq (not (beq a b)) c) ≡ not (beq a (not (beq b c)))
-    item true true true = refl
-    item true true false = refl
-    item true false true = refl
-    item true false false = refl
-    item false true true = refl
-    item false true false = refl
-    item false false true = refl
-    item false false false = refl
+alike-items : (c : Bool) (l : List Bool) → map (λ (a : Bool). c) l ≡ replicate (length l) c
+alike-items c [] = refl
+alike-items c (a ∷ l) = cons refl (alike-items c l)
 
-pub and-over_or : (l m n : List Bool) → bits_and l (bits_or m n) ≡ bits_or (bits_and l m) (bits_and l n)
-and-over_or [] m n = refl
-and-over_or (a ∷ l) [] n = refl
-and-over_or (a ∷ l) (b ∷ m) [] = refl
-and-over_or (a ∷ l) (b ∷ m) (c ∷ n) = cons (item a b c) (and-over_or l m n)
-  where
-    item : (a b c : Bool) → (a && (b || c)) ≡ ((a && b) || (a && c))
-    item true true true = refl
-    item true true false = refl
-    item true false true = refl
-    item true false false = refl
-    item false true true = refl
-    item false true false = refl
-    item false false true = refl
-    item false false false = refl
+pub and-zeros : (l : List Bool) → bits_and l (replicate (length l) false) ≡ replicate (length l) false
+and-zeros l = beside (λ a b. a && b) (λ a. false) false l (λ a. grind arith) ∙ alike-items false l
 
-pub or-over_and : (l m n : List Bool) → bits_or l (bits_and m n) ≡ bits_and (bits_or l m) (bits_or l n)
-or-over_and [] m n = refl
-or-over_and (a ∷ l) [] n = refl
-or-over_and (a ∷ l) (b ∷ m) [] = refl
-or-over_and (a ∷ l) (b ∷ m) (c ∷ n) = cons (item a b c) (or-over_and l m n)
-  where
-    item : (a b c : Bool) → (a || (b && c)) ≡ ((a || b) && (a || c))
-    item true true true = refl
-    item true true false = refl
-    item true false true = refl
-    item true false false = refl
-    item false true true = refl
-    item false true false = refl
-    item false false true = refl
-    item false false false = refl
-
-pub and-over_xor : (l m n : List Bool) → bits_and l (bits_xor m n) ≡ bits_xor (bits_and l m) (bits_and l n)
-and-over_xor [] m n = refl
-and-over_xor (a ∷ l) [] n = refl
-and-over_xor (a ∷ l) (b ∷ m) [] = refl
-and-over_xor (a ∷ l) (b ∷ m) (c ∷ n) = cons (item a b c) (and-over_xor l m n)
-  where
-    item : (a b c : Bool) → (a && not (beq b c)) ≡ not (beq (a && b) (a && c))
-    item true true true = refl
-    item true true false = refl
-    item true false true = refl
-    item true false false = refl
-    item false true true = refl
-    item false true false = refl
-    item false false true = refl
-    item false false false = refl
-
-pub xor-comm : (l m : List Bool) → bits_xor l m ≡ bits_xor m l
-xor-comm [] [] = refl
-xor-comm [] (b ∷ m) = refl
-xor-comm (a ∷ l) [] = refl
-xor-comm (a ∷ l) (b ∷ m) = cons (item a b) (xor-comm l m)
-  where
-    item : (a b : Bool) → not (beq a b) ≡ not (beq b a)
-    item true true = refl
-    item true false = refl
-    item false true = refl
-    item false false = refl
-
-pub not-and : (l m : List Bool) → map not (bits_and l m) ≡ bits_or (map not l) (map not m)
-not-and [] m = refl
-not-and (a ∷ l) [] = refl
-not-and (a ∷ l) (b ∷ m) = cons (item a b) (not-and l m)
-  where
-    item : (a b : Bool) → not (a && b) ≡ (not a || not b)
-    item true true = refl
-    item true false = refl
-    item false true = refl
-    item false false = refl
-
-pub not-or : (l m : List Bool) → map not (bits_or l m) ≡ bits_and (map not l) (map not m)
-not-or [] m = refl
-not-or (a ∷ l) [] = refl
-not-or (a ∷ l) (b ∷ m) = cons (item a b) (not-or l m)
-  where
-    item : (a b : Bool) → not (a || b) ≡ (not a && not b)
-    item true true = refl
-    item true false = refl
-    item false true = refl
-    item false false = refl
-
-pub not-xor : (l m : List Bool) → map not (bits_xor l m) ≡ bits_xor (map not l) m
-not-xor [] m = refl
-not-xor (a ∷ l) [] = refl
-not-xor (a ∷ l) (b ∷ m) = cons (item a b) (not-xor l m)
-  where
-    item : (a b : Bool) → not (not (beq a b)) ≡ not (beq (not a) b)
-    item true true = refl
-    item true false = refl
-    item false true = refl
-    item false false = refl
-
-pub xor-parts : (l m : List Bool) → bits_xor l m ≡ bits_and (bits_or l m) (map not (bits_and l m))
-xor-parts [] m = refl
-xor-parts (a ∷ l) [] = refl
-xor-parts (a ∷ l) (b ∷ m) = cons (item a b) (xor-parts l m)
-  where
-    item : (a b : Bool) → not (beq a b) ≡ ((a || b) && not (a && b))
-    item true true = refl
-    item true false = refl
-    item false true = refl
-    item false false = refl
-
-pub absorb-and : (l m : List Bool) → length l ≡ length m → bits_and l (bits_or l m) ≡ l
-absorb-and [] m e = refl
-absorb-and (a ∷ l) [] e = absurd (omega arith)
-absorb-and (a ∷ l) (b ∷ m) e = cons (item a b) (absorb-and l m (omega arith))
-  where
-    item : (a b : Bool) → (a && (a || b)) ≡ a
-    item true true = refl
-    item true false = refl
-    item false true = refl
-    item false false = refl
-
-pub absorb-or : (l m : List Bool) → length l ≡ length m → bits_or l (bits_and l m) ≡ l
-absorb-or [] m e = refl
-absorb-or (a ∷ l) [] e = absurd (omega arith)
-absorb-or (a ∷ l) (b ∷ m) e = cons (item a b) (absorb-or l m (omega arith))
-  where
-    item : (a b : Bool) → (a || (a && b)) ≡ a
-    item true true = refl
-    item true false = refl
-    item false true = refl
-    item false false = refl
-
-pub and-same : (l : List Bool) → bits_and l l ≡ l
-and-same [] = refl
-and-same (a ∷ l) = cons (item a) (and-same l)
-  where
-    item : (a : Bool) → (a && a) ≡ a
-    item true = refl
-    item false = refl
-
-pub or-same : (l : List Bool) → bits_or l l ≡ l
-or-same [] = refl
-or-same (a ∷ l) = cons (item a) (or-same l)
-  where
-    item : (a : Bool) → (a || a) ≡ a
-    item true = refl
-    item false = refl
-
-pub and-not : (l : List Bool) → bits_and l (map not l) ≡ replicate (length l) false
-and-not [] = refl
-and-not (a ∷ l) = cons (item a) (and-not l)
-  where
-    item : (a : Bool) → (a && not a) ≡ false
-    item true = refl
-    item false = refl
-
-pub or-not : (l : List Bool) → bits_or l (map not l) ≡ replicate (length l) true
-or-not [] = refl
-or-not (a ∷ l) = cons (item a) (or-not l)
-  where
-    item : (a : Bool) → (a || not a) ≡ true
-    item true = refl
-    item false = refl
-
-pub xor-none : (l : List Bool) → bits_xor l l ≡ replicate (length l) false
-xor-none [] = refl
-xor-none (a ∷ l) = cons (item a) (xor-none l)
-  where
-    item : (a : Bool) → not (beq a a) ≡ false
-    item true = refl
-    item false = refl
+pub and-ones : (l : List Bool) → bits_and l (replicate (length l) true) ≡ l
+and-ones l = beside (λ a b. a && b) (λ a. a) true l (λ a. grind arith) ∙ same-items (λ a. a) l (λ a. refl)
 
 pub not-not : (l : List Bool) → map not (map not l) ≡ l
 not-not [] = refl
-not-not (a ∷ l) = cons (item a) (not-not l)
-  where
-    item : (a : Bool) → not (not a) ≡ a
-    item true = refl
-    item false = refl
-
-pub and-zeros : (l : List Bool) → bits_and l (replicate (length l) false) ≡ replicate (length l) false
-and-zeros [] = refl
-and-zeros (a ∷ l) = cons (item a) (and-zeros l)
-  where
-    item : (a : Bool) → (a && false) ≡ false
-    item true = refl
-    item false = refl
-
-pub or-zeros : (l : List Bool) → bits_or l (replicate (length l) false) ≡ l
-or-zeros [] = refl
-or-zeros (a ∷ l) = cons (item a) (or-zeros l)
-  where
-    item : (a : Bool) → (a || false) ≡ a
-    item true = refl
-    item false = refl
-
-pub xor-zeros : (l : List Bool) → bits_xor l (replicate (length l) false) ≡ l
-xor-zeros [] = refl
-xor-zeros (a ∷ l) = cons (item a) (xor-zeros l)
-  where
-    item : (a : Bool) → not (beq a false) ≡ a
-    item true = refl
-    item false = refl
-
-pub and-ones : (l : List Bool) → bits_and l (replicate (length l) true) ≡ l
-and-ones [] = refl
-and-ones (a ∷ l) = cons (item a) (and-ones l)
-  where
-    item : (a : Bool) → (a && true) ≡ a
-    item true = refl
-    item false = refl
-
-pub or-ones : (l : List Bool) → bits_or l (replicate (length l) true) ≡ replicate (length l) true
-or-ones [] = refl
-or-ones (a ∷ l) = cons (item a) (or-ones l)
-  where
-    item : (a : Bool) → (a || true) ≡ true
-    item true = refl
-    item false = refl
-
-pub xor-ones : (l : List Bool) → bits_xor l (replicate (length l) true) ≡ map not l
-xor-ones [] = refl
-xor-ones (a ∷ l) = cons (item a) (xor-ones l)
-  where
-    item : (a : Bool) → not (beq a true) ≡ not a
-    item true = refl
-    item false = refl
+not-not (a ∷ l) = cons (grind arith) (not-not l)

@@ -1,19 +1,19 @@
 -- From the pattern that the code computes to the number that it gives.
-use Rattle.std.specs.Prelude.{◌≡◌, ℕ, ℤ, Bool, List, pos, length, reverse, take, drop, replicate, ◌+◌, ◌/◌, ◌%◌, ◌^◌, ◌≤◌, ◌<◌, map, not}
 use Rattle.std.specs.List.{slice_rotate_right}
-use Rattle.std.proofs.Common.{arith, refl, ap, sym, ◌∙◌, length-drop}
+use Rattle.std.specs.Prelude.{Bool, List, drop, length, map, not, pos, replicate, reverse, take, ℕ, ℤ, ◌%◌, ◌+◌, ◌/◌, ◌<◌, ◌^◌, ◌≡◌, ◌≤◌}
+use Rattle.std.proofs.Common.{ap, arith, length-drop, refl, sym, ◌∙◌}
 use Rattle.std.proofs.lemmas.List.{length-reverse, take-append-le}
+use Rattle.arbitrary_base.specs.BitList.{bits, bits_and, bits_or, bits_xor, num, shl, shr, val}
 use Rattle.arbitrary_base.specs.Residue.{residue, wrap}
-use Rattle.arbitrary_base.specs.BitList.{bits, num, val, bits_and, bits_or, bits_xor, shl, shr}
-use Rattle.arbitrary_base.proofs.modular.Congruence.{Congruent-sym, Congruent-trans, Congruent-mul_left, Congruent-narrower}
-use Rattle.arbitrary_base.proofs.modular.Residue.{residue-congruent, wrap-same}
-use Rattle.arbitrary_base.proofs.storages.Primitive.{mod-congruent}
-use Rattle.arbitrary_base.proofs.storages.CheckedSum.{wrap-wrap}
-use Rattle.arbitrary_base.proofs.bit_lists.UnsignedNumber.{length-bits, length-and, length-or, length-xor, length-not, num-take, num-drop}
-use Rattle.arbitrary_base.proofs.bit_lists.Movement.{length-rotl, length-rotr, length-shr, length-items, rotr}
-use Rattle.arbitrary_base.proofs.bit_lists.Count.{popcount-fit, front-fits, tail-fits}
-use Rattle.arbitrary_base.proofs.bit_lists.TwosComplement.{num-bits_residue, bits-residue, bits-val, val-num}
+use Rattle.arbitrary_base.proofs.bit_lists.Count.{front-fits, popcount-fit, tail-fits}
+use Rattle.arbitrary_base.proofs.bit_lists.Movement.{length-items, length-rotl, length-rotr, length-shr, rotr}
 use Rattle.arbitrary_base.proofs.bit_lists.SignBit.{val-shl}
+use Rattle.arbitrary_base.proofs.bit_lists.TwosComplement.{bits-residue, bits-val, num-bits_residue, val-num}
+use Rattle.arbitrary_base.proofs.bit_lists.UnsignedNumber.{length-and, length-bits, length-not, length-or, length-xor, num-drop, num-take}
+use Rattle.arbitrary_base.proofs.modular.Congruence.{Congruent-mul_left, Congruent-narrower, Congruent-sym, Congruent-trans}
+use Rattle.arbitrary_base.proofs.modular.Residue.{residue-congruent, wrap-same}
+use Rattle.arbitrary_base.proofs.storages.CheckedSum.{wrap-wrap}
+use Rattle.arbitrary_base.proofs.storages.Primitive.{mod-congruent}
 
 -- made of the bits of one number by f, or of two
 of_one : (s : Bool) (B p q : ℕ) (x z : ℤ) (f : List Bool → List Bool) → length (f (bits B x)) ≡ B
@@ -63,8 +63,6 @@ rotr-value s B p q k x z = of_one s B p q x z (λ (l : List Bool). rotr l k) (le
 pub reverse-value : (s : Bool) (B p q : ℕ) (x z : ℤ) → p ≡ residue B x → q ≡ num (reverse (bits B (pos p)))
     → z ≡ wrap s B (pos q) → z ≡ val s (reverse (bits B x))
 reverse-value s B p q x z = of_one s B p q x z (λ (l : List Bool). reverse l) (length-reverse (bits B x) ∙ length-bits B x)
-
-pub ruleset order_laws = (rotl-value, rotr-value, reverse-value)
 
 -- ---- shifts
 

@@ -1,27 +1,17 @@
 -- Shifts, rotations and reversal of bit lists, one after the other. `Movement` has each alone; `operations.RotateAndReverse` and
 -- `operations.Shift` have the same of numbers.
-use Rattle.std.specs.Prelude.{◌≡◌, ℕ, zero, suc, ◌+◌, ◌-◌, ◌≤◌, Bool, true, false, ◌&&◌, ◌||◌, List, [], ◌∷◌, ◌++◌, reverse, length, take, drop, replicate}
 use Rattle.std.specs.List.{slice_rotate_right}
-use Rattle.std.proofs.Common.{refl, sym, ap, ap₂, ◌∙◌, arith, length-drop, take-append-drop, take-take}
-use Rattle.std.proofs.lemmas.List.{append_assoc, append-nil, drop-append-le, drop-drop, drop-replicate, length-replicate, length-reverse, length-take-le, replicate-append-replicate, reverse-append, reverse-reverse, take-append-le, take-replicate}
-use Rattle.std.proofs.Math.Seq.{drop-append_seam, drop-length, take-add, take-append-add, take-append_seam, take-length}
-use Rattle.arbitrary_base.specs.BitList.{bits_and, bits_or, shl, shr}
-use Rattle.arbitrary_base.proofs.bit_lists.Movement.{length-rotr, length-rotl, length-shl, length-shr, reverse-cons, rotr}
-use Rattle.arbitrary_base.proofs.bit_lists.Pointwise.{append-pointwise, or-comm, or-zeros, and-zeros, and-ones}
+use Rattle.std.specs.Prelude.{Bool, List, [], drop, false, length, replicate, reverse, suc, take, true, zero, ℕ, ◌&&◌, ◌++◌, ◌+◌, ◌-◌, ◌∷◌, ◌≡◌, ◌≤◌}
+use Rattle.std.proofs.Common.{ap, ap₂, arith, length-drop, refl, sym, take-append-drop, ◌∙◌}
+use Rattle.std.proofs.Math.Seq.{drop-append_seam, drop-length, take-append_seam, take-length}
+use Rattle.std.proofs.lemmas.List.{append-nil, drop-replicate, length-replicate, length-reverse, length-take-le, replicate-append-replicate, reverse-append, take-replicate}
+use Rattle.arbitrary_base.specs.BitList.{bits_and, shl, shr}
+use Rattle.arbitrary_base.proofs.bit_lists.Movement.{length-shr, reverse-cons, rotr}
+use Rattle.arbitrary_base.proofs.bit_lists.Pointwise.{and-ones, and-zeros, append-pointwise}
 
 -- ---- rotations
 
--- two rotations within one round
-pub rotr-short : (l : List Bool) (a b : ℕ) → a + b ≤ length l → rotr (rotr l a) b ≡ rotr l (a + b)
-rotr-short l a b h =
-    let n : length (drop a l) ≡ length l - a = length-drop a l in
-    ap₂ (λ (p q : List Bool). p ++ q)
-    (drop-append-le b (drop a l) (take a l) (omega arith) ∙ ap (λ (p : List Bool). p ++ take a l) (drop-drop b a l))
-    (take-append-le b (drop a l) (take a l) (omega arith))
-    ∙ append_assoc (drop (a + b) l) (take a l) (take b (drop a l))
-    ∙ ap (λ (p : List Bool). drop (a + b) l ++ p) (sym (take-add a b l))
-
-rotr-whole : (l : List Bool) (k : ℕ) → k ≡ length l → rotr l k ≡ l
+pub rotr-whole : (l : List Bool) (k : ℕ) → k ≡ length l → rotr l k ≡ l
 rotr-whole l k e = ap (rotr l) e ∙ ap₂ (λ (p q : List Bool). p ++ q) (drop-length l) (take-length l)
 
 pub rotr-none : (l : List Bool) → rotr l 0 ≡ l
@@ -29,27 +19,6 @@ rotr-none l = append-nil l
 
 pub rotl-none : (l : List Bool) → slice_rotate_right l 0 ≡ l
 rotl-none l = rotr-whole l (length l - 0) (omega arith)
-
--- and past its end
-pub rotr-long : (l : List Bool) (a b : ℕ) → a ≤ length l → b ≤ length l → length l ≤ a + b → rotr (rotr l a) b ≡ rotr l (a + b - length l)
-rotr-long l a b h g e =
-    let n = length-rotr l a in
-    let i : b ≡ (length l - a) + (a + b - length l) = omega arith in
-    ap (rotr (rotr l a)) i
-    ∙ sym (rotr-short (rotr l a) (length l - a) (a + b - length l) (omega arith))
-    ∙ ap (λ (m : List Bool). rotr m (a + b - length l)) (rotr-short l a (length l - a) (omega arith) ∙ rotr-whole l (a + (length l - a)) (omega arith))
-
-pub rotl-short : (l : List Bool) (a b : ℕ) → a + b ≤ length l → slice_rotate_right (slice_rotate_right l a) b ≡ slice_rotate_right l (a + b)
-rotl-short l a b h =
-    ap (λ (n : ℕ). rotr (slice_rotate_right l a) (n - b)) (length-rotl l a)
-    ∙ rotr-long l (length l - a) (length l - b) (omega arith) (omega arith) (omega arith)
-    ∙ ap (rotr l) (let e : (length l - a) + (length l - b) - length l ≡ length l - (a + b) = omega arith in e)
-
-pub rotl-long : (l : List Bool) (a b : ℕ) → a ≤ length l → b ≤ length l → length l ≤ a + b → slice_rotate_right (slice_rotate_right l a) b ≡ slice_rotate_right l (a + b - length l)
-rotl-long l a b h g e =
-    ap (λ (n : ℕ). rotr (slice_rotate_right l a) (n - b)) (length-rotl l a)
-    ∙ rotr-short l (length l - a) (length l - b) (omega arith)
-    ∙ ap (rotr l) (let i : (length l - a) + (length l - b) ≡ length l - (a + b - length l) = omega arith in i)
 
 pub rotr-as_rotl : (l : List Bool) (k : ℕ) → k ≤ length l → rotr l k ≡ slice_rotate_right l (length l - k)
 rotr-as_rotl l k h = ap (rotr l) (let e : k ≡ length l - (length l - k) = omega arith in e)
@@ -62,43 +31,7 @@ shl-none l = ap (λ (i : ℕ). take i l) (let e : length l - 0 ≡ length l = om
 pub shr-none : (l : List Bool) (f : Bool) → shr l 0 f ≡ l
 shr-none l f = append-nil l
 
-pub shl-twice : (l : List Bool) (a b : ℕ) → a + b ≤ length l → shl (shl l a) b ≡ shl l (a + b)
-shl-twice l a b h =
-    let n : length (shl l a) ≡ length l = length-shl l a (omega arith) in
-    let r = length-replicate a false in
-    let parts : take (length l - b) (shl l a) ≡ replicate a false ++ take (length l - (a + b)) l =
-    ap (λ (k : ℕ). take k (shl l a)) (let e : length l - b ≡ length (replicate a false) + (length l - (a + b)) = omega arith in e)
-    ∙ take-append-add (replicate a false) (take (length l - a) l) (length l - (a + b))
-    ∙ ap (λ (m : List Bool). replicate a false ++ m) (take-take (length l - (a + b)) (length l - a) l (omega arith)) in
-    ap (λ (k : ℕ). replicate b false ++ take (k - b) (shl l a)) n
-    ∙ ap (λ (m : List Bool). replicate b false ++ m) parts
-    ∙ sym (append_assoc (replicate b false) (replicate a false) (take (length l - (a + b)) l))
-    ∙ ap (λ (m : List Bool). m ++ take (length l - (a + b)) l)
-    (replicate-append-replicate b a false ∙ ap (λ (k : ℕ). replicate k false) (let e : b + a ≡ a + b = omega arith in e))
-
-pub shl-past : (l : List Bool) (a b : ℕ) → a ≤ length l → b ≤ length l → length l ≤ a + b → shl (shl l a) b ≡ replicate (length l) false
-shl-past l a b h g e =
-    let n : length (shl l a) ≡ length l = length-shl l a h in
-    let r = length-replicate a false in
-    ap (λ (k : ℕ). replicate b false ++ take (k - b) (shl l a)) n
-    ∙ ap (λ (m : List Bool). replicate b false ++ m)
-    (take-append-le (length l - b) (replicate a false) (take (length l - a) l) (omega arith) ∙ take-replicate (length l - b) a false (omega arith))
-    ∙ replicate-append-replicate b (length l - b) false
-    ∙ ap (λ (k : ℕ). replicate k false) (let i : b + (length l - b) ≡ length l = omega arith in i)
-
 -- ---- shifts beside the other operations
-
-pub rotl-shifts : (l : List Bool) (k : ℕ) → k ≤ length l → slice_rotate_right l k ≡ bits_or (shl l k) (shr l (length l - k) false)
-rotl-shifts l k h =
-    let d : length (drop (length l - k) l) ≡ k = length-drop (length l - k) l ∙ (let e : length l - (length l - k) ≡ k = omega arith in e) in
-    let t : length (take (length l - k) l) ≡ length l - k = length-take-le (length l - k) l (omega arith) in
-    let low : bits_or (replicate k false) (drop (length l - k) l) ≡ drop (length l - k) l =
-    or-comm (replicate k false) (drop (length l - k) l)
-    ∙ ap (λ (n : ℕ). bits_or (drop (length l - k) l) (replicate n false)) (sym d) ∙ or-zeros (drop (length l - k) l) in
-    let high : bits_or (take (length l - k) l) (replicate (length l - k) false) ≡ take (length l - k) l =
-    ap (λ (n : ℕ). bits_or (take (length l - k) l) (replicate n false)) (sym t) ∙ or-zeros (take (length l - k) l) in
-    sym (append-pointwise (λ a b. a || b) (replicate k false) (take (length l - k) l) (drop (length l - k) l) (replicate (length l - k) false) (length-replicate k false ∙ sym d)
-    ∙ ap₂ (λ (p q : List Bool). p ++ q) low high)
 
 -- right and left again clears the low bits
 pub shr-shl : (l : List Bool) (k : ℕ) (f : Bool) → k ≤ length l → shl (shr l k f) k ≡ bits_and l (shl (replicate (length l) true) k)
@@ -172,9 +105,3 @@ reverse-shl l k h =
     ∙ sym (ap (λ (m : List Bool). m ++ replicate k false)
     (ap (drop k) (reverse-parts l (length l - k)) ∙ ap (λ (i : ℕ). drop i (reverse (drop (length l - k) l) ++ reverse (take (length l - k) l))) (sym d)
     ∙ drop-append_seam (reverse (drop (length l - k) l)) (reverse (take (length l - k) l))))
-
-pub reverse-shr : (l : List Bool) (k : ℕ) → k ≤ length l → reverse (shr l k false) ≡ shl (reverse l) k
-reverse-shr l k h =
-    let n = length-reverse l in
-    ap (λ (m : List Bool). reverse (shr m k false)) (sym (reverse-reverse l))
-    ∙ ap reverse (sym (reverse-shl (reverse l) k (omega arith))) ∙ reverse-reverse (shl (reverse l) k)

@@ -1,23 +1,23 @@
 -- The last bit is the sign, and a right shift that copies it is a division that rounds down.
-use Rattle.std.proofs.Common.{◌≡◌, ℕ, zero, suc, ◌-◌, ◌*◌, ◌/◌, ◌%◌, ◌^◌, ◌<◌, ◌≤◌, Bool, true, false, not, List, length, get_or, ℤ, pos, negsuc, refl, sym, ap, ◌∙◌, subst, arith, lt_of_le_of_lt, to_z, of_z, to_z-of_z}
-use Rattle.std.specs.Prelude.{FitsSigned, int_lt, map}
 use Rattle.std.specs.Int.{Width, int_shl, int_shr}
+use Rattle.std.specs.Prelude.{FitsSigned, map}
+use Rattle.std.proofs.Common.{Bool, List, ap, arith, false, get_or, length, lt_of_le_of_lt, negsuc, not, of_z, pos, refl, subst, suc, sym, to_z, to_z-of_z, true, zero, ℕ, ℤ, ◌%◌, ◌*◌, ◌-◌, ◌/◌, ◌<◌, ◌^◌, ◌∙◌, ◌≡◌, ◌≤◌}
 use Rattle.std.proofs.Math.Nat.{pow-suc}
 use Rattle.std.proofs.Math.Pow.{shr_le}
-use Rattle.std.proofs.lemmas.Nat.{pow_pos}
 use Rattle.std.proofs.lemmas.Int.{ints}
 use Rattle.std.proofs.lemmas.List.{get_or-map}
-use mir.Val.{bits as width_of}
+use Rattle.std.proofs.lemmas.Nat.{pow_pos}
+use Rattle.arbitrary_base.specs.BitList.{bits, fill, shl, shr, val}
 use Rattle.arbitrary_base.specs.Range.{InRange}
 use Rattle.arbitrary_base.specs.Residue.{residue, wrap}
-use Rattle.arbitrary_base.specs.BitList.{bits, val, shl, shr, fill}
-use Rattle.arbitrary_base.proofs.modular.Congruence.{pow_half}
-use Rattle.arbitrary_base.proofs.modular.Residue.{wrap-same, wrap-of_in_range}
-use Rattle.arbitrary_base.proofs.modular.Truncation.{InRange-wider}
-use Rattle.arbitrary_base.proofs.storages.Primitive.{mod-congruent, unsigned-in_range, residue-pos, signed-in_range, signed-fits, signed-from_bits, cast_unsigned-residue, bits_some, wrap-pos}
-use Rattle.arbitrary_base.proofs.bit_lists.UnsignedNumber.{length-bits, length-not, num-bits_small, same_num}
 use Rattle.arbitrary_base.proofs.bit_lists.Movement.{length-shl, length-shr, num-shl, num-shr, shr-not}
-use Rattle.arbitrary_base.proofs.bit_lists.TwosComplement.{bits-negsuc, num-bits_residue, bits-wrap, val-num, val-bits}
+use Rattle.arbitrary_base.proofs.bit_lists.TwosComplement.{bits-negsuc, bits-wrap, num-bits_residue, val-bits, val-num}
+use Rattle.arbitrary_base.proofs.bit_lists.UnsignedNumber.{length-bits, length-not, num-bits_small, same_num}
+use Rattle.arbitrary_base.proofs.modular.Congruence.{pow_half}
+use Rattle.arbitrary_base.proofs.modular.Residue.{wrap-of_in_range, wrap-same}
+use Rattle.arbitrary_base.proofs.modular.Truncation.{InRange-wider}
+use Rattle.arbitrary_base.proofs.storages.Primitive.{bits_some, cast_unsigned-residue, mod-congruent, residue-pos, signed-fits, signed-from_bits, signed-in_range, unsigned-in_range, wrap-pos}
+use mir.Val.{bits as width_of}
 
 -- ---- the last bit
 
@@ -29,28 +29,15 @@ unfolding bits
 last-small zero n h = let e : n ≡ 0 = omega arith in rw e refl
 last-small (suc b) n h = last-small b (n / 2) (omega (arith, pow-suc 2 b))
 
-last-natural : (w n : ℕ) → 1 ≤ w → n < 2 ^ (w - 1) → last (bits w (pos n)) ≡ false
+pub last-natural : (w n : ℕ) → 1 ≤ w → n < 2 ^ (w - 1) → last (bits w (pos n)) ≡ false
 last-natural w n h l =
     ap (λ (k : ℕ). get_or (bits w (pos n)) (k - 1) false) (length-bits w (pos n))
     ∙ ap (λ (k : ℕ). get_or (bits k (pos n)) (w - 1) false) (let e : w ≡ suc (w - 1) = omega arith in e) ∙ last-small (w - 1) n l
 
-last-not : (l : List Bool) → 1 ≤ length l → last (map not l) ≡ not (last l)
+pub last-not : (l : List Bool) → 1 ≤ length l → last (map not l) ≡ not (last l)
 last-not l h =
     ap (λ (k : ℕ). get_or (map not l) (k - 1) false) (length-not l)
     ∙ get_or-map not l (length l - 1) false false (omega arith)
-
--- the last bit tells whether a number with a sign is below 0
-pub fill-is_negative : (B : ℕ) (x : ℤ) → 1 ≤ B → InRange true B x → fill true (bits B x) ≡ int_lt x (pos 0)
-fill-is_negative B (pos n) h r =
-    let t = r.high in
-    let p = pow_pos (B - 1) in
-    let e : int_lt (pos n) (pos 0) ≡ false = grind (arith, ints) in
-    last-natural B n h (omega (arith, ints)) ∙ sym e
-fill-is_negative B (negsuc n) h r =
-    let t = r.low in
-    let p = pow_pos (B - 1) in
-    let small : n < 2 ^ (B - 1) = omega (arith, ints) in
-    rw (bits-negsuc B n, last-not (bits B (pos n)) (omega (arith, length-bits B (pos n))), last-natural B n h small) refl
 
 -- ---- to the right
 

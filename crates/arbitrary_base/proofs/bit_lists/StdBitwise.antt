@@ -12,6 +12,7 @@ use Rattle.arbitrary_base.proofs.modular.Congruence.{pow_le}
 use Rattle.arbitrary_base.proofs.modular.Residue.{wrap-of_in_range}
 use Rattle.arbitrary_base.proofs.storages.CheckedSum.{wrap-zero}
 use Rattle.arbitrary_base.proofs.storages.Primitive.{unsigned-in_range}
+use Rattle.arbitrary_base.proofs.bit_lists.Pointwise.{not-not}
 use Rattle.arbitrary_base.proofs.bit_lists.UnsignedNumber.{length-bits, same_length, length-and, length-not, length-or, length-xor, num-and, num-bits_small, num-lt_of, num-not, num-or, num-xor}
 use Rattle.arbitrary_base.proofs.bit_lists.TwosComplement.{bits-negsuc, val-bits_in_range, val-num}
 
@@ -122,11 +123,6 @@ not-unsigned false B x z d h f e =
     let w : 2 ^ length (bits B x) ≡ 2 ^ B = ap (λ (m : ℕ). 2 ^ m) (length-bits B x) in
     let a = pos-unsigned_abs x p in
     omega (arith, ints)
-
-not-not : (l : List Bool) → map not (map not l) ≡ l
-not-not [] = refl
-not-not (true ∷ l) = ap (λ (m : List Bool). true ∷ m) (not-not l)
-not-not (false ∷ l) = ap (λ (m : List Bool). false ∷ m) (not-not l)
 
 below-zero : (B : ℕ) (x : ℤ) → InRange true B x → InRange true B (neg_ℤ x -ℤ pos 1)
 below-zero B x f = let l = f.low in let t = f.high in record { low = omega (arith, ints); high = omega (arith, ints) }

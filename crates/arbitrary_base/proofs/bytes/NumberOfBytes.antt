@@ -1,21 +1,21 @@
 -- The bytes of a number, and the number of bytes. Everything goes through the bytes by division.
-use Rattle.std.specs.Prelude.{true, negsuc, unsigned_abs, reverse, ◌-◌}
-use Rattle.std.proofs.Common.{get_or, ◌≡◌, ℕ, zero, suc, ◌+◌, ◌*◌, ◌/◌, ◌%◌, ◌^◌, ◌<◌, ◌≤◌, Bool, List, [], ◌∷◌, length, take, drop, pos, ℤ, refl, sym, ap, ◌∙◌, subst, arith, false, mod-eq_of_lt}
-use Rattle.std.proofs.Math.Nat.{pow-suc, div-div-eq-div-mul, div-one, mod-one}
+use Rattle.std.specs.Int.{byte_at, bytes_low_first, div_ceil, to_le_bytes, w128}
+use Rattle.std.specs.Prelude.{negsuc, true, unsigned_abs, ◌-◌}
+use Rattle.std.proofs.Common.{Bool, List, [], ap, arith, drop, false, get_or, length, mod-eq_of_lt, pos, refl, subst, suc, sym, take, zero, ℕ, ℤ, ◌%◌, ◌*◌, ◌+◌, ◌/◌, ◌<◌, ◌^◌, ◌∙◌, ◌∷◌, ◌≡◌, ◌≤◌}
+use Rattle.std.proofs.Math.Nat.{div-div-eq-div-mul, div-one, mod-one, pow-suc}
 use Rattle.std.proofs.lemmas.Int.{ints}
-use Rattle.std.proofs.lemmas.Nat.{pow-add, pow_pos, mod-pow-add}
-use Rattle.std.proofs.lemmas.List.{get_or-drop, get_or-reverse, length-drop, reverse-reverse}
-use Rattle.std.specs.Int.{w128, byte_at, bytes_low_first, div_ceil, to_le_bytes}
+use Rattle.std.proofs.lemmas.List.{get_or-drop, length-drop, reverse-reverse}
+use Rattle.std.proofs.lemmas.Nat.{mod-pow-add, pow-add, pow_pos}
+use Rattle.arbitrary_base.specs.BitList.{bits, num}
+use Rattle.arbitrary_base.specs.Bytes.{BorshBytes, Canonical, bytes, bytes_number}
 use Rattle.arbitrary_base.specs.Range.{InRange}
 use Rattle.arbitrary_base.specs.Residue.{Congruent, residue, wrap}
-use Rattle.arbitrary_base.specs.BitList.{bits, num}
-use Rattle.arbitrary_base.specs.Bytes.{bytes, bytes_number, BorshBytes, Canonical}
-use Rattle.arbitrary_base.proofs.bit_lists.UnsignedNumber.{num-bits}
 use Rattle.arbitrary_base.proofs.bit_lists.TwosComplement.{bits-residue, bits-wrap, num-bits_residue}
+use Rattle.arbitrary_base.proofs.bit_lists.UnsignedNumber.{num-bits}
 use Rattle.arbitrary_base.proofs.modular.Congruence.{pow_le}
+use Rattle.arbitrary_base.proofs.modular.Residue.{residue-congruent, residue-lt, wrap-of_in_range, wrap-same}
 use Rattle.arbitrary_base.proofs.modular.Truncation.{wrap-residue}
 use Rattle.arbitrary_base.proofs.storages.Primitive.{residue-pos, unsigned-in_range}
-use Rattle.arbitrary_base.proofs.modular.Residue.{residue-lt, residue-congruent, wrap-of_in_range, wrap-same}
 
 -- the bytes by division
 low_bytes : ℕ → ℕ → List ℕ
@@ -207,14 +207,6 @@ byte-at false B n i (pos m) l w f e u h =
     let small : m < 2 ^ (8 * n) = subst (λ (k : ℕ). m < 2 ^ k) w (omega (arith, ints)) in
     ap (λ (k : List ℕ). get_or k i 0) (e ∙ bytes-low n (pos m)) ∙ low-at n (residue (8 * n) (pos m)) i h
     ∙ ap (λ (q : ℕ). q / 256 ^ i % 256) (residue-pos (8 * n) m small)
-
-pub byte-at_reversed : (s : Bool) (B n i : ℕ) (x : ℤ) (l : List ℕ) → B ≡ 8 * n → InRange s B x → l ≡ reverse (bytes n x) → s ≡ false → i < n
-    → get_or l i 0 ≡ unsigned_abs x / 256 ^ (n - 1 - i) % 256
-byte-at_reversed s B n i x l w f e u h =
-    let len = length-bytes n x in
-    ap (λ (k : List ℕ). get_or k i 0) e ∙ get_or-reverse (bytes n x) i 0 (omega arith)
-    ∙ ap (λ (k : ℕ). get_or (bytes n x) k 0) (let d : length (bytes n x) - 1 - i ≡ n - 1 - i = omega arith in d)
-    ∙ byte-at s B n (n - 1 - i) x (bytes n x) w f refl u (omega arith)
 
 -- ---- the laws of specs/Laws
 

@@ -1,30 +1,30 @@
 -- Shifts and rotations by an amount of at most the width, as one shut type, and the other operations as `FixedWidth` has them for generic
 -- code: no premise but the width, and where a result is an operand, that operand's value of its own bits.
-use Rattle.std.specs.Prelude.{◌≡◌, ◌≤◌, ◌-◌, ◌++◌, ◌⊎◌, reverse, ℕ, ℤ, Bool, true, false, List, length, pos, negsuc, replicate, take}
 use Rattle.std.specs.Bool.{beq}
 use Rattle.std.specs.List.{count_by, prefix_len, suffix_len}
-use native.Mathlib.Bridge.{le_prop}
-use Rattle.std.proofs.Common.{inl, inr, refl, sym, ap, ap₂, subst, ◌∙◌, arith}
+use Rattle.std.specs.Prelude.{Bool, List, false, length, negsuc, pos, replicate, reverse, take, true, ℕ, ℤ, ◌++◌, ◌-◌, ◌≡◌, ◌≤◌, ◌⊎◌}
+use Rattle.std.proofs.Common.{ap, ap₂, arith, inl, inr, refl, subst, sym, ◌∙◌}
 use Rattle.std.proofs.lemmas.Int.{ints}
 use Rattle.std.proofs.lemmas.List.{append-nil, drop_all, reverse-reverse, take_all}
-use Rattle.arbitrary_base.specs.Range.{InRange}
-use Rattle.arbitrary_base.specs.Residue.{Congruent, wrap}
-use Rattle.arbitrary_base.specs.BitList.{bits, val, fill}
+use Rattle.arbitrary_base.specs.BitList.{bits, fill, val}
 use Rattle.arbitrary_base.proofs.bit_lists.Movement.{rotr}
 use Rattle.arbitrary_base.specs.Operation.{bitwise_and, bitwise_not, bitwise_or, bitwise_xor, reversed, rotated_left, rotated_right, shifted_left, shifted_right, wrapped_difference, wrapped_product, wrapped_sum}
+use Rattle.arbitrary_base.specs.Range.{InRange}
+use Rattle.arbitrary_base.specs.Residue.{Congruent, wrap}
 use Rattle.arbitrary_base.proofs.bit_lists.Rotation.{rotl-none, shl-none, shr-none}
 use Rattle.arbitrary_base.proofs.bit_lists.TwosComplement.{val-bits}
 use Rattle.arbitrary_base.proofs.bit_lists.UnsignedNumber.{length-bits}
 use Rattle.arbitrary_base.proofs.modular.Congruence.{Congruent-refl}
 use Rattle.arbitrary_base.proofs.modular.Residue.{wrap-congruent, wrap-in_range}
-use Rattle.arbitrary_base.proofs.operations.BitByBit.{is_own_bits, own, own_bits}
-use Rattle.arbitrary_base.proofs.operations.Definition.{bits-left, bits-minus_one, bits-reversed, bits-right, bits-rotl, left-is, minus_one-in_range, not-in_range, of-bits, reversed-is, right-is, rotl-is, rotr-is, zero-is}
-use Rattle.arbitrary_base.proofs.operations.RotateAndReverse.{reversed-not_zero, reversed-rotated_left, reversed-zero, rotated_left-and, rotated_left-not, rotated_left-not_zero, rotated_left-or, rotated_left-xor, rotated_left-zero, rotated_right-as_left}
-use Rattle.arbitrary_base.proofs.operations.Shift.{right_left-mask_not, shifted_left-and, shifted_left-sum, shifted_left-or, shifted_left-xor, shifted_left-zero, shifted_right-and, shifted_right-or, shifted_right-xor, shifted_right-zero}
-use Rattle.arbitrary_base.proofs.operations.PopulationAndRuns.{front-of_reversed, front_ones-of_not, front_zeros-of_not, popcount-of_left, popcount-of_not, popcount-of_reversed, popcount-of_zero, tail-of_reversed, tail_ones-of_not, tail_zeros-of_not}
 use Rattle.arbitrary_base.proofs.operations.BitsAndSums.{sum-of_disjoint}
 use Rattle.arbitrary_base.proofs.operations.Complement.{sum-with_not}
+use Rattle.arbitrary_base.proofs.operations.Definition.{bits-left, bits-minus_one, bits-reversed, bits-right, bits-rotl, left-is, minus_one-in_range, not-in_range, of-bits, reversed-is, right-is, rotl-is, rotr-is, zero-is}
+use Rattle.arbitrary_base.proofs.operations.RotateAndReverse.{reversed-not_zero, reversed-rotated_left, reversed-zero, rotated_left-and, rotated_left-not, rotated_left-not_zero, rotated_left-or, rotated_left-xor, rotated_left-zero, rotated_right-as_left}
+use Rattle.arbitrary_base.proofs.operations.Shift.{right_left-mask_not, shifted_left-and, shifted_left-or, shifted_left-sum, shifted_left-xor, shifted_left-zero, shifted_right-and, shifted_right-or, shifted_right-xor, shifted_right-zero}
 use Rattle.arbitrary_base.proofs.operations.WrappedRing.{by-congruence, difference-congruent, difference-in_range, difference-of_sum_left, product-in_range, product-of_sum, sum-congruent, sum-in_range, wrapped_difference-is_sum, wrapped_difference-self, wrapped_product-associates, wrapped_sum-associates}
+use Rattle.arbitrary_base.proofs.operations.PopulationAndRuns.{front-of_reversed, front_ones-of_not, front_zeros-of_not, popcount-of_left, popcount-of_not, popcount-of_reversed, popcount-of_zero, tail-of_reversed, tail_ones-of_not, tail_zeros-of_not}
+use Rattle.arbitrary_base.proofs.operations.BitByBit.{is_own_bits, own, own_bits}
+use native.Mathlib.Bridge.{le_prop}
 
 minus_one-is : (k : ℕ) → 1 ≤ k → negsuc 0 ≡ val true (replicate k true)
 minus_one-is k h = of-bits true k (negsuc 0) h (minus_one-in_range k) ∙ ap (val true) (bits-minus_one k)

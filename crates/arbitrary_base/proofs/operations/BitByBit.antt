@@ -1,16 +1,17 @@
 -- A number read bit by bit, for proofs in code that is generic in the type: two numbers of the type are equal, or differ in a bit, and a bit of
 -- a result of `&`, `|`, `^` or `!` is the same of the operands' bits.
-use Rattle.std.specs.Prelude.{◌≡◌, ◌≤◌, ◌<◌, ◌⊎◌, ℕ, ℤ, Bool, zero, suc, true, false, not, ◌&&◌, ◌||◌, List, [], ◌∷◌, length, get_or, map, pos, replicate}
 use Rattle.std.specs.Bool.{beq}
 use Rattle.std.specs.Ordering.{int_eq}
-use Rattle.std.proofs.Common.{inl, inr, refl, sym, ap, ◌∙◌, arith}
+use Rattle.std.specs.Prelude.{Bool, List, [], false, get_or, length, map, not, pos, replicate, suc, true, zero, ℕ, ℤ, ◌&&◌, ◌<◌, ◌||◌, ◌∷◌, ◌≡◌, ◌≤◌, ◌⊎◌}
+use Rattle.std.proofs.Common.{ap, arith, inl, inr, refl, sym, ◌∙◌}
 use Rattle.std.proofs.lemmas.Bool.Decides.{Decides-int_eq}
 use Rattle.std.proofs.lemmas.List.{get_or-map, get_or-replicate}
-use Rattle.arbitrary_base.specs.BitList.{bits, val, bits_xor}
+use Rattle.arbitrary_base.specs.BitList.{bits, bits_xor, val}
 use Rattle.arbitrary_base.specs.Operation.{bitwise_and, bitwise_not, bitwise_or, bitwise_xor}
+use Rattle.arbitrary_base.proofs.bit_lists.Pointwise.{pointwise}
 use Rattle.arbitrary_base.proofs.bit_lists.UnsignedNumber.{length-bits}
-use Rattle.arbitrary_base.proofs.bit_lists.Pointwise.{pointwise, and-same, not-not, xor-assoc, xor-comm, xor-none, xor-zeros}
-use Rattle.arbitrary_base.proofs.operations.Definition.{and-is, or-is, xor-is, not-is, bits-and, bits-or, bits-xor, bits-not, bits-zero, of-bits, zero-in_range}
+use Rattle.arbitrary_base.proofs.operations.Expression.{Expression, both, apart, complement, first, second, none, same}
+use Rattle.arbitrary_base.proofs.operations.Definition.{and-is, bits-and, bits-not, bits-or, bits-xor, bits-zero, not-is, of-bits, or-is, xor-is, zero-in_range}
 
 -- one of B places. The type is shut, so that the search leaves a place whole
 pub Place : ℕ → Type 0
@@ -109,24 +110,15 @@ own_bits-not s B x = own_bits s B _ (ap (val s) (bits-not s B x) ∙ sym (not-is
 -- ---- results that are an operand, where a clause says it of numbers
 
 pub and-itself : (s : Bool) (B : ℕ) (x : ℤ) → is_own_bits s B x ≡ true → bitwise_and s B x x ≡ x
-and-itself s B x h = and-is s B x x ∙ ap (val s) (and-same (bits B x)) ∙ own s B x h
+and-itself s B x h = same s B x x x (both first first) first (λ a b c. grind arith) tt (sym (own s B x h))
 
 pub not-twice : (s : Bool) (B : ℕ) (x : ℤ) → is_own_bits s B x ≡ true → bitwise_not s B (bitwise_not s B x) ≡ x
-not-twice s B x h = not-is s B _ ∙ ap (val s) (ap (map not) (bits-not s B x) ∙ not-not (bits B x)) ∙ own s B x h
-
-xor-list_twice : (l m : List Bool) → length l ≡ length m → bits_xor (bits_xor l m) m ≡ l
-xor-list_twice l m e = xor-assoc l m m ∙ ap (bits_xor l) (xor-none m ∙ ap (λ (n : ℕ). replicate n false) (sym e)) ∙ xor-zeros l
+not-twice s B x h = same s B x x x (complement (complement first)) first (λ a b c. grind arith) tt (sym (own s B x h))
 
 pub xor-twice : (s : Bool) (B : ℕ) (x y : ℤ) → is_own_bits s B x ≡ true → bitwise_xor s B (bitwise_xor s B x y) y ≡ x
-xor-twice s B x y h = xor-is s B _ y
-    ∙ ap (val s) (ap (λ (l : List Bool). bits_xor l (bits B y)) (bits-xor s B x y) ∙ xor-list_twice (bits B x) (bits B y) (length-bits B x ∙ sym (length-bits B y)))
-    ∙ own s B x h
-
-xor-zero_left : (s : Bool) (B : ℕ) (y : ℤ) → is_own_bits s B y ≡ true → bitwise_xor s B (pos 0) y ≡ y
-xor-zero_left s B y h = xor-is s B (pos 0) y
-    ∙ ap (val s) (ap (λ (l : List Bool). bits_xor l (bits B y)) (bits-zero B ∙ ap (λ (n : ℕ). replicate n false) (sym (length-bits B y)))
-    ∙ xor-comm (replicate (length (bits B y)) false) (bits B y) ∙ xor-zeros (bits B y))
-    ∙ own s B y h
+xor-twice s B x y h = same s B x y y (apart (apart first second) second) first (λ a b c. grind arith) tt (sym (own s B x h))
 
 pub xor-none_equal : (s : Bool) (B : ℕ) (x y : ℤ) → is_own_bits s B x ≡ true → is_own_bits s B y ≡ true → bitwise_xor s B x y ≡ pos 0 → x ≡ y
-xor-none_equal s B x y h g e = sym (xor-twice s B x y h) ∙ ap (λ (z : ℤ). bitwise_xor s B z y) e ∙ xor-zero_left s B y g
+xor-none_equal s B x y h g e =
+    sym (xor-twice s B x y h) ∙ ap (λ (z : ℤ). bitwise_xor s B z y) e
+    ∙ same s B y y y (apart none first) first (λ a b c. grind arith) tt (sym (own s B y g))

@@ -1,22 +1,21 @@
 -- The laws of bits beside sums, differences and order.
 -- Callers have them by the set `mixed` of `arbitrary_int::proofs::BitVector`: a new law goes there too. Complement.antt, Carry.antt and Order.antt
 -- use the lemmas on `num` here. Laws of `!` beside sums go to the first of these, and those of carries to the second.
-use Rattle.std.specs.Prelude.{◌≡◌, ℕ, ℤ, Bool, true, false, not, ◌&&◌, ◌||◌, List, [], ◌∷◌, length, pos, ◌≤◌, ◌+◌, ◌≤ℤ◌, map}
 use Rattle.std.specs.Bool.{beq}
-use Rattle.std.proofs.Common.{refl, sym, ap, subst, ◌∙◌, arith}
+use Rattle.std.specs.Prelude.{Bool, List, [], false, length, map, not, pos, true, ℕ, ℤ, ◌&&◌, ◌+◌, ◌||◌, ◌∷◌, ◌≡◌, ◌≤ℤ◌, ◌≤◌}
+use Rattle.std.proofs.Common.{ap, arith, refl, subst, sym, ◌∙◌}
 use Rattle.std.proofs.lemmas.Int.{ints}
+use Rattle.arbitrary_base.specs.BitList.{bits, bits_and, bits_or, bits_xor, num}
+use Rattle.arbitrary_base.specs.Operation.{bitwise_and, bitwise_or, bitwise_xor, wrapped_difference, wrapped_sum}
 use Rattle.arbitrary_base.specs.Range.{InRange}
 use Rattle.arbitrary_base.specs.Residue.{Congruent}
-use Rattle.arbitrary_base.specs.BitList.{bits, num, bits_and, bits_or, bits_xor}
-use Rattle.arbitrary_base.specs.Operation.{bitwise_and, bitwise_not, bitwise_or, bitwise_xor, shifted_left, wrapped_difference, wrapped_sum}
+use Rattle.arbitrary_base.proofs.bit_lists.StdBitwise.{num-and_right, num-plain}
+use Rattle.arbitrary_base.proofs.bit_lists.TwosComplement.{num-bits_residue, val-num}
+use Rattle.arbitrary_base.proofs.bit_lists.UnsignedNumber.{same_length}
 use Rattle.arbitrary_base.proofs.modular.Congruence.{Congruent-sym}
 use Rattle.arbitrary_base.proofs.modular.Residue.{residue-congruent, wrap-in_range}
-use Rattle.arbitrary_base.proofs.bit_lists.UnsignedNumber.{same_length}
-use Rattle.arbitrary_base.proofs.bit_lists.TwosComplement.{num-bits_residue, val-num}
-use Rattle.arbitrary_base.proofs.bit_lists.StdBitwise.{num-and_right, num-plain}
-use Rattle.arbitrary_base.proofs.operations.WrappedRing.{by-congruence, sum-congruent, sum-in_range, difference-congruent, difference-in_range, wrapped_product-two, wrapped_sum-zero}
-use Rattle.arbitrary_base.proofs.operations.Shift.{shifted_left-is_product}
-use Rattle.arbitrary_base.proofs.operations.Definition.{and-is, or-is, xor-is, bits-and, bits-not, bits-or, bits-xor, length-of_two}
+use Rattle.arbitrary_base.proofs.operations.Definition.{and-is, bits-and, bits-or, bits-xor, length-of_two, or-is, xor-is}
+use Rattle.arbitrary_base.proofs.operations.WrappedRing.{by-congruence, difference-congruent, difference-in_range, sum-congruent, sum-in_range, wrapped_sum-zero}
 
 -- ---- the numbers of lists
 
@@ -87,23 +86,6 @@ difference-of_or_and s B x y h =
     by-congruence s B _ _ _ _ h (difference-in_range s B _ _ h) (xor-in_range s B x y h)
     (difference-congruent s B _ _ _ _ (of-list B _ _ (bits-or s B x y)) (of-list B _ _ (bits-and s B x y)))
     (of-list B _ _ (bits-xor s B x y)) (omega (arith, ints))
-
-pub sum-of_xor_and : (s : Bool) (B : ℕ) (x y : ℤ) → 1 ≤ B → wrapped_sum s B (bitwise_xor s B x y) (bitwise_and s B x y) ≡ bitwise_or s B x y
-sum-of_xor_and s B x y h =
-    let e = num-xor_and (bits B x) (bits B y) (same_length B x y) in
-    by-congruence s B _ _ _ _ h (sum-in_range s B _ _ h) (or-in_range s B x y h)
-    (sum-congruent s B _ _ _ _ (of-list B _ _ (bits-xor s B x y)) (of-list B _ _ (bits-and s B x y)))
-    (of-list B _ _ (bits-or s B x y)) (omega (arith, ints))
-
-pub difference-of_and : (s : Bool) (B : ℕ) (x y : ℤ) → 1 ≤ B → wrapped_difference s B x (bitwise_and s B x y) ≡ bitwise_and s B x (bitwise_not s B y)
-difference-of_and s B x y h =
-    let e = num-and_not (bits B x) (bits B y) (same_length B x y) in
-    by-congruence s B _ _ _ _ h (difference-in_range s B _ _ h) (and-in_range s B x _ h)
-    (difference-congruent s B x _ _ _ (natural B x) (of-list B _ _ (bits-and s B x y)))
-    (of-list B _ _ (bits-and s B x _ ∙ ap (bits_and (bits B x)) (bits-not s B y))) (omega (arith, ints))
-
-pub sum-twice : (s : Bool) (B : ℕ) (x : ℤ) → 1 ≤ B → shifted_left s B x 1 ≡ wrapped_sum s B x x
-sum-twice s B x h = shifted_left-is_product s B x 1 h h ∙ wrapped_product-two s B x h
 
 -- ---- order, where the type has no sign
 

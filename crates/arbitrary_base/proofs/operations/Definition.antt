@@ -1,20 +1,20 @@
 -- What each word for an operation is, and the bits of what it gives.
-use Rattle.std.specs.Prelude.{◌≡◌, ℕ, ℤ, zero, suc, Bool, true, false, not, ◌&&◌, ◌||◌, List, ◌∷◌, length, replicate, reverse, pos, negsuc, ◌≤◌, ◌-◌, ◌^◌, ◌+ℤ◌, ◌-ℤ◌, ◌*ℤ◌, map}
-use Rattle.std.specs.List.{slice_rotate_right}
 use Rattle.std.specs.Bool.{beq}
-use Rattle.std.proofs.Common.{refl, sym, ap, subst, ◌∙◌, arith}
+use Rattle.std.specs.List.{slice_rotate_right}
+use Rattle.std.specs.Prelude.{Bool, List, false, length, map, negsuc, not, pos, replicate, reverse, suc, true, zero, ℕ, ℤ, ◌&&◌, ◌*ℤ◌, ◌+ℤ◌, ◌-ℤ◌, ◌-◌, ◌^◌, ◌||◌, ◌∷◌, ◌≡◌, ◌≤◌}
+use Rattle.std.proofs.Common.{ap, arith, refl, subst, sym, ◌∙◌}
 use Rattle.std.proofs.lemmas.Int.{ints}
 use Rattle.std.proofs.lemmas.List.{length-reverse}
 use Rattle.std.proofs.lemmas.Nat.{pow_pos}
+use Rattle.arbitrary_base.specs.BitList.{bits, bits_and, bits_or, bits_xor, fill, shl, shr, val}
+use Rattle.arbitrary_base.specs.Operation.{bitwise_and, bitwise_not, bitwise_or, bitwise_xor, reversed, rotated_left, rotated_right, shifted_left, shifted_right, wrapped_difference, wrapped_product, wrapped_sum}
 use Rattle.arbitrary_base.specs.Range.{InRange}
 use Rattle.arbitrary_base.specs.Residue.{Congruent, wrap}
-use Rattle.arbitrary_base.specs.BitList.{bits, val, bits_and, bits_or, bits_xor, fill, shl, shr}
-use Rattle.arbitrary_base.specs.Operation.{bitwise_and, bitwise_or, bitwise_xor, bitwise_not, reversed, rotated_left, rotated_right, shifted_left, shifted_right, wrapped_difference, wrapped_product, wrapped_sum}
+use Rattle.arbitrary_base.proofs.bit_lists.Movement.{length-rotl, length-shl, length-shr, replicate-not, rotr}
+use Rattle.arbitrary_base.proofs.bit_lists.Pointwise.{length-pointwise, pointwise}
+use Rattle.arbitrary_base.proofs.bit_lists.TwosComplement.{bits-congruent, bits-negsuc, bits-val, val-bits_in_range, val-num}
 use Rattle.arbitrary_base.proofs.bit_lists.UnsignedNumber.{length-bits, length-not, same_length}
-use Rattle.arbitrary_base.proofs.bit_lists.Movement.{length-rotl, length-rotr, length-shl, length-shr, replicate-not, rotr}
-use Rattle.arbitrary_base.proofs.bit_lists.TwosComplement.{bits-val, bits-congruent, bits-negsuc, val-bits_in_range, val-num}
 use Rattle.arbitrary_base.proofs.modular.Residue.{wrap-in_range}
-use Rattle.arbitrary_base.proofs.bit_lists.Pointwise.{pointwise, length-pointwise}
 
 -- ---- what each word is
 
@@ -96,9 +96,6 @@ bits-right s B x k h =
 pub bits-rotl : (s : Bool) (B : ℕ) (x : ℤ) (k : ℕ) → bits B (rotated_left s B x k) ≡ slice_rotate_right (bits B x) k
 bits-rotl s B x k = ap (bits B) (rotl-is s B x k) ∙ bits-val s B _ (length-rotl (bits B x) k ∙ length-bits B x)
 
-pub bits-rotr : (s : Bool) (B : ℕ) (x : ℤ) (k : ℕ) → bits B (rotated_right s B x k) ≡ rotr (bits B x) k
-bits-rotr s B x k = ap (bits B) (rotr-is s B x k) ∙ bits-val s B _ (length-rotr (bits B x) k ∙ length-bits B x)
-
 pub bits-reversed : (s : Bool) (B : ℕ) (x : ℤ) → bits B (reversed s B x) ≡ reverse (bits B x)
 bits-reversed s B x = ap (bits B) (reversed-is s B x) ∙ bits-val s B _ (length-reverse (bits B x) ∙ length-bits B x)
 
@@ -116,6 +113,9 @@ pub bits-zero : (B : ℕ) → bits B (pos 0) ≡ replicate B false
 unfolding bits
 bits-zero zero = refl
 bits-zero (suc k) = ap (λ (l : List Bool). false ∷ l) (bits-zero k)
+
+pub alike : (b : Bool) (B : ℕ) (x : ℤ) → replicate (length (bits B x)) b ≡ replicate B b
+alike b B x = ap (λ (n : ℕ). replicate n b) (length-bits B x)
 
 pub zero-in_range : (s : Bool) (B : ℕ) → InRange s B (pos 0)
 zero-in_range false B = let p = pow_pos B in record { low = omega (arith, ints); high = omega (arith, ints) }

@@ -1,7 +1,7 @@
 -- The operators `!`, `&` and `|` beside the order of numbers, as `FixedWidth` has them for generic code: a complement is its operand mirrored
 -- in the range, and where the type has no sign, `&` is at most its operands and `|` at least.
-use Rattle.std.specs.Prelude.{◌≡◌, ◌≤◌, ◌+◌, ◌^◌, ℕ, ℤ, zero, suc, Bool, true, false, pos, negsuc, map, not, ◌+ℤ◌, ◌-ℤ◌, ◌≤ℤ◌}
-use Rattle.std.proofs.Common.{sym, ap, subst, ◌∙◌, arith}
+use Rattle.std.specs.Prelude.{Bool, false, map, negsuc, not, pos, suc, true, zero, ℕ, ℤ, ◌+ℤ◌, ◌+◌, ◌-ℤ◌, ◌^◌, ◌≡◌, ◌≤ℤ◌, ◌≤◌}
+use Rattle.std.proofs.Common.{ap, arith, subst, sym, ◌∙◌}
 use Rattle.std.proofs.lemmas.Int.{ints}
 use Rattle.arbitrary_base.specs.BitList.{bits, bits_and, bits_or, num, val}
 use Rattle.arbitrary_base.specs.Operation.{bitwise_and, bitwise_not}

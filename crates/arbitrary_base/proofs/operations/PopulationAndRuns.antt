@@ -1,27 +1,25 @@
 -- The laws of counts: how many bits of a number are one, and how many alike stand at either end.
--- The set `counts` of `arbitrary_int::proofs::BitVector` has them; what a count bounds of a number stands in CountBounds.antt.
-use Rattle.std.specs.Prelude.{◌≡◌, ℕ, ℤ, zero, suc, Bool, true, false, not, ◌&&◌, ◌||◌, List, [], ◌∷◌, ◌++◌, drop, length, replicate, reverse, take, pos, negsuc, ◌≤◌, ◌+◌, ◌-◌, ◌^◌, ◌-ℤ◌, map}
+-- What a count tells of 0, of -1 and of the greatest number is in EndCounts.antt of arbitrary_calls.
 use Rattle.std.specs.Bool.{beq}
 use Rattle.std.specs.List.{count_by, prefix_len, suffix_len}
-use Rattle.std.proofs.Common.{refl, sym, ap, ◌∙◌, arith, take-append-drop}
+use Rattle.std.specs.Prelude.{Bool, List, [], drop, false, length, map, not, pos, replicate, reverse, suc, take, true, zero, ℕ, ℤ, ◌&&◌, ◌++◌, ◌+◌, ◌-ℤ◌, ◌-◌, ◌^◌, ◌||◌, ◌∷◌, ◌≡◌, ◌≤◌}
+use Rattle.std.proofs.Common.{ap, arith, refl, sym, take-append-drop, ◌∙◌}
 use Rattle.std.proofs.lemmas.List.{reverse-reverse}
 use Rattle.std.proofs.lemmas.List.Sums.{sum_by-append}
-use Rattle.arbitrary_base.specs.Range.{InRange}
-use Rattle.arbitrary_base.specs.BitList.{bits, val, bits_and, bits_or}
-use Rattle.arbitrary_base.specs.Operation.{bitwise_and, bitwise_not, bitwise_or, reversed, rotated_left, rotated_right}
+use Rattle.arbitrary_base.specs.BitList.{bits, bits_and, bits_or}
+use Rattle.arbitrary_base.specs.Operation.{bitwise_and, bitwise_not, bitwise_or, reversed, rotated_left}
 use Rattle.arbitrary_base.proofs.bit_lists.Count.{front-not, popcount-cons, popcount-not, tail-not}
-use Rattle.arbitrary_base.proofs.bit_lists.UnsignedNumber.{digit, length-bits, same_length}
 use Rattle.arbitrary_base.proofs.bit_lists.Movement.{reverse-cons, rotr}
-use Rattle.arbitrary_base.proofs.operations.Definition.{bits-and, bits-highest, bits-minus_one, bits-not, bits-not_zero, bits-or, bits-reversed, bits-rotl, bits-rotr, bits-zero, of-bits, zero-is}
 use Rattle.arbitrary_base.proofs.bit_lists.Pointwise.{and-comm, not-not}
-use Rattle.arbitrary_base.proofs.bit_lists.Rotation.{reverse-alike}
+use Rattle.arbitrary_base.proofs.bit_lists.UnsignedNumber.{digit, length-bits, same_length}
+use Rattle.arbitrary_base.proofs.operations.Definition.{bits-and, bits-not, bits-or, bits-reversed, bits-rotl, bits-zero}
 
 -- ---- of lists
 
 popcount-append : (l m : List Bool) → count_by (λ b. b) (l ++ m) ≡ count_by (λ b. b) l + count_by (λ b. b) m
 popcount-append l m = sum_by-append digit l m
 
-popcount-alike : (n : ℕ) → count_by (λ b. b) (replicate n true) ≡ n
+pub popcount-alike : (n : ℕ) → count_by (λ b. b) (replicate n true) ≡ n
 popcount-alike zero = refl
 popcount-alike (suc n) = popcount-cons true (replicate n true) ∙ (let e = popcount-alike n in omega arith)
 
@@ -36,19 +34,13 @@ popcount-reverse (b ∷ l) =
     let f = popcount-cons b [] in
     ap (count_by (λ b. b)) (reverse-cons b l) ∙ popcount-append (reverse l) (b ∷ []) ∙ (let g = popcount-reverse l in omega arith)
 
-popcount-rotr : (l : List Bool) (k : ℕ) → count_by (λ b. b) (rotr l k) ≡ count_by (λ b. b) l
+pub popcount-rotr : (l : List Bool) (k : ℕ) → count_by (λ b. b) (rotr l k) ≡ count_by (λ b. b) l
 popcount-rotr l k =
     let e = popcount-append (take k l) (drop k l) in
     let f = ap (count_by (λ b. b)) (take-append-drop k l) in
     popcount-append (drop k l) (take k l) ∙ omega arith
 
--- a list with no one is all zeros
-no_ones : (l : List Bool) → count_by (λ b. b) l ≡ 0 → l ≡ replicate (length l) false
-no_ones [] e = refl
-no_ones (true ∷ l) e = let f = popcount-cons true l in absurd (omega arith)
-no_ones (false ∷ l) e = let f = popcount-cons false l in ap (λ (m : List Bool). false ∷ m) (no_ones l (omega arith))
-
-front-alike : (b : Bool) (n : ℕ) → prefix_len (beq b) (replicate n b) ≡ n
+pub front-alike : (b : Bool) (n : ℕ) → prefix_len (beq b) (replicate n b) ≡ n
 front-alike true zero = refl
 front-alike true (suc n) = let e = front-alike true n in omega arith
 front-alike false zero = refl
@@ -86,12 +78,6 @@ popcount-and (a ∷ l) (b ∷ m) = omega (arith, item a b, popcount-cons (a && b
 pub popcount-of_zero : (B : ℕ) → count_by (λ b. b) (bits B (pos 0)) ≡ 0
 popcount-of_zero B = ap (count_by (λ b. b)) (bits-zero B) ∙ popcount-zeros B
 
-pub popcount-of_highest : (B : ℕ) (x : ℤ) → x ≡ pos (2 ^ B) -ℤ pos 1 → count_by (λ b. b) (bits B x) ≡ B
-popcount-of_highest B x e = ap (λ (z : ℤ). count_by (λ b. b) (bits B z)) e ∙ ap (count_by (λ b. b)) (bits-highest B) ∙ popcount-alike B
-
-pub popcount-of_minus_one : (B : ℕ) → count_by (λ b. b) (bits B (negsuc 0)) ≡ B
-popcount-of_minus_one B = ap (count_by (λ b. b)) (bits-minus_one B) ∙ popcount-alike B
-
 pub popcount-of_not : (s : Bool) (B : ℕ) (x : ℤ) → count_by (λ b. b) (bits B (bitwise_not s B x)) ≡ B - count_by (λ b. b) (bits B x)
 popcount-of_not s B x =
     let e = popcount-not (bits B x) in
@@ -103,16 +89,6 @@ popcount-of_reversed s B x = ap (count_by (λ b. b)) (bits-reversed s B x) ∙ p
 
 pub popcount-of_left : (s : Bool) (B : ℕ) (x : ℤ) (k : ℕ) → count_by (λ b. b) (bits B (rotated_left s B x k)) ≡ count_by (λ b. b) (bits B x)
 popcount-of_left s B x k = ap (count_by (λ b. b)) (bits-rotl s B x k) ∙ popcount-rotr (bits B x) (length (bits B x) - k)
-
-pub popcount-of_right : (s : Bool) (B : ℕ) (x : ℤ) (k : ℕ) → count_by (λ b. b) (bits B (rotated_right s B x k)) ≡ count_by (λ b. b) (bits B x)
-popcount-of_right s B x k = ap (count_by (λ b. b)) (bits-rotr s B x k) ∙ popcount-rotr (bits B x) k
-
-pub no_ones-of_zero : (B : ℕ) (x : ℤ) → x ≡ pos 0 → count_by (λ b. b) (bits B x) ≡ 0
-no_ones-of_zero B x e = ap (λ (z : ℤ). count_by (λ b. b) (bits B z)) e ∙ popcount-of_zero B
-
-pub zero-of_no_ones : (s : Bool) (B : ℕ) (x : ℤ) → 1 ≤ B → InRange s B x → count_by (λ b. b) (bits B x) ≡ 0 → x ≡ pos 0
-zero-of_no_ones s B x h f e =
-    of-bits s B x h f ∙ ap (val s) (no_ones (bits B x) e ∙ ap (λ (n : ℕ). replicate n false) (length-bits B x)) ∙ sym (zero-is s B h)
 
 pub popcount-of_and_or : (s : Bool) (B : ℕ) (x y : ℤ)
     → count_by (λ b. b) (bits B (bitwise_and s B x y)) + count_by (λ b. b) (bits B (bitwise_or s B x y)) ≡ count_by (λ b. b) (bits B x) + count_by (λ b. b) (bits B y)
@@ -128,44 +104,13 @@ popcount-of_and s B x y =
     let f = ap (count_by (λ b. b)) (and-comm (bits B x) (bits B y)) in
     (omega (arith, popcount-and (bits B x) (bits B y)), omega (arith, popcount-and (bits B y) (bits B x)))
 
-pub popcount-of_or : (s : Bool) (B : ℕ) (x y : ℤ)
-    → (count_by (λ b. b) (bits B x) ≤ count_by (λ b. b) (bits B (bitwise_or s B x y))) × (count_by (λ b. b) (bits B y) ≤ count_by (λ b. b) (bits B (bitwise_or s B x y)))
-popcount-of_or s B x y =
-    let e = popcount-of_and_or s B x y in
-    let f = popcount-of_and s B x y in
-    (omega arith, omega arith)
-
 -- ---- how many alike stand at an end
-
-pub front-of_zero : (B : ℕ) → prefix_len (beq false) (bits B (pos 0)) ≡ B
-front-of_zero B = ap (prefix_len (beq false)) (bits-zero B) ∙ front-alike false B
-
-pub front-of_not_zero : (s : Bool) (B : ℕ) → prefix_len (beq true) (bits B (bitwise_not s B (pos 0))) ≡ B
-front-of_not_zero s B = ap (prefix_len (beq true)) (bits-not_zero s B) ∙ front-alike true B
-
-pub front-of_highest : (B : ℕ) (x : ℤ) → x ≡ pos (2 ^ B) -ℤ pos 1 → prefix_len (beq true) (bits B x) ≡ B
-front-of_highest B x e = ap (λ (z : ℤ). prefix_len (beq true) (bits B z)) e ∙ ap (prefix_len (beq true)) (bits-highest B) ∙ front-alike true B
-
-pub front-of_minus_one : (B : ℕ) → prefix_len (beq true) (bits B (negsuc 0)) ≡ B
-front-of_minus_one B = ap (prefix_len (beq true)) (bits-minus_one B) ∙ front-alike true B
 
 pub front_ones-of_not : (s : Bool) (B : ℕ) (x : ℤ) → prefix_len (beq true) (bits B (bitwise_not s B x)) ≡ prefix_len (beq false) (bits B x)
 front_ones-of_not s B x = ap (prefix_len (beq true)) (bits-not s B x) ∙ sym (front-false_of_not (bits B x))
 
 pub front_zeros-of_not : (s : Bool) (B : ℕ) (x : ℤ) → prefix_len (beq false) (bits B (bitwise_not s B x)) ≡ prefix_len (beq true) (bits B x)
 front_zeros-of_not s B x = ap (prefix_len (beq false)) (bits-not s B x) ∙ sym (front-not (bits B x))
-
-pub tail-of_zero : (B : ℕ) → suffix_len (beq false) (bits B (pos 0)) ≡ B
-tail-of_zero B = ap (suffix_len (beq false)) (bits-zero B) ∙ ap (prefix_len (beq false)) (reverse-alike B false) ∙ front-alike false B
-
-pub tail-of_not_zero : (s : Bool) (B : ℕ) → suffix_len (beq true) (bits B (bitwise_not s B (pos 0))) ≡ B
-tail-of_not_zero s B = ap (suffix_len (beq true)) (bits-not_zero s B) ∙ ap (prefix_len (beq true)) (reverse-alike B true) ∙ front-alike true B
-
-pub tail-of_highest : (B : ℕ) (x : ℤ) → x ≡ pos (2 ^ B) -ℤ pos 1 → suffix_len (beq true) (bits B x) ≡ B
-tail-of_highest B x e = ap (λ (z : ℤ). suffix_len (beq true) (bits B z)) e ∙ ap (suffix_len (beq true)) (bits-highest B) ∙ ap (prefix_len (beq true)) (reverse-alike B true) ∙ front-alike true B
-
-pub tail-of_minus_one : (B : ℕ) → suffix_len (beq true) (bits B (negsuc 0)) ≡ B
-tail-of_minus_one B = ap (suffix_len (beq true)) (bits-minus_one B) ∙ ap (prefix_len (beq true)) (reverse-alike B true) ∙ front-alike true B
 
 pub tail_ones-of_not : (s : Bool) (B : ℕ) (x : ℤ) → suffix_len (beq true) (bits B (bitwise_not s B x)) ≡ suffix_len (beq false) (bits B x)
 tail_ones-of_not s B x = ap (suffix_len (beq true)) (bits-not s B x) ∙ sym (tail-false_of_not (bits B x))

@@ -1,7 +1,7 @@
 -- The laws of powers and quotients at small exponents and equal numbers, and of what is extended to 128 bits.
-use Rattle.std.specs.Prelude.{◌≡◌, ◌≢◌, ℕ, ℤ, Bool, true, false, zero, suc, pos, negsuc, neg_ℤ, ◌-◌, ◌/◌, ◌≤◌, ◌*ℤ◌, int_div}
 use Rattle.std.specs.Int.{int_pow}
-use Rattle.std.proofs.Common.{refl, ap, subst, ◌∙◌, arith}
+use Rattle.std.specs.Prelude.{Bool, false, int_div, neg_ℤ, negsuc, pos, suc, true, zero, ℕ, ℤ, ◌-◌, ◌/◌, ◌≡◌, ◌≢◌, ◌≤◌}
+use Rattle.std.proofs.Common.{ap, arith, refl, subst, ◌∙◌}
 use Rattle.std.proofs.Math.Nat.{div_self}
 use Rattle.std.proofs.lemmas.Int.{ints}
 use Rattle.std.proofs.lemmas.Nat.{pow_pos}
@@ -12,9 +12,6 @@ use Rattle.arbitrary_base.proofs.integers.Powers.{one-mul_z, power-one, power-su
 use Rattle.arbitrary_base.proofs.modular.Congruence.{Congruent-narrower, pow_half}
 use Rattle.arbitrary_base.proofs.modular.Residue.{residue-congruent, wrap-of_in_range, wrap-same}
 use Rattle.arbitrary_base.proofs.storages.Clamp.{clamp-fits}
-
-pub power-twice : (x : ℤ) → int_pow x 2 ≡ x *ℤ x
-power-twice x = power-suc x 1 ∙ ap (λ (z : ℤ). x *ℤ z) (power-one x)
 
 pub power-of_one : (n : ℕ) → int_pow (pos 1) n ≡ pos 1
 power-of_one zero = refl

@@ -1,30 +1,25 @@
 -- The laws of shifts on the numbers of a type.
-use Rattle.std.specs.Prelude.{◌≡◌, ℕ, ℤ, Bool, true, false, not, ◌&&◌, ◌||◌, List, [], ◌∷◌, ◌++◌, get_or, take, length, replicate, pos, negsuc, neg_ℤ, zero, suc, ◌≤◌, ◌<◌, ◌+◌, ◌-◌, ◌*◌, ◌/◌, ◌^◌, ◌-ℤ◌, ◌*ℤ◌}
 use Rattle.std.specs.Bool.{beq}
 use Rattle.std.specs.Int.{int_shr}
-use Rattle.std.proofs.Common.{refl, sym, ap, ap₂, ◌∙◌, arith, pow-add}
-use Rattle.std.proofs.Math.IntN.{*ℤ_comm}
-use Rattle.std.proofs.Math.Nat.{div-div-eq-div-mul, div-eq_of_lt-le, pow-le-pow_right, zero-div}
+use Rattle.std.specs.Prelude.{Bool, List, [], false, get_or, length, negsuc, not, pos, replicate, suc, take, true, zero, ℕ, ℤ, ◌&&◌, ◌*ℤ◌, ◌*◌, ◌++◌, ◌+◌, ◌-ℤ◌, ◌-◌, ◌/◌, ◌^◌, ◌||◌, ◌∷◌, ◌≡◌, ◌≤◌}
+use Rattle.std.proofs.Common.{ap, ap₂, arith, refl, sym, ◌∙◌}
+use Rattle.std.proofs.Math.Nat.{zero-div}
 use Rattle.std.proofs.lemmas.Int.{ints}
-use Rattle.std.proofs.lemmas.Nat.{pow_pos}
 use Rattle.std.proofs.lemmas.List.{length-replicate, replicate-append-replicate, take-replicate}
-use Rattle.arbitrary_base.specs.Range.{InRange}
-use Rattle.arbitrary_base.specs.Residue.{Congruent, residue}
 use Rattle.arbitrary_base.specs.BitList.{bits, bits_and, bits_or, bits_xor, fill, shl, shr}
-use Rattle.arbitrary_base.specs.Operation.{bitwise_and, bitwise_or, bitwise_xor, bitwise_not, shifted_left, shifted_right, wrapped_sum, wrapped_difference, wrapped_product}
-use Rattle.arbitrary_base.proofs.integers.Ring.{sub-mul_z}
-use Rattle.arbitrary_base.proofs.modular.Congruence.{Congruent-mul_left, Congruent-refl}
-use Rattle.arbitrary_base.proofs.modular.Residue.{residue-congruent, wrap-same}
-use Rattle.arbitrary_base.proofs.storages.CheckedSum.{zero-in_range}
-use Rattle.arbitrary_base.proofs.bit_lists.UnsignedNumber.{length-bits, same_length}
-use Rattle.arbitrary_base.proofs.bit_lists.SignBit.{val-shl, val-shr, InRange-int_shr}
-use Rattle.arbitrary_base.proofs.bit_lists.StdBitwise.{not-signed}
+use Rattle.arbitrary_base.specs.Operation.{bitwise_and, bitwise_not, bitwise_or, bitwise_xor, shifted_left, shifted_right, wrapped_difference, wrapped_product, wrapped_sum}
+use Rattle.arbitrary_base.specs.Range.{InRange}
+use Rattle.arbitrary_base.specs.Residue.{residue}
 use Rattle.arbitrary_base.proofs.bit_lists.Pointwise.{length-pointwise, pointwise, shl-pointwise, shr-pointwise}
-use Rattle.arbitrary_base.proofs.bit_lists.Rotation.{shl-none, shl-past, shl-shr, shl-twice, shr-none, shr-shl}
-use Rattle.arbitrary_base.proofs.operations.Definition.{and-is, or-is, xor-is, left-is, not-in_range, not-is, right-is, bits-and, bits-highest, bits-left, bits-minus_one, bits-not_zero, bits-or, bits-right, bits-xor, bits-zero, by-bits, of-bits, product-is, zero-is}
-use Rattle.arbitrary_base.proofs.operations.Bitwise.{alike}
-use Rattle.arbitrary_base.proofs.operations.ShiftAsProduct.{shl-stays}
-use Rattle.arbitrary_base.proofs.operations.WrappedRing.{by-congruence, product-congruent, product-in_range, products-of_differences, products-of_sums}
+use Rattle.arbitrary_base.proofs.bit_lists.Rotation.{shl-none, shl-shr, shr-none, shr-shl}
+use Rattle.arbitrary_base.proofs.bit_lists.SignBit.{InRange-int_shr, val-shl, val-shr}
+use Rattle.arbitrary_base.proofs.bit_lists.StdBitwise.{not-signed}
+use Rattle.arbitrary_base.proofs.bit_lists.UnsignedNumber.{length-bits, same_length}
+use Rattle.arbitrary_base.proofs.modular.Congruence.{Congruent-mul_left}
+use Rattle.arbitrary_base.proofs.modular.Residue.{residue-congruent, wrap-same}
+use Rattle.arbitrary_base.proofs.operations.Definition.{alike, and-is, bits-and, bits-left, bits-not_zero, bits-or, bits-right, bits-xor, bits-zero, by-bits, left-is, not-in_range, not-is, of-bits, or-is, product-is, right-is, xor-is, zero-is}
+use Rattle.arbitrary_base.proofs.operations.WrappedRing.{products-of_differences, products-of_sums}
+use Rattle.arbitrary_base.proofs.storages.CheckedSum.{zero-in_range}
 
 pub shifted_left-none : (s : Bool) (B : ℕ) (x : ℤ) → 1 ≤ B → InRange s B x → shifted_left s B x 0 ≡ x
 shifted_left-none s B x h f = by-bits _ _ _ _ _ (left-is s B x 0) (of-bits s B x h f) (shl-none (bits B x))
@@ -49,18 +44,6 @@ shifted_right-is_shr s B x k h g f = right-is s B x k ∙ val-shr s B k x h g f
 
 pub shifted_right-zero : (s : Bool) (B k : ℕ) → 1 ≤ B → k ≤ B → shifted_right s B (pos 0) k ≡ pos 0
 shifted_right-zero s B k h g = shifted_right-is_shr s B (pos 0) k h g (zero-in_range s B h) ∙ ap pos (zero-div (2 ^ k))
-
-int_shr-twice : (x : ℤ) (a b : ℕ) → int_shr (int_shr x a) b ≡ int_shr x (a + b)
-int_shr-twice (pos n) a b = ap pos (div-div-eq-div-mul n (2 ^ a) (2 ^ b) ∙ ap (λ (k : ℕ). n / k) (sym (pow-add 2 a b)))
-int_shr-twice (negsuc n) a b = ap negsuc (div-div-eq-div-mul n (2 ^ a) (2 ^ b) ∙ ap (λ (k : ℕ). n / k) (sym (pow-add 2 a b)))
-
-pub shifted_right-twice : (s : Bool) (B : ℕ) (x : ℤ) (a b : ℕ) → 1 ≤ B → a + b ≤ B → InRange s B x
-    → shifted_right s B (shifted_right s B x a) b ≡ shifted_right s B x (a + b)
-shifted_right-twice s B x a b h g f =
-    let one = shifted_right-is_shr s B x a h (omega arith) f in
-    ap (λ (z : ℤ). shifted_right s B z b) one
-    ∙ shifted_right-is_shr s B (int_shr x a) b h (omega arith) (InRange-int_shr s B a x f)
-    ∙ int_shr-twice x a b ∙ sym (shifted_right-is_shr s B x (a + b) h g f)
 
 -- the complement of a number with a sign is what it lacks to -1, and each half of that too
 not-is_less : (B : ℕ) (x : ℤ) → 1 ≤ B → InRange true B x → bitwise_not true B x ≡ negsuc 0 -ℤ x
@@ -100,18 +83,6 @@ pub shifted_left-difference : (s : Bool) (B : ℕ) (x y : ℤ) (k : ℕ) → 1 �
 shifted_left-difference s B x y k h g =
     shifted_left-is_product s B (wrapped_difference s B x y) k h g ∙ products-of_differences s B x y (pos (2 ^ k)) h
     ∙ sym (ap₂ (wrapped_difference s B) (shifted_left-is_product s B x k h g) (shifted_left-is_product s B y k h g))
-
-pub shifted_left-twice : (s : Bool) (B : ℕ) (x : ℤ) (a b : ℕ) → a + b ≤ B → shifted_left s B (shifted_left s B x a) b ≡ shifted_left s B x (a + b)
-shifted_left-twice s B x a b h =
-    let n = length-bits B x in
-    by-bits _ _ _ _ _ (left-is s B _ b) (left-is s B x (a + b))
-    (ap (λ (l : List Bool). shl l b) (bits-left s B x a (omega arith)) ∙ shl-twice (bits B x) a b (omega arith))
-
-pub shifted_left-past : (s : Bool) (B : ℕ) (x : ℤ) (a b : ℕ) → 1 ≤ B → a ≤ B → b ≤ B → B ≤ a + b → shifted_left s B (shifted_left s B x a) b ≡ pos 0
-shifted_left-past s B x a b o h g e =
-    let n = length-bits B x in
-    by-bits _ _ _ _ _ (left-is s B _ b) (zero-is s B o)
-    (ap (λ (l : List Bool). shl l b) (bits-left s B x a h) ∙ shl-past (bits B x) a b (omega arith) (omega arith) (omega arith) ∙ alike false B x)
 
 -- ---- beside `and`, `or` and `xor`
 
@@ -185,7 +156,7 @@ shifted_right-xor s B x y k h =
 all_ones : (B : ℕ) (x y : ℤ) → bits B y ≡ replicate B true → replicate (length (bits B x)) true ≡ bits B y
 all_ones B x y e = alike true B x ∙ sym e
 
-right-left : (s : Bool) (B : ℕ) (x y : ℤ) (k : ℕ) → k ≤ B → bits B y ≡ replicate B true
+pub right-left : (s : Bool) (B : ℕ) (x y : ℤ) (k : ℕ) → k ≤ B → bits B y ≡ replicate B true
     → shifted_left s B (shifted_right s B x k) k ≡ bitwise_and s B x (shifted_left s B y k)
 right-left s B x y k h e =
     let n = length-bits B x in
@@ -193,7 +164,7 @@ right-left s B x y k h e =
     (ap (λ (l : List Bool). shl l k) (bits-right s B x k h) ∙ shr-shl (bits B x) k (fill s (bits B x)) (omega arith)
     ∙ ap (λ (l : List Bool). bits_and (bits B x) (shl l k)) (all_ones B x y e) ∙ ap (bits_and (bits B x)) (sym (bits-left s B y k h)))
 
-left-right : (B : ℕ) (x y : ℤ) (k : ℕ) → k ≤ B → bits B y ≡ replicate B true
+pub left-right : (B : ℕ) (x y : ℤ) (k : ℕ) → k ≤ B → bits B y ≡ replicate B true
     → shifted_right false B (shifted_left false B x k) k ≡ bitwise_and false B x (shifted_right false B y k)
 left-right B x y k h e =
     let n = length-bits B x in
@@ -201,64 +172,10 @@ left-right B x y k h e =
     (ap (λ (l : List Bool). shr l k false) (bits-left false B x k h) ∙ shl-shr (bits B x) k (omega arith)
     ∙ ap (λ (l : List Bool). bits_and (bits B x) (shr l k false)) (all_ones B x y e) ∙ ap (bits_and (bits B x)) (sym (bits-right false B y k h)))
 
-pub right_left-mask : (B : ℕ) (x : ℤ) (k : ℕ) → k ≤ B
-    → shifted_left false B (shifted_right false B x k) k ≡ bitwise_and false B x (shifted_left false B (pos (2 ^ B) -ℤ pos 1) k)
-right_left-mask B x k h = right-left false B x _ k h (bits-highest B)
-
-pub right_left-mask_signed : (B : ℕ) (x : ℤ) (k : ℕ) → k ≤ B
-    → shifted_left true B (shifted_right true B x k) k ≡ bitwise_and true B x (shifted_left true B (negsuc 0) k)
-right_left-mask_signed B x k h = right-left true B x _ k h (bits-minus_one B)
-
 pub right_left-mask_not : (s : Bool) (B : ℕ) (x : ℤ) (k : ℕ) → k ≤ B
     → shifted_left s B (shifted_right s B x k) k ≡ bitwise_and s B x (shifted_left s B (bitwise_not s B (pos 0)) k)
 right_left-mask_not s B x k h = right-left s B x _ k h (bits-not_zero s B)
 
-pub left_right-mask : (B : ℕ) (x : ℤ) (k : ℕ) → k ≤ B
-    → shifted_right false B (shifted_left false B x k) k ≡ bitwise_and false B x (shifted_right false B (pos (2 ^ B) -ℤ pos 1) k)
-left_right-mask B x k h = left-right B x _ k h (bits-highest B)
-
 pub left_right-mask_not : (B : ℕ) (x : ℤ) (k : ℕ) → k ≤ B
     → shifted_right false B (shifted_left false B x k) k ≡ bitwise_and false B x (shifted_right false B (bitwise_not false B (pos 0)) k)
 left_right-mask_not B x k h = left-right B x _ k h (bits-not_zero false B)
-
--- ---- the same with the mask as a numeral
-
-highest-left : (B k : ℕ) → 1 ≤ B → k ≤ B → shifted_left false B (pos (2 ^ B) -ℤ pos 1) k ≡ pos (2 ^ B) -ℤ pos (2 ^ k)
-highest-left B k h g =
-    let p = pow_pos k in
-    let q : 2 ^ k ≤ 2 ^ B = pow-le-pow_right (omega arith) g in
-    let f : InRange false B (pos (2 ^ B) -ℤ pos (2 ^ k)) = record { low = omega (arith, ints); high = omega (arith, ints) } in
-    let a = sub-mul_z (pos (2 ^ B)) (pos 1) (pos (2 ^ k)) in
-    let b = sub-mul_z (pos 1) (pos (2 ^ k)) (pos (2 ^ B)) in
-    let c = *ℤ_comm (pos (2 ^ B)) (pos (2 ^ k)) in
-    let e : Congruent B (pos (2 ^ B) -ℤ pos (2 ^ k)) ((pos (2 ^ B) -ℤ pos 1) *ℤ pos (2 ^ k)) = record { times = pos 1 -ℤ pos (2 ^ k); apart = omega (arith, ints) } in
-    shifted_left-is_product false B _ k h g
-    ∙ by-congruence false B _ _ _ _ h (product-in_range false B _ _ h) f (product-congruent false B _ _ _ _ (Congruent-refl B _) (Congruent-refl B _)) e refl
-
-pub right_left-numeral : (B : ℕ) (x : ℤ) (k : ℕ) → 1 ≤ B → k ≤ B
-    → shifted_left false B (shifted_right false B x k) k ≡ bitwise_and false B x (pos (2 ^ B) -ℤ pos (2 ^ k))
-right_left-numeral B x k h g = right_left-mask B x k g ∙ ap (bitwise_and false B x) (highest-left B k h g)
-
-pub right_left-numeral_signed : (B : ℕ) (x : ℤ) (k : ℕ) → 1 ≤ B → k < B
-    → shifted_left true B (shifted_right true B x k) k ≡ bitwise_and true B x (neg_ℤ (pos (2 ^ k)))
-right_left-numeral_signed B x k h g =
-    let p = pow_pos k in
-    let q : 2 ^ k ≤ 2 ^ (B - 1) = pow-le-pow_right (omega arith) (omega arith) in
-    let f : InRange true B (negsuc 0 *ℤ pos (2 ^ k)) = record { low = omega (arith, ints); high = omega (arith, ints) } in
-    let e = shl-stays true B k (negsuc 0) _ h g f (left-is true B (negsuc 0) k) in
-    right_left-mask_signed B x k (omega arith) ∙ ap (bitwise_and true B x) (e ∙ (let d : negsuc 0 *ℤ pos (2 ^ k) ≡ neg_ℤ (pos (2 ^ k)) = omega (arith, ints) in d))
-
-highest-right : (B k : ℕ) → 1 ≤ B → k ≤ B → shifted_right false B (pos (2 ^ B) -ℤ pos 1) k ≡ pos (2 ^ (B - k)) -ℤ pos 1
-highest-right B k h g =
-    let p = pow_pos B in
-    let q = pow_pos (B - k) in
-    let r = pow_pos k in
-    let f : InRange false B (pos (2 ^ B) -ℤ pos 1) = record { low = omega (arith, ints); high = omega (arith, ints) } in
-    let e : 2 ^ (B - k) * 2 ^ k ≡ 2 ^ B = sym (pow-add 2 (B - k) k) ∙ ap (λ (n : ℕ). 2 ^ n) (omega arith) in
-    let m : pos (2 ^ B) -ℤ pos 1 ≡ pos (2 ^ B - 1) = omega (arith, ints) in
-    let d : (2 ^ B - 1) / 2 ^ k ≡ 2 ^ (B - k) - 1 = div-eq_of_lt-le (2 ^ k) (grind arith) (grind arith) in
-    shifted_right-is_shr false B _ k h g f ∙ ap (λ (z : ℤ). int_shr z k) m ∙ (let w : pos ((2 ^ B - 1) / 2 ^ k) ≡ pos (2 ^ (B - k)) -ℤ pos 1 = omega (arith, ints) in w)
-
-pub left_right-numeral : (B : ℕ) (x : ℤ) (k : ℕ) → 1 ≤ B → k ≤ B
-    → shifted_right false B (shifted_left false B x k) k ≡ bitwise_and false B x (pos (2 ^ (B - k)) -ℤ pos 1)
-left_right-numeral B x k h g = left_right-mask B x k g ∙ ap (bitwise_and false B x) (highest-right B k h g)

@@ -1,14 +1,15 @@
 -- A number of which at most one bit is one: 0 or a power of two, told by `x & (x - 1) == 0` and by the count at once.
 -- For callers: `#![tactic(auto, using(arbitrary_laws::proofs::bits::AtMostOneBit::at_most_one_bit))]`.
-use Rattle.std.specs.Prelude.{◌≡◌, ◌≢◌, ◌↔◌, ℕ, ℤ, zero, suc, Bool, pos, ◌≤◌}
 use Rattle.std.specs.List.{count_by}
-use Rattle.std.proofs.Common.{refl, sym, ap, ◌∙◌, arith}
+use Rattle.std.specs.Prelude.{Bool, pos, suc, zero, ℕ, ℤ, ◌↔◌, ◌≡◌, ◌≢◌, ◌≤◌}
+use Rattle.std.proofs.Common.{ap, arith, refl, sym, ◌∙◌}
 use Rattle.std.proofs.lemmas.Bool.Decides.{Decides-int_eq}
-use Rattle.arbitrary_base.specs.Range.{InRange}
 use Rattle.arbitrary_base.specs.BitList.{bits}
 use Rattle.arbitrary_base.specs.Operation.{bitwise_and, wrapped_difference}
-use Rattle.arbitrary_base.proofs.operations.Bitwise.{bitwise_and-commutes, bitwise_and-zero}
-use Rattle.arbitrary_base.proofs.operations.PopulationAndRuns.{no_ones-of_zero, zero-of_no_ones}
+use Rattle.arbitrary_base.specs.Range.{InRange}
+use Rattle.arbitrary_base.proofs.operations.Bitwise.{bitwise_and-commutes}
+use Rattle.arbitrary_calls.proofs.counts.EndCounts.{no_ones-of_zero, zero-of_no_ones}
+use Rattle.arbitrary_laws.proofs.bits.Identities.{bitwise_and-zero}
 use Rattle.arbitrary_laws.proofs.places.LowestBit.{and-of_difference, none-left}
 
 pub none-left_of_at_most_one : (s : Bool) (B : ℕ) (x : ℤ) → 1 ≤ B → InRange s B x

@@ -1,15 +1,15 @@
 -- `|`, `^` and `& !` told by `&` and sums, exactly: a law of them beside sums, differences and the order is linear arithmetic then.
 -- For callers: `#![tactic(auto, using(arbitrary_laws::proofs::bits::BitSums::bit_sums))]`.
-use Rattle.std.specs.Prelude.{◌≡◌, ℕ, ℤ, false, ◌≤◌, ◌≤ℤ◌, ◌+ℤ◌}
-use Rattle.std.proofs.Common.{refl, arith}
+use Rattle.std.specs.Prelude.{false, ℕ, ℤ, ◌+ℤ◌, ◌≡◌, ◌≤ℤ◌, ◌≤◌}
+use Rattle.std.proofs.Common.{arith, refl}
 use Rattle.std.proofs.lemmas.Bool.Decides.{Decides-int_eq}
 use Rattle.std.proofs.lemmas.Int.{ints}
-use Rattle.arbitrary_base.specs.Range.{InRange}
 use Rattle.arbitrary_base.specs.Operation.{bitwise_or, bitwise_xor}
+use Rattle.arbitrary_base.specs.Range.{InRange}
 use Rattle.arbitrary_base.proofs.operations.BitsAndSums.{and-in_range}
 use Rattle.arbitrary_base.proofs.operations.Bitwise.{bitwise_and-commutes}
-use Rattle.arbitrary_base.proofs.operations.KnownMask.{and-by_complement, or-by_and, xor-by_and}
-use Rattle.arbitrary_base.proofs.operations.Order.{ge-tested, gt-tested, le-tested, lt-tested}
+use Rattle.arbitrary_laws.proofs.masks.NumberUnderMask.{and-by_complement, or-by_and, xor-by_and}
+use Rattle.arbitrary_laws.proofs.orders.Order.{ge-tested, gt-tested, le-tested, lt-tested}
 
 -- at most the sum. Each law's first part says nothing: it shows the search the call
 module _ (B : ℕ) (x y : ℤ) (h : 1 ≤ B) (f : InRange false B x) (g : InRange false B y) where

@@ -1,20 +1,22 @@
 -- The complement of `^` and of `|` beside sums and differences; `&` and `& !` by a difference from `|`; and `^` by carries.
 -- For callers: `#![tactic(auto, using(arbitrary_laws::proofs::bits::ComplementParts::complement_parts))]`.
-use Rattle.std.specs.Prelude.{◌≡◌, ℕ, ℤ, Bool, pos, negsuc, ◌≤◌, ◌-ℤ◌}
-use Rattle.std.proofs.Common.{sym, subst, arith}
+use Rattle.std.specs.Prelude.{Bool, negsuc, pos, ℕ, ℤ, ◌-ℤ◌, ◌≡◌, ◌≤◌}
+use Rattle.std.proofs.Common.{arith, subst, sym}
 use Rattle.std.proofs.lemmas.Bool.Decides.{Decides-int_eq}
 use Rattle.std.proofs.lemmas.Int.{ints}
+use Rattle.arbitrary_base.specs.Operation.{bitwise_and, bitwise_not, bitwise_or, bitwise_xor, wrapped_difference, wrapped_sum}
 use Rattle.arbitrary_base.specs.Range.{InRange}
 use Rattle.arbitrary_base.specs.Residue.{Congruent}
-use Rattle.arbitrary_base.specs.Operation.{bitwise_and, bitwise_not, bitwise_or, bitwise_xor, wrapped_difference, wrapped_sum}
 use Rattle.arbitrary_base.proofs.modular.Congruence.{Congruent-refl, Congruent-trans}
-use Rattle.arbitrary_base.proofs.operations.Bitwise.{bitwise_and-commutes, bitwise_not-twice, bitwise_or-commutes}
-use Rattle.arbitrary_base.proofs.operations.BitsAndSums.{difference-of_and, sum-twice, xor-in_range}
-use Rattle.arbitrary_base.proofs.operations.Carry.{or-is_sum}
+use Rattle.arbitrary_base.proofs.operations.BitsAndSums.{xor-in_range}
+use Rattle.arbitrary_base.proofs.operations.Bitwise.{bitwise_and-commutes, bitwise_or-commutes}
 use Rattle.arbitrary_base.proofs.operations.Complement.{difference-of_or, not-is_difference}
 use Rattle.arbitrary_base.proofs.operations.Definition.{not-in_range}
-use Rattle.arbitrary_base.proofs.operations.KnownMask.{or-by_and, xor-by_and}
 use Rattle.arbitrary_base.proofs.operations.WrappedRing.{by-congruence, difference-congruent, difference-in_range, sum-congruent, sum-in_range, wrapped_sum-commutes}
+use Rattle.arbitrary_laws.proofs.bits.Identities.{bitwise_not-twice}
+use Rattle.arbitrary_laws.proofs.masks.NumberUnderMask.{or-by_and, xor-by_and}
+use Rattle.arbitrary_laws.proofs.sums.BitsBesideSums.{difference-of_and, sum-twice}
+use Rattle.arbitrary_laws.proofs.sums.Carry.{or-is_sum}
 
 not-congruent : (s : Bool) (B : ℕ) (x a : ℤ) → 1 ≤ B → Congruent B x a → Congruent B (bitwise_not s B x) (negsuc 0 -ℤ a)
 not-congruent s B x a h c =

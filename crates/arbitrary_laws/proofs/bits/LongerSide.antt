@@ -1,15 +1,16 @@
 -- Laws that tell one operation by several others, each from its longer side: the search meets such a law only where the longer side stands, and
 -- so tells no operation by others again and again. AllSets.antt has these; the sets of one theme have the laws from the shorter side.
-use Rattle.std.specs.Prelude.{◌≡◌, ℕ, ℤ, Bool, false, pos, ◌≤◌, ◌+◌}
-use Rattle.std.proofs.Common.{sym, ap, ◌∙◌, arith}
+use Rattle.std.specs.Prelude.{Bool, false, pos, ℕ, ℤ, ◌+◌, ◌≡◌, ◌≤◌}
+use Rattle.std.proofs.Common.{ap, arith, sym, ◌∙◌}
 use Rattle.arbitrary_base.specs.Operation.{bitwise_and, bitwise_not, bitwise_or, bitwise_xor, rotated_left, shifted_left, shifted_right, wrapped_difference, wrapped_sum}
-use Rattle.arbitrary_base.proofs.operations.Bitwise.{xor-is_and}
-use Rattle.arbitrary_base.proofs.operations.Mask.{and_not-is_xor, or-is_xor, xor-is_or}
-use Rattle.arbitrary_base.proofs.operations.Carry.{or-is_sum, xor-is_sum}
-use Rattle.arbitrary_base.proofs.operations.Complement.{difference-by_not, negated-is_sum, not-is_difference, not-is_negated, sum-by_not}
-use Rattle.arbitrary_base.proofs.operations.RotateAndReverse.{rotated_left-as_shifts}
+use Rattle.arbitrary_base.proofs.operations.Complement.{negated-is_sum, not-is_difference}
 use Rattle.arbitrary_base.proofs.operations.WrappedRing.{wrapped_difference-is_sum}
+
+use Rattle.arbitrary_laws.proofs.bits.Parts.{and_not-is_xor, or-is_xor, xor-is_or, xor-is_and}
+use Rattle.arbitrary_laws.proofs.rotations.RotationsAndReversals.{rotated_left-as_shifts}
 use Rattle.arbitrary_laws.proofs.shifts.ShiftPairs.{rotated_left-as_sum, rotated_left-as_xor}
+use Rattle.arbitrary_laws.proofs.sums.Carry.{or-is_sum, xor-is_sum}
+use Rattle.arbitrary_laws.proofs.sums.Complements.{difference-by_not, not-is_negated, sum-by_not}
 
 module _ (s : Bool) (B : ℕ) (x y : ℤ) where
   pub or-less_and : bitwise_and s B (bitwise_or s B x y) (bitwise_not s B (bitwise_and s B x y)) ≡ bitwise_xor s B x y

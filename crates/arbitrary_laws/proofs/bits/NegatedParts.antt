@@ -1,15 +1,15 @@
 -- Differences of two of `&`, `|` and `^` in the order that gives a negated one.
 -- For callers: `#![tactic(auto, using(arbitrary_laws::proofs::bits::NegatedParts::negated_parts))]`.
-use Rattle.std.specs.Prelude.{◌≡◌, ℕ, ℤ, Bool, pos, ◌≤◌, ◌-ℤ◌}
+use Rattle.std.specs.Prelude.{Bool, pos, ℕ, ℤ, ◌-ℤ◌, ◌≡◌, ◌≤◌}
 use Rattle.std.proofs.Common.{arith}
 use Rattle.std.proofs.lemmas.Bool.Decides.{Decides-int_eq}
 use Rattle.std.proofs.lemmas.Int.{ints}
-use Rattle.arbitrary_base.specs.Range.{InRange}
 use Rattle.arbitrary_base.specs.Operation.{bitwise_and, bitwise_not, bitwise_or, bitwise_xor, wrapped_difference}
+use Rattle.arbitrary_base.specs.Range.{InRange}
 use Rattle.arbitrary_base.proofs.modular.Congruence.{Congruent-refl}
 use Rattle.arbitrary_base.proofs.operations.Bitwise.{bitwise_and-commutes}
-use Rattle.arbitrary_base.proofs.operations.KnownMask.{and-by_complement, or-by_and, xor-by_and}
 use Rattle.arbitrary_base.proofs.operations.WrappedRing.{by-congruence, difference-congruent, difference-in_range}
+use Rattle.arbitrary_laws.proofs.masks.NumberUnderMask.{and-by_complement, or-by_and, xor-by_and}
 
 module _ (s : Bool) (B : ℕ) (x y : ℤ) (h : 1 ≤ B) (f : InRange s B x) (g : InRange s B y) where
   -- two differences are one number where the exact ones are

@@ -1,25 +1,25 @@
 -- A number with its bytes in the other order, beside `&`, `|`, `^`, `!`, the reversal of its bits, their count, and `==`.
 -- For callers: `#![tactic(auto, using(arbitrary_laws::proofs::bytes::SwappedBytes::swapped_words))]`.
-use Rattle.std.specs.Prelude.{◌≡◌, ◌⊎◌, ℕ, ℤ, zero, suc, Bool, true, not, ◌&&◌, ◌||◌, pos, List, [], ◌∷◌, ◌++◌, map, get_or, length, reverse, take, drop, ◌≤◌, ◌<◌, ◌+◌, ◌-◌, ◌*◌, ◌/◌, ◌^◌}
 use Rattle.std.specs.Bool.{beq}
 use Rattle.std.specs.Int.{bytes_low_first}
 use Rattle.std.specs.List.{count_by}
 use Rattle.std.specs.Ordering.{int_eq}
-use Rattle.std.proofs.Common.{refl, sym, ap, ap₂, ◌∙◌, arith, append_assoc, inl, inr, length-append, length-drop, length-take, mod-lt}
+use Rattle.std.specs.Prelude.{Bool, List, [], drop, get_or, length, map, not, pos, reverse, suc, take, true, zero, ℕ, ℤ, ◌&&◌, ◌*◌, ◌++◌, ◌+◌, ◌-◌, ◌/◌, ◌<◌, ◌^◌, ◌||◌, ◌∷◌, ◌≡◌, ◌≤◌, ◌⊎◌}
+use Rattle.std.proofs.Common.{ap, append_assoc, ap₂, arith, inl, inr, length-append, length-drop, length-take, mod-lt, refl, sym, ◌∙◌}
 use Rattle.std.proofs.lemmas.Bool.{cases_lt}
 use Rattle.std.proofs.lemmas.Bool.Decides.{Decides-int_eq, same_from_decides}
 use Rattle.std.proofs.lemmas.List.{append-nil, drop-append-le, drop_at, get_or-reverse, get_or_past, length-reverse, map-append, reverse-append, take-append-drop, take-append-le, take_all, take_at}
-use Rattle.arbitrary_base.specs.Range.{InRange}
-use Rattle.arbitrary_base.specs.Residue.{residue, wrap}
 use Rattle.arbitrary_base.specs.BitList.{bits, num, val}
 use Rattle.arbitrary_base.specs.Bytes.{bytes, bytes_number}
 use Rattle.arbitrary_base.specs.Operation.{bitwise_and, bitwise_not, bitwise_or, bitwise_xor, reversed}
+use Rattle.arbitrary_base.specs.Range.{InRange}
+use Rattle.arbitrary_base.specs.Residue.{residue, wrap}
 use Rattle.arbitrary_base.proofs.bit_lists.Pointwise.{append-pointwise, length-pointwise, pointwise}
 use Rattle.arbitrary_base.proofs.bit_lists.TwosComplement.{bits-val, num-bits_residue, val-num}
 use Rattle.arbitrary_base.proofs.bit_lists.UnsignedNumber.{length-bits, length-not, num-append, num-bits_small, same_num}
 use Rattle.arbitrary_base.proofs.bytes.NumberOfBytes.{bytes_number-bytes, length-bytes}
 use Rattle.arbitrary_base.proofs.operations.Definition.{and-is, bits-and, bits-not, bits-or, bits-reversed, bits-xor, by-bits, not-is, of-bits, or-is, reversed-is, xor-is}
-use Rattle.arbitrary_base.proofs.operations.RunBesideCount.{append-ones}
+use Rattle.arbitrary_calls.proofs.counts.RunBesideCount.{append-ones}
 
 -- n eights of items, the last eight first
 abbrev eights_turned : ℕ → List Bool → List Bool

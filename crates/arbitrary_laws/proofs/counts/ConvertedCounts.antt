@@ -1,17 +1,17 @@
 -- The counts of a number that is converted: to the type of its width with the other sign, and to one of Rust's own integers.
 -- For callers: `#![tactic(auto, using(arbitrary_laws::proofs::counts::ConvertedCounts::converted_counts))]`.
-use Rattle.std.specs.Prelude.{◌≡◌, ℕ, ℤ, zero, suc, ◌≤◌, ◌<◌, ◌/◌, ◌%◌, ◌^◌, count_ones, FitsSigned}
 use Rattle.std.specs.Int.{Width, cast_unsigned}
-use mir.Val.{bits as width}
-use Rattle.std.specs.List.{count_by}
 use Rattle.std.specs.Int.Count.{count_trailing_zeros, under}
-use Rattle.std.proofs.Common.{refl, sym, ap, ◌∙◌, arith, pow-suc}
+use Rattle.std.specs.List.{count_by}
+use Rattle.std.specs.Prelude.{FitsSigned, count_ones, suc, zero, ℕ, ℤ, ◌%◌, ◌/◌, ◌<◌, ◌^◌, ◌≡◌, ◌≤◌}
+use Rattle.std.proofs.Common.{ap, arith, pow-suc, refl, sym, ◌∙◌}
 use Rattle.std.proofs.lemmas.Bool.Decides.{Decides-int_eq}
 use Rattle.arbitrary_base.specs.BitList.{bits, num}
 use Rattle.arbitrary_base.proofs.bit_lists.Count.{popcount-num}
 use Rattle.arbitrary_base.proofs.bit_lists.TwosComplement.{bits-wrap, num-bits_residue}
-use Rattle.arbitrary_base.proofs.operations.RunsByDigits.{leading-counted}
 use Rattle.arbitrary_base.proofs.storages.Primitive.{cast_unsigned-residue}
+use Rattle.arbitrary_calls.proofs.counts.RunsByDigits.{leading-counted}
+use mir.Val.{bits as width}
 
 pattern : (w : Width) (x : ℤ) → FitsSigned w x → cast_unsigned w x ≡ num (bits (width w) x)
 pattern w x f = cast_unsigned-residue w x f ∙ sym (num-bits_residue (width w) x)

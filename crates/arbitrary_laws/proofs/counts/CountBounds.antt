@@ -1,9 +1,9 @@
 -- More laws of counts: of `^`, of shifted numbers and of one bit; and the runs of a number that is written out.
 -- For callers: `#![tactic(auto, using(arbitrary_laws::proofs::counts::CountBounds::count_bounds))]`.
-use Rattle.std.specs.Prelude.{◌≡◌, ℕ, ℤ, zero, suc, Bool, true, false, not, ◌&&◌, ◌||◌, List, [], ◌∷◌, ◌++◌, drop, length, replicate, take, pos, ◌≤◌, ◌<◌, ◌+◌, ◌-◌, ◌^◌}
 use Rattle.std.specs.Bool.{beq}
 use Rattle.std.specs.List.{count_by, prefix_len, suffix_len}
-use Rattle.std.proofs.Common.{refl, ap, ◌∙◌, arith, take-append-drop}
+use Rattle.std.specs.Prelude.{Bool, List, [], drop, false, length, not, pos, replicate, reverse, suc, take, true, zero, ℕ, ℤ, ◌&&◌, ◌++◌, ◌+◌, ◌-◌, ◌<◌, ◌^◌, ◌||◌, ◌∷◌, ◌≡◌, ◌≤◌, ◌⊎◌}
+use Rattle.std.proofs.Common.{ap, arith, inl, inr, refl, take-append-drop, ◌∙◌}
 use Rattle.std.proofs.lemmas.Grind.{low_zeros}
 use Rattle.arbitrary_base.specs.BitList.{bits, bits_and, bits_or, bits_xor}
 use Rattle.arbitrary_base.specs.Operation.{bitwise_and, bitwise_xor, reversed, shifted_left, shifted_right}
@@ -11,10 +11,21 @@ use Rattle.arbitrary_base.proofs.bit_lists.Count.{popcount-cons}
 use Rattle.arbitrary_base.proofs.bit_lists.UnsignedNumber.{digit, length-bits, same_length}
 use Rattle.arbitrary_base.proofs.operations.Definition.{bits-and, bits-left, bits-or, bits-right, bits-xor, bits-zero}
 use Rattle.arbitrary_base.proofs.operations.PopulationAndRuns.{front-of_reversed, popcount-of_and, popcount-of_and_or}
-use Rattle.arbitrary_base.proofs.operations.RotateAndReverse.{reversed-shifted_right}
-use Rattle.arbitrary_base.proofs.operations.RunsByDigits.{front-counted}
-use Rattle.arbitrary_base.proofs.operations.RunBesideCount.{append-ones, front-alike_one, front_ones-below_ones, front_zeros-beside_ones, tail-alike_one, tail_ones-below_ones, tail_zeros-beside_ones}
+use Rattle.arbitrary_calls.proofs.counts.RunBesideCount.{append-ones, front_ones-below_ones, front_zeros-beside_ones, tail_ones-below_ones, tail_zeros-beside_ones}
+use Rattle.arbitrary_calls.proofs.counts.RunsByDigits.{front-counted}
+use Rattle.arbitrary_laws.proofs.rotations.RotationsAndReversals.{reversed-shifted_right}
 use Rattle.arbitrary_laws.proofs.written.KnownCount.{popcount-of_numeral}
+
+one-end : (l : List Bool) → (prefix_len (beq false) l ≡ 0) ⊎ (prefix_len (beq true) l ≡ 0)
+one-end [] = inl refl
+one-end (true ∷ l) = inl refl
+one-end (false ∷ l) = inr refl
+
+pub front-alike_one : (B : ℕ) (x : ℤ) → (prefix_len (beq false) (bits B x) ≡ 0) ⊎ (prefix_len (beq true) (bits B x) ≡ 0)
+front-alike_one B x = one-end (bits B x)
+
+pub tail-alike_one : (B : ℕ) (x : ℤ) → (suffix_len (beq false) (bits B x) ≡ 0) ⊎ (suffix_len (beq true) (bits B x) ≡ 0)
+tail-alike_one B x = one-end (reverse (bits B x))
 
 -- ---- `^`
 

@@ -1,22 +1,22 @@
 -- How many zeros stand at the high end: of a number that is written out, below a power of two or from one on, and of the greater of two;
 -- and beside the counts of Rust's own integers.
 -- For callers: `#![tactic(auto, using(arbitrary_laws::proofs::counts::LeadingZeros::leading_zeros))]`.
-use Rattle.std.specs.Prelude.{◌≡◌, ◌⊎◌, ℕ, ℤ, zero, suc, false, pos, negsuc, ◌≤◌, ◌<◌, ◌+◌, ◌-◌, ◌*◌, ◌/◌, ◌^◌, ◌≤ℤ◌}
 use Rattle.std.specs.Bool.{beq}
-use Rattle.std.specs.List.{suffix_len}
 use Rattle.std.specs.Int.Count.{count_leading_zeros}
-use Rattle.std.proofs.Common.{refl, sym, ap, subst, ◌∙◌, arith, inl, inr, pow-suc}
+use Rattle.std.specs.List.{suffix_len}
+use Rattle.std.specs.Prelude.{false, negsuc, pos, suc, zero, ℕ, ℤ, ◌*◌, ◌+◌, ◌-◌, ◌/◌, ◌<◌, ◌^◌, ◌≡◌, ◌≤ℤ◌, ◌≤◌, ◌⊎◌}
+use Rattle.std.proofs.Common.{ap, arith, inl, inr, pow-suc, refl, subst, sym, ◌∙◌}
 use Rattle.std.proofs.Math.Nat.{mul-le-mul_left}
 use Rattle.std.proofs.Math.Pow.{pow_mono}
-use Rattle.std.proofs.lemmas.Grind.{bit_length}
 use Rattle.std.proofs.lemmas.Bool.{cases_lt}
+use Rattle.std.proofs.lemmas.Grind.{bit_length}
 use Rattle.std.proofs.lemmas.Int.{ints}
 use Rattle.std.proofs.lemmas.Nat.{pow-add, pow_pos}
-use Rattle.arbitrary_base.specs.Range.{InRange}
 use Rattle.arbitrary_base.specs.BitList.{bits}
+use Rattle.arbitrary_base.specs.Range.{InRange}
 use Rattle.arbitrary_base.proofs.bit_lists.Count.{tail-fits}
-use Rattle.arbitrary_base.proofs.operations.RunsByDigits.{leading-counted, tail-counted}
-use Rattle.arbitrary_base.proofs.operations.ZeroRunBounds.{leading-high, leading-low, leading-none}
+use Rattle.arbitrary_calls.proofs.counts.RunsByDigits.{leading-counted, tail-counted}
+use Rattle.arbitrary_calls.proofs.counts.ZeroRunBounds.{leading-high, leading-low, leading-none}
 
 pub tail-of_numeral : (B m : ℕ) → B ≤ 128 → suc m < 2 ^ B → suffix_len (beq false) (bits B (pos (suc m))) + bit_length 128 (suc m) ≡ B
 tail-of_numeral B m h g = tail-counted B (suc m) h g

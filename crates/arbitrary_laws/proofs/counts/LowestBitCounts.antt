@@ -1,29 +1,30 @@
 -- How many bits are one in a number's lowest bit and the zeros below it, and with its lowest zero filled; and that bit told by `^`.
 -- For callers: `#![tactic(auto, using(arbitrary_laws::proofs::counts::LowestBitCounts::lowest_bit_counts))]`.
-use Rattle.std.specs.Prelude.{◌≡◌, ◌≢◌, ◌↔◌, ◌⊎◌, ℕ, ℤ, Bool, true, false, not, List, [], ◌∷◌, length, replicate, pos, ◌≤◌, ◌<◌, ◌+◌, ◌^◌, ◌-ℤ◌, map}
 use Rattle.std.specs.Bool.{beq}
 use Rattle.std.specs.List.{count_by, prefix_len}
-use Rattle.std.proofs.Common.{refl, sym, ap, ap₂, ◌∙◌, arith, inl, inr}
+use Rattle.std.specs.Prelude.{Bool, List, [], false, length, map, not, pos, replicate, true, ℕ, ℤ, ◌+◌, ◌-ℤ◌, ◌<◌, ◌^◌, ◌↔◌, ◌∷◌, ◌≡◌, ◌≢◌, ◌≤◌, ◌⊎◌}
+use Rattle.std.proofs.Common.{ap, ap₂, arith, inl, inr, refl, sym, ◌∙◌}
 use Rattle.std.proofs.lemmas.Bool.{cases_lt}
 use Rattle.std.proofs.lemmas.Bool.Decides.{Decides-int_eq}
-use Rattle.arbitrary_base.specs.Range.{InRange}
-use Rattle.arbitrary_base.specs.BitList.{bits, num, bits_and, bits_or, bits_xor}
+use Rattle.arbitrary_base.specs.BitList.{bits, bits_and, bits_or, bits_xor, num}
 use Rattle.arbitrary_base.specs.Operation.{bitwise_and, bitwise_not, bitwise_or, bitwise_xor, shifted_left, wrapped_difference, wrapped_sum}
+use Rattle.arbitrary_base.specs.Range.{InRange}
 use Rattle.arbitrary_base.proofs.bit_lists.Count.{popcount-cons}
-use Rattle.arbitrary_base.proofs.bit_lists.Pointwise.{not-not, or-same}
+use Rattle.arbitrary_base.proofs.bit_lists.Pointwise.{cons, not-not}
 use Rattle.arbitrary_base.proofs.bit_lists.TwosComplement.{bits-congruent, bits-wrap}
 use Rattle.arbitrary_base.proofs.bit_lists.UnsignedNumber.{length-bits}
 use Rattle.arbitrary_base.proofs.modular.Congruence.{Congruent-refl, Congruent-sub}
 use Rattle.arbitrary_base.proofs.operations.BitsAndSums.{natural}
-use Rattle.arbitrary_base.proofs.operations.Bitwise.{bitwise_and-commutes, bitwise_and-zero}
-use Rattle.arbitrary_base.proofs.operations.Complement.{negated-not, not-of_before}
+use Rattle.arbitrary_base.proofs.operations.Bitwise.{bitwise_and-commutes}
 use Rattle.arbitrary_base.proofs.operations.Definition.{bits-and, bits-minus_one, bits-not, bits-or, bits-xor, difference-is}
-use Rattle.arbitrary_base.proofs.operations.Mask.{and_not-is_xor}
-use Rattle.arbitrary_base.proofs.operations.PopulationAndRuns.{no_ones-of_zero, zero-of_no_ones}
+use Rattle.arbitrary_calls.proofs.counts.EndCounts.{no_ones-of_zero, zero-of_no_ones}
+use Rattle.arbitrary_laws.proofs.bits.Identities.{bitwise_and-zero}
+use Rattle.arbitrary_laws.proofs.bits.Parts.{and_not-is_xor}
 use Rattle.arbitrary_laws.proofs.counts.CountBounds.{front-of_one_bit, popcount-of_one_bit}
-use Rattle.arbitrary_laws.proofs.places.LowestBit.{and-of_negated, before, bits-before, front-below, none-or-some}
 use Rattle.arbitrary_laws.proofs.numbers.QuotientAndCube.{negated-is_difference}
+use Rattle.arbitrary_laws.proofs.places.LowestBit.{and-of_negated, before, bits-before, front-below, none-or-some}
 use Rattle.arbitrary_laws.proofs.places.SingleBit.{left-of_one}
+use Rattle.arbitrary_laws.proofs.sums.Complements.{negated-not, not-of_before}
 
 -- ---- the list of the number before, also of 0
 
@@ -106,6 +107,10 @@ popcount-before_one_bit B k h =
     (e, omega (arith, fewer (bits B x) (omega arith), front-of_one_bit false B k h))
 
 -- ---- the number after
+
+or-same : (l : List Bool) → bits_or l l ≡ l
+or-same [] = refl
+or-same (a ∷ l) = cons (grind arith) (or-same l)
 
 filled : (l : List Bool) → count_by (λ b. b) l < length l → count_by (λ b. b) (bits_or l (map not (before (map not l)))) ≡ count_by (λ b. b) l + 1
 filled [] h = absurd (omega arith)

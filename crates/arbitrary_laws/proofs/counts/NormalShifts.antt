@@ -1,21 +1,21 @@
 -- A number shifted by its own count of zeros: an odd number is left, and shifted back it is the number again.
 -- For callers: `#![tactic(auto, using(arbitrary_laws::proofs::counts::NormalShifts::normal_shifts))]`.
-use Rattle.std.specs.Prelude.{◌≡◌, ◌≢◌, ℕ, ℤ, zero, suc, Bool, true, false, List, [], ◌∷◌, ◌++◌, drop, length, replicate, take, pos, unsigned_abs, ◌≤◌, ◌-◌, ◌%◌}
 use Rattle.std.specs.Bool.{beq}
 use Rattle.std.specs.List.{count_by, prefix_len}
-use Rattle.std.proofs.Common.{refl, sym, ap, ◌∙◌, arith, length-drop}
+use Rattle.std.specs.Prelude.{Bool, List, [], drop, false, length, pos, replicate, suc, take, true, unsigned_abs, zero, ℕ, ℤ, ◌%◌, ◌++◌, ◌-◌, ◌∷◌, ◌≡◌, ◌≢◌, ◌≤◌}
 use lib.Seq.{take-append_seam}
+use Rattle.std.proofs.Common.{ap, arith, length-drop, refl, sym, ◌∙◌}
 use Rattle.std.proofs.Math.Pow.{pow_mono}
-use Rattle.std.proofs.lemmas.Int.{ints}
 use Rattle.std.proofs.lemmas.Bool.Decides.{Decides-int_eq}
-use Rattle.arbitrary_base.specs.Range.{InRange}
+use Rattle.std.proofs.lemmas.Int.{ints}
 use Rattle.arbitrary_base.specs.BitList.{bits, fill}
 use Rattle.arbitrary_base.specs.Operation.{bitwise_and, shifted_left, shifted_right}
+use Rattle.arbitrary_base.specs.Range.{InRange}
 use Rattle.arbitrary_base.proofs.bit_lists.Count.{front-fits, popcount-cons}
 use Rattle.arbitrary_base.proofs.bit_lists.UnsignedNumber.{same_length}
 use Rattle.arbitrary_base.proofs.operations.Definition.{bits-right, by-bits, left-is, of-bits}
 use Rattle.arbitrary_base.proofs.operations.KnownMask.{and-by_one}
-use Rattle.arbitrary_base.proofs.operations.OneRunBounds.{trailing_zeros-lowest_clear}
+use Rattle.arbitrary_calls.proofs.counts.OneRunBounds.{trailing_zeros-lowest_clear}
 use Rattle.arbitrary_laws.proofs.places.LowestBit.{none-or-some}
 
 -- ---- what is left is odd

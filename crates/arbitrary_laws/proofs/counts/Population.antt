@@ -1,19 +1,43 @@
 -- How many bits are one where two numbers meet under `&`, `|`, `^` and `!`, and in a sum of numbers that share no bit.
 -- For callers: `#![tactic(auto, using(arbitrary_laws::proofs::counts::Population::population))]`.
-use Rattle.std.specs.Prelude.{◌≡◌, ◌↔◌, ℕ, ℤ, Bool, true, false, not, ◌&&◌, List, [], ◌∷◌, length, ◌≤◌, ◌+◌, map}
-use Rattle.std.specs.List.{count_by}
-use Rattle.std.proofs.Common.{refl, ap, ◌∙◌, arith}
+use Rattle.std.specs.Bool.{beq}
+use Rattle.std.specs.List.{count_by, prefix_len, suffix_len}
+use Rattle.std.specs.Prelude.{Bool, List, [], false, length, map, not, pos, true, ℕ, ℤ, ◌&&◌, ◌+◌, ◌-◌, ◌↔◌, ◌∷◌, ◌≡◌, ◌≤◌}
+use Rattle.std.proofs.Common.{ap, arith, refl, ◌∙◌}
 use Rattle.std.proofs.lemmas.Bool.Decides.{Decides-int_eq}
-use Rattle.arbitrary_base.specs.Range.{InRange}
 use Rattle.arbitrary_base.specs.BitList.{bits, bits_and}
-use Rattle.arbitrary_base.specs.Operation.{bitwise_and, bitwise_not, bitwise_or, bitwise_xor}
+use Rattle.arbitrary_base.specs.Operation.{bitwise_and, bitwise_not, bitwise_or, bitwise_xor, rotated_right}
+use Rattle.arbitrary_base.specs.Range.{InRange}
 use Rattle.arbitrary_base.proofs.bit_lists.Count.{popcount-cons}
+use Rattle.arbitrary_base.proofs.bit_lists.Rotation.{reverse-alike}
 use Rattle.arbitrary_base.proofs.bit_lists.UnsignedNumber.{digit, same_length}
 use Rattle.arbitrary_base.proofs.operations.BitsAndSums.{sum-of_disjoint, xor-in_range}
-use Rattle.arbitrary_base.proofs.operations.Bitwise.{bitwise_xor-equal, bitwise_xor-same}
-use Rattle.arbitrary_base.proofs.operations.Definition.{bits-and, bits-not}
-use Rattle.arbitrary_base.proofs.operations.PopulationAndRuns.{no_ones-of_zero, popcount-of_and, popcount-of_and_or, zero-of_no_ones}
+use Rattle.arbitrary_base.proofs.operations.Definition.{bits-and, bits-not, bits-not_zero}
+use Rattle.arbitrary_base.proofs.operations.PopulationAndRuns.{front-alike, popcount-of_and, popcount-of_and_or, popcount-rotr}
+use Rattle.arbitrary_calls.proofs.counts.EndCounts.{no_ones-of_zero, zero-of_no_ones}
+use Rattle.arbitrary_laws.proofs.bits.Identities.{bitwise_xor-equal, bitwise_xor-same}
 use Rattle.arbitrary_laws.proofs.counts.CountBounds.{popcount-of_one_bit, popcount-of_xor}
+use Rattle.arbitrary_laws.proofs.rotations.RotatedLists.{bits-rotr}
+
+-- ---- how many are one
+
+pub popcount-of_right : (s : Bool) (B : ℕ) (x : ℤ) (k : ℕ) → count_by (λ b. b) (bits B (rotated_right s B x k)) ≡ count_by (λ b. b) (bits B x)
+popcount-of_right s B x k = ap (count_by (λ b. b)) (bits-rotr s B x k) ∙ popcount-rotr (bits B x) k
+
+pub popcount-of_or : (s : Bool) (B : ℕ) (x y : ℤ)
+    → (count_by (λ b. b) (bits B x) ≤ count_by (λ b. b) (bits B (bitwise_or s B x y))) × (count_by (λ b. b) (bits B y) ≤ count_by (λ b. b) (bits B (bitwise_or s B x y)))
+popcount-of_or s B x y =
+    let e = popcount-of_and_or s B x y in
+    let f = popcount-of_and s B x y in
+    (omega arith, omega arith)
+
+-- ---- how many alike stand at an end
+
+pub front-of_not_zero : (s : Bool) (B : ℕ) → prefix_len (beq true) (bits B (bitwise_not s B (pos 0))) ≡ B
+front-of_not_zero s B = ap (prefix_len (beq true)) (bits-not_zero s B) ∙ front-alike true B
+
+pub tail-of_not_zero : (s : Bool) (B : ℕ) → suffix_len (beq true) (bits B (bitwise_not s B (pos 0))) ≡ B
+tail-of_not_zero s B = ap (suffix_len (beq true)) (bits-not_zero s B) ∙ ap (prefix_len (beq true)) (reverse-alike B true) ∙ front-alike true B
 
 -- ---- `|`
 

@@ -1,17 +1,17 @@
 -- The runs of zeros and ones at the ends of `&`, `|` and `^` of two numbers, and of a shifted one; and both ends of one number beside its ones.
 -- For callers: `#![tactic(auto, using(arbitrary_laws::proofs::counts::RunsOfTwo::runs_of_two))]`.
-use Rattle.std.specs.Prelude.{◌≡◌, ◌⊎◌, ℕ, ℤ, zero, suc, Bool, true, false, not, ◌&&◌, ◌||◌, List, [], ◌∷◌, ◌++◌, drop, length, replicate, reverse, take, pos, negsuc, ◌≤◌, ◌<◌, ◌+◌, ◌-◌, ◌*◌, ◌/◌, ◌^◌, ◌≤ℤ◌, ◌<ℤ◌, ◌*ℤ◌}
 use Rattle.std.specs.Bool.{beq}
 use Rattle.std.specs.Int.{int_shr}
 use Rattle.std.specs.List.{count_by, prefix_len, suffix_len}
-use Rattle.std.proofs.Common.{min, refl, sym, ap, ap₂, subst, ◌∙◌, arith, inl, inr, pow-suc}
+use Rattle.std.specs.Prelude.{Bool, List, [], drop, false, length, negsuc, not, pos, replicate, reverse, suc, take, true, zero, ℕ, ℤ, ◌&&◌, ◌*ℤ◌, ◌*◌, ◌++◌, ◌+◌, ◌-◌, ◌/◌, ◌<ℤ◌, ◌<◌, ◌^◌, ◌||◌, ◌∷◌, ◌≡◌, ◌≤ℤ◌, ◌≤◌, ◌⊎◌}
+use Rattle.std.proofs.Common.{ap, ap₂, arith, inl, inr, min, pow-suc, refl, subst, sym, ◌∙◌}
 use Rattle.std.proofs.Math.Nat.{div-eq_of_lt-le, mul-le-mul_left, mul-le-mul_right}
 use Rattle.std.proofs.lemmas.Int.{ints}
 use Rattle.std.proofs.lemmas.List.{length-reverse}
 use Rattle.std.proofs.lemmas.Nat.{pow_pos}
-use Rattle.arbitrary_base.specs.Range.{InRange}
 use Rattle.arbitrary_base.specs.BitList.{bits, bits_and, bits_or, bits_xor, fill, num, shl, val}
 use Rattle.arbitrary_base.specs.Operation.{bitwise_and, bitwise_not, bitwise_or, bitwise_xor, reversed, shifted_left, shifted_right}
+use Rattle.arbitrary_base.specs.Range.{InRange}
 use Rattle.arbitrary_base.proofs.bit_lists.Count.{popcount-cons}
 use Rattle.arbitrary_base.proofs.bit_lists.Movement.{reverse-cons}
 use Rattle.arbitrary_base.proofs.bit_lists.Pointwise.{reverse-pointwise}
@@ -19,12 +19,13 @@ use Rattle.arbitrary_base.proofs.bit_lists.UnsignedNumber.{bits-num_of, digit, l
 use Rattle.arbitrary_base.proofs.modular.Congruence.{pow_split}
 use Rattle.arbitrary_base.proofs.operations.Bitwise.{not-and_parts, not-or_parts}
 use Rattle.arbitrary_base.proofs.operations.Definition.{bits-and, bits-left, bits-or, bits-reversed, bits-right, bits-xor, left-is}
-use Rattle.arbitrary_base.proofs.operations.PopulationAndRuns.{front-of_reversed, front_zeros-of_not, popcount-of_reversed, tail_zeros-of_not}
-use Rattle.arbitrary_base.proofs.operations.RotateAndReverse.{reversed-shifted_left, reversed-shifted_right}
-use Rattle.arbitrary_base.proofs.operations.RunBesideCount.{front_zeros-beside_ones}
+use Rattle.arbitrary_base.proofs.operations.RotateAndReverse.{reversed-shifted_left}
 use Rattle.arbitrary_base.proofs.operations.Shift.{shifted_right-is_shr}
 use Rattle.arbitrary_base.proofs.operations.ShiftAsProduct.{shl-stays}
-use Rattle.arbitrary_base.proofs.operations.ZeroRunBounds.{leading-high, leading-low, leading-none}
+use Rattle.arbitrary_base.proofs.operations.PopulationAndRuns.{front-of_reversed, front_zeros-of_not, popcount-of_reversed, tail_zeros-of_not}
+use Rattle.arbitrary_calls.proofs.counts.RunBesideCount.{front_zeros-beside_ones}
+use Rattle.arbitrary_calls.proofs.counts.ZeroRunBounds.{leading-high, leading-low, leading-none}
+use Rattle.arbitrary_laws.proofs.rotations.RotationsAndReversals.{reversed-shifted_right}
 
 -- ---- two numbers
 

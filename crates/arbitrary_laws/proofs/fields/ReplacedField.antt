@@ -1,18 +1,19 @@
 -- A field that is written where a mask has cleared one, as `(word & !0xF0) | (field << 4)`. The other bits stay.
-use Rattle.std.specs.Prelude.{◌≡◌, ℕ, ℤ, suc, false, pos, unsigned_abs, ◌≤◌, ◌<◌, ◌+◌, ◌-◌, ◌*◌, ◌/◌, ◌%◌, ◌^◌, ◌≤ℤ◌, ◌+ℤ◌}
 use Rattle.std.specs.Int.Bits.{bit_and, bit_or}
-use Rattle.std.proofs.Common.{sym, ap, ap₂, ◌∙◌, arith, div-add-mod', lt_of_le_of_lt, mod-eq_of_lt, pow-add}
-use Rattle.std.proofs.lemmas.Int.{ints}
+use Rattle.std.specs.Prelude.{false, pos, suc, unsigned_abs, ℕ, ℤ, ◌%◌, ◌*◌, ◌+ℤ◌, ◌+◌, ◌-◌, ◌/◌, ◌<◌, ◌^◌, ◌≡◌, ◌≤ℤ◌, ◌≤◌}
+use Rattle.std.proofs.Common.{ap, ap₂, arith, div-add-mod', lt_of_le_of_lt, mod-eq_of_lt, pow-add, sym, ◌∙◌}
 use Rattle.std.proofs.lemmas.Grind.{bit_length, low_zeros}
-use Rattle.std.proofs.lemmas.Nat.{and_assoc, and_block, and_comm, and_le_r, and_mod, and-not, or_disjoint, pow_pos}
+use Rattle.std.proofs.lemmas.Int.{ints}
+use Rattle.std.proofs.lemmas.Nat.{and-not, and_assoc, and_block, and_comm, and_le_r, and_mod, or_disjoint, pow_pos}
 use Rattle.std.proofs.lemmas.Nat.Bits.{and_high}
-use Rattle.arbitrary_base.specs.Range.{InRange, hi}
 use Rattle.arbitrary_base.specs.Operation.{bitwise_and, bitwise_not, bitwise_or}
-use Rattle.arbitrary_base.proofs.operations.Bitwise.{and-distributes_or, bitwise_and-associates, bitwise_and-commutes, bitwise_and-complement, bitwise_and-same, bitwise_and-zero, bitwise_or-commutes, bitwise_or-zero}
+use Rattle.arbitrary_base.specs.Range.{InRange, hi}
 use Rattle.arbitrary_base.proofs.operations.BitsAndSums.{and-in_range}
+use Rattle.arbitrary_base.proofs.operations.Bitwise.{bitwise_and-commutes, bitwise_or-commutes}
 use Rattle.arbitrary_base.proofs.operations.Definition.{not-in_range}
-use Rattle.arbitrary_base.proofs.operations.KnownMask.{and-digits, and-of_cleared, or-by_and}
+use Rattle.arbitrary_laws.proofs.bits.Identities.{and-distributes_or, bitwise_and-associates, bitwise_and-complement, bitwise_and-same, bitwise_and-zero, bitwise_or-zero}
 use Rattle.arbitrary_laws.proofs.fields.SideBySide.{beside}
+use Rattle.arbitrary_laws.proofs.masks.NumberUnderMask.{and-digits, and-of_cleared, or-by_and}
 
 -- ---- in a primitive, where the mask is a number that is written out
 

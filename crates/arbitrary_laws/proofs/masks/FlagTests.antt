@@ -1,23 +1,25 @@
 -- A number under a written mask with several ones, compared with a written number: each one of the mask is compared alone. So flags that are
 -- tested at once are tested one by one, and each by its place.
 -- For callers: `#![tactic(auto, using(arbitrary_laws::proofs::masks::FlagTests::flag_tests))]`.
-use Rattle.std.specs.Prelude.{◌≡◌, ℕ, ℤ, suc, Bool, true, false, not, ◌&&◌, pos, unsigned_abs, ◌≤◌, ◌<◌, ◌+◌, ◌*◌, ◌/◌, ◌%◌, ◌^◌, ◌≤ℤ◌, ◌+ℤ◌, ◌*ℤ◌}
-use Rattle.std.specs.Int.Bits.{bit_and, and_self}
+use Rattle.std.specs.Int.Bits.{and_self, bit_and}
 use Rattle.std.specs.Ordering.{int_eq}
-use Rattle.std.proofs.Common.{refl, sym, ap, ap₂, ◌∙◌, arith, div-add-mod', mod-lt}
+use Rattle.std.specs.Prelude.{Bool, false, not, pos, suc, true, unsigned_abs, ℕ, ℤ, ◌%◌, ◌&&◌, ◌*ℤ◌, ◌*◌, ◌+ℤ◌, ◌+◌, ◌/◌, ◌<◌, ◌^◌, ◌≡◌, ◌≤ℤ◌, ◌≤◌}
+use Rattle.std.proofs.Common.{ap, ap₂, arith, div-add-mod', mod-lt, refl, sym, ◌∙◌}
 use Rattle.std.proofs.Math.Nat.{div-eq_of_lt-le}
 use Rattle.std.proofs.lemmas.Bool.Decides.{Decides-int_eq, same_from_decides}
+use Rattle.std.proofs.lemmas.Grind.{low_zeros}
 use Rattle.std.proofs.lemmas.Int.{ints}
 use Rattle.std.proofs.lemmas.Nat.{and_block, and_comm, and_le_r, pow_pos}
-use Rattle.std.proofs.lemmas.Grind.{low_zeros}
-use Rattle.arbitrary_base.specs.Range.{InRange, hi}
 use Rattle.arbitrary_base.specs.Operation.{bitwise_and, bitwise_or, shifted_left}
+use Rattle.arbitrary_base.specs.Range.{InRange, hi}
 use Rattle.arbitrary_base.proofs.bit_lists.StdBitwise.{and-plain}
-use Rattle.arbitrary_base.proofs.operations.Bitwise.{and-distributes_or, bitwise_and-associates, bitwise_and-commutes, bitwise_and-zero}
 use Rattle.arbitrary_base.proofs.operations.BitsAndSums.{and-in_range}
+use Rattle.arbitrary_base.proofs.operations.Bitwise.{bitwise_and-commutes}
 use Rattle.arbitrary_base.proofs.operations.Definition.{and-is, left-is, zero-in_range}
-use Rattle.arbitrary_base.proofs.operations.KnownMask.{and-within, or-by_and}
+use Rattle.arbitrary_base.proofs.operations.KnownMask.{and-within}
 use Rattle.arbitrary_base.proofs.operations.ShiftAsProduct.{shl-stays}
+use Rattle.arbitrary_laws.proofs.bits.Identities.{and-distributes_or, bitwise_and-associates, bitwise_and-zero}
+use Rattle.arbitrary_laws.proofs.masks.NumberUnderMask.{or-by_and}
 use Rattle.arbitrary_laws.proofs.places.BitPlaces.{bit, bit-and, bit-not, bit-or, bit-written, bit-xor, clear-by_mask, clear-by_shift, set-by_mask, set-by_shift}
 
 and-none : (m : ℕ) → bit_and m 0 ≡ 0

@@ -1,16 +1,17 @@
 -- Two tests by `==` that tell the same of two numbers: whether one has no bit outside the other, whether they share none, whether they are equal,
 -- whether neither has a bit, or both have each.
-use Rattle.std.specs.Prelude.{◌≡◌, ℕ, ℤ, Bool, true, false, pos, negsuc, ◌&&◌, ◌≤◌, ◌^◌, ◌-ℤ◌, ◌≤ℤ◌}
 use Rattle.std.specs.Ordering.{int_eq}
-use Rattle.std.proofs.Common.{refl, sym, ap, ap₂, subst, ◌∙◌}
+use Rattle.std.specs.Prelude.{Bool, false, negsuc, pos, true, ℕ, ℤ, ◌&&◌, ◌-ℤ◌, ◌^◌, ◌≡◌, ◌≤ℤ◌, ◌≤◌}
+use Rattle.std.proofs.Common.{ap, ap₂, refl, subst, sym, ◌∙◌}
 use Rattle.std.proofs.lemmas.Bool.Decides.{Decides-int_eq, same_from_decides}
-use Rattle.arbitrary_base.specs.Range.{InRange}
 use Rattle.arbitrary_base.specs.Operation.{bitwise_and, bitwise_not, bitwise_or, bitwise_xor}
-use Rattle.arbitrary_base.proofs.operations.Bitwise.{and-absorbs, bitwise_and-commutes, bitwise_and-highest, bitwise_and-minus_one, bitwise_and-zero, bitwise_or-commutes, bitwise_or-highest, bitwise_or-minus_one, bitwise_or-zero, bitwise_xor-commutes, bitwise_xor-equal, bitwise_xor-same, bitwise_xor-undoes, bitwise_xor-zero, or-absorbs}
+use Rattle.arbitrary_base.specs.Range.{InRange}
 use Rattle.arbitrary_base.proofs.operations.BitsAndSums.{and-in_range, xor-in_range}
+use Rattle.arbitrary_base.proofs.operations.Bitwise.{bitwise_and-commutes, bitwise_or-commutes, bitwise_xor-commutes}
 use Rattle.arbitrary_base.proofs.operations.Definition.{and-is, of-bits, zero-in_range}
 use Rattle.arbitrary_base.proofs.operations.OperatorOrder.{and-at_most}
-use Rattle.arbitrary_base.proofs.operations.Mask.{and_not-is_xor, or-is_xor, or-of_parts}
+use Rattle.arbitrary_laws.proofs.bits.Identities.{and-absorbs, bitwise_and-highest, bitwise_and-minus_one, bitwise_and-zero, bitwise_or-highest, bitwise_or-minus_one, bitwise_or-zero, bitwise_xor-equal, bitwise_xor-same, bitwise_xor-undoes, bitwise_xor-zero, or-absorbs}
+use Rattle.arbitrary_laws.proofs.bits.Parts.{and_not-is_xor, or-is_xor, or-of_parts}
 
 alike : (x y z w : ℤ) → (x ≡ y → z ≡ w) → (z ≡ w → x ≡ y) → int_eq x y ≡ int_eq z w
 alike x y z w f g = same_from_decides _ _ (λ t. f ((Decides-int_eq x y).0 t), λ e. (Decides-int_eq x y).1 (g e)) (Decides-int_eq z w)

@@ -1,22 +1,23 @@
 -- The low bits of a sum, a difference or a product that wraps, under a written mask, as `(x + y) & 15`: masks of the operands that keep these
 -- bits change nothing, and what is shifted past the mask is gone, also under `|` and `^`.
 -- For callers: `#![tactic(auto, using(arbitrary_laws::proofs::masks::MaskedResults::masked_results))]`.
-use Rattle.std.specs.Prelude.{◌≡◌, ◌≤◌, ◌+◌, ◌-◌, ◌%◌, ◌^◌, ◌≤ℤ◌, ◌+ℤ◌, ◌-ℤ◌, ◌*ℤ◌, ℕ, ℤ, Bool, false, pos}
-use Rattle.std.proofs.Common.{sym, ap, subst, ◌∙◌, arith, mod-eq_of_lt}
+use Rattle.std.specs.Prelude.{Bool, false, pos, ℕ, ℤ, ◌%◌, ◌*ℤ◌, ◌+ℤ◌, ◌+◌, ◌-ℤ◌, ◌-◌, ◌^◌, ◌≡◌, ◌≤ℤ◌, ◌≤◌}
+use Rattle.std.proofs.Common.{ap, arith, mod-eq_of_lt, subst, sym, ◌∙◌}
 use Rattle.std.proofs.lemmas.Bool.Decides.{Decides-int_eq}
 use Rattle.std.proofs.lemmas.Grind.{low_zeros}
 use Rattle.std.proofs.lemmas.Int.{ints}
+use Rattle.arbitrary_base.specs.Operation.{bitwise_and, bitwise_or, bitwise_xor, shifted_left, wrapped_difference, wrapped_product, wrapped_sum}
 use Rattle.arbitrary_base.specs.Range.{InRange, hi}
 use Rattle.arbitrary_base.specs.Residue.{Congruent}
-use Rattle.arbitrary_base.specs.Operation.{bitwise_and, bitwise_or, bitwise_xor, shifted_left, wrapped_difference, wrapped_product, wrapped_sum}
 use Rattle.arbitrary_base.proofs.integers.Ring.{mul_assoc_z}
 use Rattle.arbitrary_base.proofs.modular.Congruence.{Congruent-add, Congruent-mul, Congruent-narrower, Congruent-refl, Congruent-sub, Congruent-sym, Congruent-trans, pow_split}
 use Rattle.arbitrary_base.proofs.modular.Residue.{congruent-same}
-use Rattle.arbitrary_base.proofs.operations.Bitwise.{and-distributes_or, and-distributes_xor, bitwise_and-commutes, bitwise_and-zero, bitwise_or-commutes, bitwise_or-zero, bitwise_xor-commutes, bitwise_xor-zero}
 use Rattle.arbitrary_base.proofs.operations.BitsAndSums.{and-in_range}
+use Rattle.arbitrary_base.proofs.operations.Bitwise.{bitwise_and-commutes, bitwise_or-commutes, bitwise_xor-commutes}
 use Rattle.arbitrary_base.proofs.operations.KnownMask.{and-congruent, and-within}
 use Rattle.arbitrary_base.proofs.operations.Shift.{shifted_left-is_product}
 use Rattle.arbitrary_base.proofs.operations.WrappedRing.{difference-congruent, product-congruent, sum-congruent, wrapped_sum-commutes}
+use Rattle.arbitrary_laws.proofs.bits.Identities.{and-distributes_or, and-distributes_xor, bitwise_and-zero, bitwise_or-zero, bitwise_xor-zero}
 
 remainder : (n p : ℕ) → n + 1 ≡ p → n % p + 1 ≡ p
 remainder n p e = let r : n % p ≡ n = mod-eq_of_lt (omega arith) in omega arith

@@ -3,31 +3,35 @@
 -- Each form is told by the wrapped one, `low s B k` below, so that a law of the mask is stated once.
 -- For callers: `#![tactic(auto, using(arbitrary_laws::proofs::masks::VariableMasks::variable_masks))]`, and `variable_parts` beside exact sums,
 -- differences and the order.
-use Rattle.std.specs.Prelude.{◌≡◌, ◌≤◌, ◌<◌, ◌+◌, ◌-◌, ◌/◌, ◌^◌, ◌≤ℤ◌, ◌<ℤ◌, ◌+ℤ◌, ◌-ℤ◌, ◌*ℤ◌, neg_ℤ, ℕ, ℤ, Bool, true, false, pos, negsuc}
 use Rattle.std.specs.Int.{int_shr}
-use Rattle.std.proofs.Common.{refl, sym, ap, ap₂, subst, ◌∙◌, arith}
+use Rattle.std.specs.Prelude.{Bool, false, neg_ℤ, negsuc, pos, true, ℕ, ℤ, ◌*ℤ◌, ◌+ℤ◌, ◌+◌, ◌-ℤ◌, ◌-◌, ◌/◌, ◌<ℤ◌, ◌<◌, ◌^◌, ◌≡◌, ◌≤ℤ◌, ◌≤◌}
+use Rattle.std.proofs.Common.{ap, ap₂, arith, refl, subst, sym, ◌∙◌}
 use Rattle.std.proofs.Math.Nat.{div-eq_of_lt-le, pow-le-pow_right}
 use Rattle.std.proofs.lemmas.Bool.Decides.{Decides-int_eq}
 use Rattle.std.proofs.lemmas.Int.{ints}
 use Rattle.std.proofs.lemmas.Nat.{pow_below, pow_pos}
+use Rattle.arbitrary_base.specs.Operation.{bitwise_and, bitwise_not, bitwise_or, bitwise_xor, shifted_left, shifted_right, wrapped_difference, wrapped_sum}
 use Rattle.arbitrary_base.specs.Range.{InRange, hi}
 use Rattle.arbitrary_base.specs.Residue.{Congruent, wrap}
-use Rattle.arbitrary_base.specs.Operation.{bitwise_and, bitwise_not, bitwise_or, bitwise_xor, shifted_left, shifted_right, wrapped_difference, wrapped_sum}
+use Rattle.arbitrary_base.proofs.bit_lists.StdBitwise.{not-signed, not-unsigned}
 use Rattle.arbitrary_base.proofs.modular.Congruence.{Congruent-mul_left, Congruent-refl, Congruent-trans, pow_split}
 use Rattle.arbitrary_base.proofs.modular.Residue.{wrap-of_in_range}
-use Rattle.arbitrary_base.proofs.bit_lists.StdBitwise.{not-signed, not-unsigned}
 use Rattle.arbitrary_base.proofs.operations.BitsAndSums.{and-in_range}
-use Rattle.arbitrary_base.proofs.operations.Bitwise.{bitwise_and-associates, bitwise_and-complement, bitwise_and-not_zero, bitwise_and-same, bitwise_and-zero, bitwise_not-zero, bitwise_not-zero_signed, bitwise_or-commutes, bitwise_xor-commutes, bitwise_xor-undoes}
-use Rattle.arbitrary_base.proofs.operations.Definition.{difference-is, left-is, not-in_range, not-is, right-is, sum-is}
+use Rattle.arbitrary_base.proofs.operations.Bitwise.{bitwise_or-commutes, bitwise_xor-commutes}
 use Rattle.arbitrary_base.proofs.operations.Complement.{not-is_difference}
-use Rattle.arbitrary_base.proofs.operations.KnownMask.{and-by_complement, and-within}
-use Rattle.arbitrary_base.proofs.operations.Mask.{and_not-is_xor, or-of_parts}
-use Rattle.arbitrary_base.proofs.operations.Order.{le-tested, lt-tested}
-use Rattle.arbitrary_base.proofs.operations.Shift.{right_left-mask, right_left-mask_signed, right_left-numeral, right_left-numeral_signed, shifted_left-and, shifted_left-difference, shifted_left-is_product, shifted_left-past, shifted_left-twice, shifted_right-is_shr}
+use Rattle.arbitrary_base.proofs.operations.Definition.{difference-is, left-is, not-in_range, not-is, right-is, sum-is}
+use Rattle.arbitrary_base.proofs.operations.KnownMask.{and-within}
+use Rattle.arbitrary_base.proofs.operations.Shift.{shifted_left-and, shifted_left-difference, shifted_left-is_product, shifted_right-is_shr}
 use Rattle.arbitrary_base.proofs.operations.ShiftAsProduct.{shl-congruent, shr-range}
-use Rattle.arbitrary_base.proofs.operations.WrappedRing.{by-congruence, difference-congruent, difference-in_range, product-in_range, wrapped_difference-zero}
+use Rattle.arbitrary_base.proofs.operations.WrappedRing.{by-congruence, difference-congruent, difference-in_range, product-in_range}
+use Rattle.arbitrary_laws.proofs.bits.Identities.{bitwise_and-associates, bitwise_and-complement, bitwise_and-not_zero, bitwise_and-same, bitwise_and-zero, bitwise_not-zero, bitwise_not-zero_signed, bitwise_xor-undoes}
+use Rattle.arbitrary_laws.proofs.bits.Parts.{and_not-is_xor, or-of_parts}
+use Rattle.arbitrary_laws.proofs.masks.NumberUnderMask.{and-by_complement}
+use Rattle.arbitrary_laws.proofs.orders.Order.{le-tested, lt-tested}
 use Rattle.arbitrary_laws.proofs.places.SingleBit.{left-of_one}
+use Rattle.arbitrary_laws.proofs.shifts.ShiftAndBack.{right_left-mask, right_left-mask_signed, right_left-numeral, right_left-numeral_signed, shifted_left-past, shifted_left-twice}
 use Rattle.arbitrary_laws.proofs.shifts.ShiftPairs.{left_right-wraps}
+use Rattle.arbitrary_laws.proofs.sums.Ring.{wrapped_difference-zero}
 
 -- ---- the mask, as a number
 

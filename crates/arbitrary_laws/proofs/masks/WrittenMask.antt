@@ -1,15 +1,15 @@
 -- More laws of numbers under a mask that is written out: one that is not below 0 needs no range of its own, and a negative one clears.
-use Rattle.std.specs.Prelude.{◌≡◌, ℕ, ℤ, Bool, true, false, pos, negsuc, unsigned_abs, ◌-◌, ◌%◌, ◌^◌, ◌≤◌, ◌<◌, ◌≤ℤ◌, ◌+ℤ◌, ◌-ℤ◌}
 use Rattle.std.specs.Int.Bits.{bit_and}
+use Rattle.std.specs.Prelude.{Bool, false, negsuc, pos, true, unsigned_abs, ℕ, ℤ, ◌%◌, ◌+ℤ◌, ◌-ℤ◌, ◌-◌, ◌<◌, ◌^◌, ◌≡◌, ◌≤ℤ◌, ◌≤◌}
+use Rattle.std.proofs.Common.{ap, arith, lt_of_le_of_lt, mod-eq_of_lt, refl, sym, ◌∙◌}
 use Rattle.std.proofs.lemmas.Grind.{bit_length}
-use Rattle.std.proofs.Common.{refl, sym, ap, ◌∙◌, arith, lt_of_le_of_lt, mod-eq_of_lt}
 use Rattle.std.proofs.lemmas.Int.{ints}
 use Rattle.std.proofs.lemmas.Nat.{and_comm, and_le_r, and_mod, pow_pos}
-use Rattle.arbitrary_base.specs.Range.{InRange, hi}
 use Rattle.arbitrary_base.specs.Operation.{bitwise_and, bitwise_not, bitwise_or, bitwise_xor}
+use Rattle.arbitrary_base.specs.Range.{InRange, hi}
 use Rattle.arbitrary_base.proofs.bit_lists.StdBitwise.{and-plain, not-signed}
 use Rattle.arbitrary_base.proofs.operations.Definition.{and-is, not-is}
-use Rattle.arbitrary_base.proofs.operations.KnownMask.{and-of_cleared, or-by_and, xor-by_and}
+use Rattle.arbitrary_laws.proofs.masks.NumberUnderMask.{and-of_cleared, or-by_and, xor-by_and}
 
 pub and-of_cleared_by_negative : (B n : ℕ) (x : ℤ) → 1 ≤ B → pos n ≤ℤ hi true B → bitwise_and true B (bitwise_and true B x (negsuc n)) (pos n) ≡ pos 0
 and-of_cleared_by_negative B n x h g =

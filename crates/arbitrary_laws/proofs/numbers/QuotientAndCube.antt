@@ -1,14 +1,16 @@
 -- A quotient times its divisor, a third power, and a negated number as a difference.
-use Rattle.std.specs.Prelude.{◌≡◌, ℕ, ℤ, Bool, pos, negsuc, neg_ℤ, ◌+◌, ◌*◌, ◌/◌, ◌<◌, ◌≤◌, ◌≤ℤ◌, ◌-ℤ◌, ◌*ℤ◌}
 use Rattle.std.specs.Int.{int_pow}
-use Rattle.std.proofs.Common.{refl, sym, ap, ◌∙◌, arith, div-add-mod', mod-lt, mul-le-mul}
+use Rattle.std.specs.Prelude.{Bool, neg_ℤ, negsuc, pos, ℕ, ℤ, ◌*ℤ◌, ◌*◌, ◌+◌, ◌-ℤ◌, ◌-◌, ◌/◌, ◌<◌, ◌≡◌, ◌≤ℤ◌, ◌≤◌}
+use Rattle.std.proofs.Common.{ap, arith, div-add-mod', mod-lt, mul-le-mul, refl, sym, ◌∙◌}
 use Rattle.std.proofs.Math.IntN.{*ℤ_comm}
 use Rattle.std.proofs.lemmas.Int.{ints}
-use Rattle.arbitrary_base.specs.Residue.{wrap}
 use Rattle.arbitrary_base.specs.Operation.{wrapped_difference}
-use Rattle.arbitrary_base.proofs.integers.Powers.{power-suc}
+use Rattle.arbitrary_base.specs.Residue.{wrap}
+use Rattle.arbitrary_base.proofs.integers.Powers.{power-one, power-suc}
 use Rattle.arbitrary_base.proofs.operations.Definition.{difference-is}
-use Rattle.arbitrary_base.proofs.operations.PowerAndQuotient.{power-twice}
+
+pub power-twice : (x : ℤ) → int_pow x 2 ≡ x *ℤ x
+power-twice x = power-suc x 1 ∙ ap (λ (z : ℤ). x *ℤ z) (power-one x)
 
 pub quotient-times : (a b : ℕ) → 0 < b → (a / b ≡ a / b) × (a / b * b ≤ a) × (a < a / b * b + b)
 quotient-times a b g =

@@ -1,12 +1,17 @@
 -- What becomes of a quotient where the dividend is moved on by the divisor, negated, a product or a quotient, and where it is 0; and two quotients
 -- in order whose divisors vary. `QuotientOrder` has a quotient beside its dividend: beside its laws a checked product and a negated dividend stay open.
 -- For callers: `#![tactic(auto, using(arbitrary_laws::proofs::numbers::QuotientParts::quotient_parts))]`.
-use Rattle.std.specs.Prelude.{◌≡◌, ◌≢◌, ℕ, ℤ, zero, suc, pos, negsuc, neg_ℤ, int_div, ◌+◌, ◌*◌, ◌/◌, ◌≤◌, ◌<◌, ◌≤ℤ◌, ◌<ℤ◌}
-use Rattle.std.proofs.Common.{refl, sym, ap, arith, ◌∙◌, div-add-mod', le_trans}
+use Rattle.std.specs.Prelude.{int_div, neg_ℤ, negsuc, pos, suc, zero, ℕ, ℤ, ◌*◌, ◌+◌, ◌/◌, ◌<ℤ◌, ◌<◌, ◌≡◌, ◌≢◌, ◌≤ℤ◌, ◌≤◌}
+use Rattle.std.proofs.Common.{ap, arith, div-add-mod', le_trans, refl, sym, ◌∙◌}
 use Rattle.std.proofs.Math.Nat.{div-eq_of_lt, le-div_iff_mul-le}
 use Rattle.std.proofs.lemmas.Int.{ints}
-use Rattle.arbitrary_base.proofs.operations.Order.{le-tested, lt-tested}
+use Rattle.arbitrary_int.proofs.StepLemmas.{nonzero, unless_zero-other, unless_zero-zero}
 use Rattle.arbitrary_laws.proofs.numbers.QuotientOrder.{quotient-by_more, quotient-of_product, quotient-of_quotient, quotient-orders}
+use Rattle.arbitrary_laws.proofs.orders.Order.{le-tested, lt-tested}
+
+-- ---- amounts
+
+pub ruleset divisors = (nonzero, unless_zero-zero, unless_zero-other)
 
 -- the first part says nothing: it shows the search the quotient
 pub quotient-none : (a b : ℕ) → 0 < b → (a / b ≡ a / b) × (a < b → a / b ≡ 0) × (b ≤ a → 1 ≤ a / b)

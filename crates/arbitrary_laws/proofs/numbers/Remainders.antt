@@ -1,11 +1,11 @@
 -- A number less its quotient times the divisor, `x - (x / y) * y`: the remainder, and where it lies. With a sign the divisor is above 0.
 -- For callers: `#![tactic(auto, using(arbitrary_laws::proofs::numbers::Remainders::remainders))]`.
-use Rattle.std.specs.Prelude.{◌≡◌, ℕ, ℤ, suc, pos, negsuc, neg_ℤ, int_div, int_rem, unsigned_abs, ◌+◌, ◌*◌, ◌/◌, ◌%◌, ◌<◌, ◌≤◌, ◌≤ℤ◌, ◌<ℤ◌, ◌+ℤ◌, ◌*ℤ◌}
-use Rattle.std.proofs.Common.{refl, arith, div-add-mod', mod-lt}
+use Rattle.std.specs.Prelude.{int_div, int_rem, neg_ℤ, negsuc, pos, suc, unsigned_abs, ℕ, ℤ, ◌%◌, ◌*ℤ◌, ◌*◌, ◌+ℤ◌, ◌+◌, ◌/◌, ◌<ℤ◌, ◌<◌, ◌≡◌, ◌≤ℤ◌, ◌≤◌}
+use Rattle.std.proofs.Common.{arith, div-add-mod', mod-lt, refl}
 use Rattle.std.proofs.Math.Nat.{mod-le}
 use Rattle.std.proofs.lemmas.Bool.Decides.{Decides-int_eq}
 use Rattle.std.proofs.lemmas.Int.{ints, quot-rem}
-use Rattle.arbitrary_base.proofs.operations.Order.{le-tested, lt-tested, ge-tested, gt-tested}
+use Rattle.arbitrary_laws.proofs.orders.Order.{ge-tested, gt-tested, le-tested, lt-tested}
 
 -- the first part says nothing: it shows the search the quotient
 pub quotient-with_remainder : (a b : ℕ) → 0 < b → (a / b ≡ a / b) × (a / b * b ≤ a) × (a < a / b * b + b) × (a / b * b + a % b ≡ a)

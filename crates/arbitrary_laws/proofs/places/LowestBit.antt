@@ -1,27 +1,28 @@
 -- The lowest bit of a number that is one: `x & (x - 1)` clears it, which leaves 0 of a power of two, and `x & -x` keeps it alone.
 -- For callers: `#![tactic(auto, using(arbitrary_laws::proofs::places::LowestBit::lowest_bits))]`.
-use Rattle.std.specs.Prelude.{◌≡◌, ◌≢◌, ◌↔◌, ℕ, ℤ, zero, suc, Bool, true, false, not, List, [], ◌∷◌, ◌++◌, length, replicate, take, pos, ◌≤◌, ◌<◌, ◌+◌, ◌-◌, ◌-ℤ◌, map}
 use Rattle.std.specs.Bool.{beq}
 use Rattle.std.specs.List.{count_by, prefix_len}
-use Rattle.std.proofs.Common.{refl, sym, ap, subst, ◌∙◌, arith}
-use Rattle.std.proofs.lemmas.Int.{ints}
+use Rattle.std.specs.Prelude.{Bool, List, [], false, length, map, not, pos, replicate, suc, take, true, zero, ℕ, ℤ, ◌++◌, ◌+◌, ◌-ℤ◌, ◌-◌, ◌<◌, ◌↔◌, ◌∷◌, ◌≡◌, ◌≢◌, ◌≤◌}
+use Rattle.std.proofs.Common.{ap, arith, refl, subst, sym, ◌∙◌}
 use Rattle.std.proofs.lemmas.Bool.Decides.{Decides-int_eq}
-use Rattle.arbitrary_base.specs.Range.{InRange}
-use Rattle.arbitrary_base.specs.BitList.{bits, num, val, bits_and}
+use Rattle.std.proofs.lemmas.Int.{ints}
+use Rattle.arbitrary_base.specs.BitList.{bits, bits_and, num, val}
 use Rattle.arbitrary_base.specs.Operation.{bitwise_and, shifted_left, wrapped_difference}
-use Rattle.arbitrary_base.proofs.bit_lists.UnsignedNumber.{bits-num_of, length-bits}
+use Rattle.arbitrary_base.specs.Range.{InRange}
+use Rattle.arbitrary_base.proofs.bit_lists.Count.{popcount-cons}
 use Rattle.arbitrary_base.proofs.bit_lists.TwosComplement.{bits-congruent, bits-wrap}
-use Rattle.arbitrary_base.proofs.modular.Congruence.{Congruent-sub, Congruent-refl}
+use Rattle.arbitrary_base.proofs.bit_lists.UnsignedNumber.{bits-num_of, length-bits}
+use Rattle.arbitrary_base.proofs.modular.Congruence.{Congruent-refl, Congruent-sub}
 use Rattle.arbitrary_base.proofs.modular.Residue.{wrap-of_in_range}
 use Rattle.arbitrary_base.proofs.operations.BitsAndSums.{and-in_range, natural}
-use Rattle.arbitrary_base.proofs.bit_lists.Count.{popcount-cons}
-use Rattle.arbitrary_base.proofs.operations.Bitwise.{bitwise_and-commutes, bitwise_and-zero}
-use Rattle.arbitrary_base.proofs.operations.Complement.{not-of_before}
+use Rattle.arbitrary_base.proofs.operations.Bitwise.{bitwise_and-commutes}
 use Rattle.arbitrary_base.proofs.operations.Definition.{and-is, bits-and, bits-left, bits-not, by-bits, difference-is, left-is}
+use Rattle.arbitrary_calls.proofs.counts.EndCounts.{no_ones-of_zero, zero-of_no_ones}
+use Rattle.arbitrary_laws.proofs.bits.Identities.{bitwise_and-zero}
 use Rattle.arbitrary_laws.proofs.counts.CountBounds.{bits-one_bit, front-of_one_bit, popcount-of_one_bit}
+use Rattle.arbitrary_laws.proofs.masks.NumberUnderMask.{and-below}
 use Rattle.arbitrary_laws.proofs.numbers.QuotientAndCube.{negated-is_difference}
-use Rattle.arbitrary_base.proofs.operations.KnownMask.{and-below}
-use Rattle.arbitrary_base.proofs.operations.PopulationAndRuns.{no_ones-of_zero, zero-of_no_ones}
+use Rattle.arbitrary_laws.proofs.sums.Complements.{not-of_before}
 
 -- the list of the number before
 abbrev pub before : List Bool → List Bool

@@ -1,19 +1,21 @@
 -- The masks that the lowest bit that is one gives, beside each other: `x & -x`, `x & (x - 1)`, `!x & (x - 1)`, `x ^ (x - 1)`.
 -- For callers: `#![tactic(auto, using(arbitrary_laws::proofs::places::LowestMasks::lowest_masks))]`.
-use Rattle.std.specs.Prelude.{◌≡◌, ℕ, ℤ, Bool, pos, ◌≤◌, ◌-ℤ◌}
-use Rattle.std.proofs.Common.{sym, ap, subst, ◌∙◌, arith}
+use Rattle.std.specs.Prelude.{Bool, pos, ℕ, ℤ, ◌-ℤ◌, ◌≡◌, ◌≤◌}
+use Rattle.std.proofs.Common.{ap, arith, subst, sym, ◌∙◌}
 use Rattle.std.proofs.lemmas.Bool.Decides.{Decides-int_eq}
 use Rattle.std.proofs.lemmas.Int.{ints}
+use Rattle.arbitrary_base.specs.Operation.{bitwise_and, bitwise_not, wrapped_difference}
 use Rattle.arbitrary_base.specs.Range.{InRange}
 use Rattle.arbitrary_base.specs.Residue.{Congruent}
-use Rattle.arbitrary_base.specs.Operation.{bitwise_and, bitwise_not, wrapped_difference}
 use Rattle.arbitrary_base.proofs.modular.Congruence.{Congruent-refl, Congruent-sub}
-use Rattle.arbitrary_base.proofs.operations.Bitwise.{bitwise_and-commutes, bitwise_not-twice}
-use Rattle.arbitrary_base.proofs.operations.BitsAndSums.{and-in_range, difference-of_and}
-use Rattle.arbitrary_base.proofs.operations.Complement.{not-of_before}
-use Rattle.arbitrary_base.proofs.operations.KnownMask.{and-by_complement}
+use Rattle.arbitrary_base.proofs.operations.BitsAndSums.{and-in_range}
+use Rattle.arbitrary_base.proofs.operations.Bitwise.{bitwise_and-commutes}
 use Rattle.arbitrary_base.proofs.operations.WrappedRing.{by-congruence, difference-congruent, difference-in_range}
 use Rattle.arbitrary_laws.proofs.bits.BitByBit.{and-compared, bit-and, bit-highest, bit-minus_one, bit-not, bit-or, bit-xor, bit-zero, compared-and, compared-not, compared-or, compared-xor, not-compared, or-compared, xor-compared}
+use Rattle.arbitrary_laws.proofs.bits.Identities.{bitwise_not-twice}
+use Rattle.arbitrary_laws.proofs.masks.NumberUnderMask.{and-by_complement}
+use Rattle.arbitrary_laws.proofs.sums.BitsBesideSums.{difference-of_and}
+use Rattle.arbitrary_laws.proofs.sums.Complements.{not-of_before}
 
 -- so `-x` has the bits that `x - 1` lacks, and the masks are compared bit by bit
 pub negated-is_not_before : (s : Bool) (B : ℕ) (x : ℤ) → 1 ≤ B → wrapped_difference s B (pos 0) x ≡ bitwise_not s B (wrapped_difference s B x (pos 1))

@@ -1,16 +1,17 @@
 -- The lowest bit of a sum, a difference or a product, by the lowest bits of what it is made of.
 -- For callers: `#![tactic(auto, using(arbitrary_laws::proofs::places::LowestPlace::lowest_place))]`.
-use Rattle.std.specs.Prelude.{◌≡◌, ◌⊎◌, ℕ, ℤ, zero, suc, Bool, pos, negsuc, unsigned_abs, ◌≤◌, ◌%◌, ◌/◌, ◌+ℤ◌, ◌-ℤ◌, ◌*ℤ◌}
-use Rattle.std.proofs.Common.{refl, sym, subst, ap, ◌∙◌, arith, inl, inr}
+use Rattle.std.specs.Prelude.{Bool, negsuc, pos, suc, unsigned_abs, zero, ℕ, ℤ, ◌%◌, ◌*ℤ◌, ◌+ℤ◌, ◌-ℤ◌, ◌/◌, ◌≡◌, ◌≤◌, ◌⊎◌}
+use Rattle.std.proofs.Common.{ap, arith, inl, inr, refl, subst, sym, ◌∙◌}
 use Rattle.std.proofs.lemmas.Bool.Decides.{Decides-int_eq}
 use Rattle.std.proofs.lemmas.Int.{ints}
+use Rattle.arbitrary_base.specs.Operation.{bitwise_and, bitwise_xor, wrapped_difference, wrapped_product, wrapped_sum}
 use Rattle.arbitrary_base.specs.Range.{InRange}
 use Rattle.arbitrary_base.specs.Residue.{Congruent}
-use Rattle.arbitrary_base.specs.Operation.{bitwise_and, bitwise_xor, wrapped_difference, wrapped_product, wrapped_sum}
-use Rattle.arbitrary_base.proofs.modular.Congruence.{Congruent-refl, Congruent-mul, Congruent-narrower, Congruent-trans}
-use Rattle.arbitrary_base.proofs.operations.Bitwise.{and-distributes_or, and-distributes_xor, bitwise_and-associates, bitwise_and-commutes, bitwise_and-zero, bitwise_xor-commutes, bitwise_xor-zero}
-use Rattle.arbitrary_base.proofs.operations.KnownMask.{xor-by_and}
+use Rattle.arbitrary_base.proofs.modular.Congruence.{Congruent-mul, Congruent-narrower, Congruent-refl, Congruent-trans}
+use Rattle.arbitrary_base.proofs.operations.Bitwise.{bitwise_and-commutes, bitwise_xor-commutes}
 use Rattle.arbitrary_base.proofs.operations.WrappedRing.{difference-congruent, product-congruent, sum-congruent}
+use Rattle.arbitrary_laws.proofs.bits.Identities.{and-distributes_or, and-distributes_xor, bitwise_and-associates, bitwise_and-zero, bitwise_xor-zero}
+use Rattle.arbitrary_laws.proofs.masks.NumberUnderMask.{xor-by_and}
 use Rattle.arbitrary_laws.proofs.places.BitPlaces.{low-told}
 
 parity : (x y : ℤ) → Congruent 1 x y → unsigned_abs x % 2 ≡ unsigned_abs y % 2

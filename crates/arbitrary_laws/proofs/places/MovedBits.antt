@@ -1,25 +1,26 @@
 -- The bits of shifted, rotated and converted numbers, and of written ones: each stands where the operand has it at another place. So a law
 -- of shifts, rotations, written masks and conversions, also of several, closes as those of `& | ^ !` do in BitByBit.antt.
 -- For callers: `#![tactic(auto, using(arbitrary_laws::proofs::places::MovedBits::moved_bits))]`.
-use Rattle.std.specs.Prelude.{◌≡◌, ◌≤◌, ◌<◌, ◌⊎◌, ◌+◌, ◌-◌, ◌*◌, ◌/◌, ◌%◌, ◌^◌, ◌==◌, ◌≤ℤ◌, ◌<ℤ◌, ℕ, ℤ, Bool, zero, suc, true, false, not, pos, negsuc, List, get_or, length, replicate, take, drop}
-use Rattle.std.proofs.Common.{refl, sym, ap, subst, ◌∙◌, arith, inl, inr, true≢false, div-add-mod', length-drop, pow-suc, pow-add}
+use Rattle.std.specs.Prelude.{Bool, List, drop, false, get_or, length, negsuc, not, pos, replicate, suc, take, true, zero, ℕ, ℤ, ◌%◌, ◌*◌, ◌+◌, ◌-◌, ◌/◌, ◌<ℤ◌, ◌<◌, ◌==◌, ◌^◌, ◌≡◌, ◌≤ℤ◌, ◌≤◌, ◌⊎◌}
+use Rattle.std.proofs.Common.{ap, arith, div-add-mod', inl, inr, length-drop, pow-add, pow-suc, refl, subst, sym, true≢false, ◌∙◌}
 use Rattle.std.proofs.Math.Nat.{div-div-eq-div-mul, div-eq_of_lt-le, pow-le-pow_right}
 use Rattle.std.proofs.lemmas.Bool.{cases_lt}
 use Rattle.std.proofs.lemmas.Bool.Decides.{Decides-int_eq}
-use Rattle.std.proofs.lemmas.Int.{ints}
-use Rattle.std.proofs.lemmas.Nat.{pow_pos}
 use Rattle.std.proofs.lemmas.Grind.{low_zeros}
+use Rattle.std.proofs.lemmas.Int.{ints}
 use Rattle.std.proofs.lemmas.List.{get_or-append_right, get_or-drop, get_or-map, get_or-replicate, get_or-take, get_or_append_left, length-replicate}
-use Rattle.arbitrary_base.specs.Range.{InRange}
-use Rattle.arbitrary_base.specs.Residue.{wrap}
+use Rattle.std.proofs.lemmas.Nat.{pow_pos}
 use Rattle.arbitrary_base.specs.BitList.{bits, fill, shl, shr, val}
 use Rattle.arbitrary_base.specs.Operation.{bitwise_or, rotated_left, rotated_right, shifted_left, shifted_right}
-use Rattle.arbitrary_base.proofs.modular.Residue.{wrap-in_range}
+use Rattle.arbitrary_base.specs.Range.{InRange}
+use Rattle.arbitrary_base.specs.Residue.{wrap}
 use Rattle.arbitrary_base.proofs.bit_lists.Movement.{length-rotl, length-rotr, length-shl, length-shr, rotr}
 use Rattle.arbitrary_base.proofs.bit_lists.TwosComplement.{bits-negsuc, bits-wrap, val-num}
 use Rattle.arbitrary_base.proofs.bit_lists.UnsignedNumber.{length-bits}
-use Rattle.arbitrary_base.proofs.operations.Definition.{bits-left, bits-right, bits-rotl, bits-rotr, left-is, right-is, rotl-is, rotr-is}
-use Rattle.arbitrary_laws.proofs.bits.BitByBit.{Compared, Spot, and-compared, at, bit, bit-and, bit-is, bit-listed, bit-not, bit-or, bit-xor, bit-zero, by_bit, compared-and, compared-not, compared-or, compared-xor, index, index-lowest, lowest, not-compared, or-compared, same, spot, width-free, xor-compared}
+use Rattle.arbitrary_base.proofs.modular.Residue.{wrap-in_range}
+use Rattle.arbitrary_base.proofs.operations.Definition.{bits-left, bits-right, bits-rotl, left-is, right-is, rotl-is, rotr-is}
+use Rattle.arbitrary_laws.proofs.bits.BitByBit.{Compared, Spot, and-compared, at, bit, bit-and, bit-is, bit-listed, bit-not, bit-or, bit-xor, bit-zero, by_bit, compared-and, compared-not, compared-or, compared-xor, index, index-lowest, lowest, not-compared, or-compared, same, width-free, xor-compared}
+use Rattle.arbitrary_laws.proofs.rotations.RotatedLists.{bits-rotr}
 
 -- ---- two numbers of which one is moved
 

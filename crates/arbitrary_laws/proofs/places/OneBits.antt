@@ -1,36 +1,36 @@
 -- The numbers `1 << k` and `(1 << k) - 1`: beside each other, the zeros and ones at their ends, and a number's parts above place k and below it.
 -- For callers: `#![tactic(auto, using(arbitrary_laws::proofs::places::OneBits::one_bits))]`, and `one_bit_counts` for the zeros and ones.
-use Rattle.std.specs.Prelude.{◌≡◌, ◌≢◌, ◌⊎◌, ℕ, ℤ, zero, suc, Bool, true, false, List, ◌∷◌, ◌++◌, drop, length, replicate, take, pos, ◌≤◌, ◌<◌, ◌+◌, ◌-◌, ◌*◌, ◌^◌, ◌-ℤ◌}
 use Rattle.std.specs.Bool.{beq}
 use Rattle.std.specs.List.{prefix_len, suffix_len}
 use Rattle.std.specs.Ordering.{int_cmp, int_eq, is_lt}
-use Rattle.std.proofs.Common.{refl, sym, ap, ap₂, subst, ◌∙◌, arith, inl, inr, pow-suc}
-use Rattle.std.proofs.lemmas.Int.{ints}
+use Rattle.std.specs.Prelude.{Bool, List, drop, false, length, pos, replicate, suc, take, true, zero, ℕ, ℤ, ◌*◌, ◌++◌, ◌+◌, ◌-ℤ◌, ◌-◌, ◌<◌, ◌^◌, ◌∷◌, ◌≡◌, ◌≢◌, ◌≤◌, ◌⊎◌}
+use Rattle.std.proofs.Common.{ap, ap₂, arith, inl, inr, pow-suc, refl, subst, sym, ◌∙◌}
+use Rattle.std.proofs.Math.Pow.{pow_mono}
 use Rattle.std.proofs.lemmas.Bool.{cases_lt}
 use Rattle.std.proofs.lemmas.Bool.Decides.{Decides-int_eq}
+use Rattle.std.proofs.lemmas.Int.{ints}
 use Rattle.std.proofs.lemmas.Nat.{pow_below, pow_pos}
-use Rattle.std.proofs.Math.Pow.{pow_mono}
-use Rattle.arbitrary_base.specs.Range.{InRange}
 use Rattle.arbitrary_base.specs.BitList.{bits}
 use Rattle.arbitrary_base.specs.Operation.{bitwise_and, bitwise_not, bitwise_or, rotated_left, shifted_left, shifted_right}
+use Rattle.arbitrary_base.specs.Range.{InRange}
 use Rattle.arbitrary_base.proofs.bit_lists.StdBitwise.{not-unsigned}
 use Rattle.arbitrary_base.proofs.bit_lists.TwosComplement.{bits-wrap}
 use Rattle.arbitrary_base.proofs.bit_lists.UnsignedNumber.{length-bits}
 use Rattle.arbitrary_base.proofs.operations.Bitwise.{bitwise_or-commutes}
 use Rattle.arbitrary_base.proofs.operations.Definition.{by-bits, difference-is, left-is, not-is, rotl-is}
-use Rattle.arbitrary_base.proofs.operations.KnownMask.{and-by_complement}
-use Rattle.arbitrary_base.proofs.operations.Mask.{or-of_parts}
-use Rattle.arbitrary_base.proofs.operations.Order.{lt-tested}
-use Rattle.arbitrary_base.proofs.operations.PopulationAndRuns.{tail-of_zero}
-use Rattle.arbitrary_base.proofs.operations.Shift.{right_left-numeral}
-use Rattle.arbitrary_base.proofs.operations.ZeroRunBounds.{leading-high, leading-low}
 use Rattle.arbitrary_base.proofs.storages.Primitive.{unsigned-in_range}
+use Rattle.arbitrary_calls.proofs.counts.EndCounts.{tail-of_zero}
+use Rattle.arbitrary_calls.proofs.counts.ZeroRunBounds.{leading-high, leading-low}
+use Rattle.arbitrary_laws.proofs.bits.Parts.{or-of_parts}
 use Rattle.arbitrary_laws.proofs.counts.CountBounds.{bits-one, bits-one_bit, front-of_one_bit, popcount-of_one_bit}
-use Rattle.arbitrary_laws.proofs.places.LowestBit.{before, bits-before}
-use Rattle.arbitrary_laws.proofs.masks.MaskTests.{xor-unchanged}
-use Rattle.arbitrary_laws.proofs.places.SingleBit.{left-of_one}
-use Rattle.arbitrary_laws.proofs.places.BitPlaces.{one_bit-some}
 use Rattle.arbitrary_laws.proofs.counts.LowestBitCounts.{popcount-before_one_bit}
+use Rattle.arbitrary_laws.proofs.masks.MaskTests.{xor-unchanged}
+use Rattle.arbitrary_laws.proofs.masks.NumberUnderMask.{and-by_complement}
+use Rattle.arbitrary_laws.proofs.orders.Order.{lt-tested}
+use Rattle.arbitrary_laws.proofs.places.BitPlaces.{one_bit-some}
+use Rattle.arbitrary_laws.proofs.places.LowestBit.{before, bits-before}
+use Rattle.arbitrary_laws.proofs.places.SingleBit.{left-of_one}
+use Rattle.arbitrary_laws.proofs.shifts.ShiftAndBack.{right_left-numeral}
 
 -- ---- the numbers `1 << k` beside each other
 

@@ -1,18 +1,18 @@
 -- One bit that is set, cleared or turned over, at a place k that varies: what that bit is then, and that the others stay.
-use Rattle.std.specs.Prelude.{◌≡◌, ◌≢◌, ℕ, ℤ, false, pos, unsigned_abs, ◌≤◌, ◌<◌, ◌+◌, ◌-◌, ◌*◌, ◌/◌, ◌%◌, ◌^◌}
 use Rattle.std.specs.Int.{bit_at}
 use Rattle.std.specs.Int.Bits.{bit_and, bit_or, bit_xor}
-use Rattle.std.proofs.Common.{refl, sym, ap, ◌∙◌, arith}
+use Rattle.std.specs.Prelude.{false, pos, unsigned_abs, ℕ, ℤ, ◌%◌, ◌*◌, ◌+◌, ◌-◌, ◌/◌, ◌<◌, ◌^◌, ◌≡◌, ◌≢◌, ◌≤◌}
+use Rattle.std.proofs.Common.{ap, arith, refl, sym, ◌∙◌}
 use Rattle.std.proofs.lemmas.Int.{ints}
-use Rattle.std.proofs.lemmas.Nat.{and_assoc, and_comm, and_le_r, pow_below, pow_pos, or_disjoint}
+use Rattle.std.proofs.lemmas.Nat.{and_assoc, and_comm, and_le_r, or_disjoint, pow_below, pow_pos}
 use Rattle.std.proofs.lemmas.Nat.Bits.{and_pow, bit_at-lt, bit_at-pow_other, bit_at-pow_same, bit_at_and, bit_at_or, bit_at_xor}
-use Rattle.arbitrary_base.specs.Range.{InRange}
 use Rattle.arbitrary_base.specs.Operation.{bitwise_and, bitwise_not, bitwise_or, bitwise_xor, shifted_left}
-use Rattle.arbitrary_base.proofs.storages.Primitive.{unsigned-in_range}
+use Rattle.arbitrary_base.specs.Range.{InRange}
 use Rattle.arbitrary_base.proofs.bit_lists.StdBitwise.{xor-plain}
 use Rattle.arbitrary_base.proofs.operations.BitsAndSums.{and-in_range}
 use Rattle.arbitrary_base.proofs.operations.Definition.{xor-is}
-use Rattle.arbitrary_base.proofs.operations.KnownMask.{and-by_complement, and-of_cleared}
+use Rattle.arbitrary_base.proofs.storages.Primitive.{unsigned-in_range}
+use Rattle.arbitrary_laws.proofs.masks.NumberUnderMask.{and-by_complement, and-of_cleared}
 use Rattle.arbitrary_laws.proofs.places.SingleBit.{left-of_one, or-one_bit, tested}
 
 module _ (B k : ℕ) (x : ℤ) (some : 1 ≤ B) (place : k < B) (range : InRange false B x) where

@@ -1,24 +1,26 @@
 -- Bits at places that vary: one set and another cleared, the lowest of a rotated number, and a shifted number reversed and converted.
 -- For callers: `#![tactic(auto, using(arbitrary_laws::proofs::places::VariablePlaces::variable_places))]`.
-use Rattle.std.specs.Prelude.{◌≡◌, ◌≢◌, ◌≤◌, ◌<◌, ◌^◌, ◌++◌, ◌∷◌, [], ℕ, ℤ, zero, suc, Bool, true, false, not, List, length, drop, take, replicate, pos}
-use Rattle.std.proofs.Common.{refl, sym, subst, ap, ap₂, ◌∙◌, arith, length-drop}
+use Rattle.std.specs.Prelude.{Bool, List, [], drop, false, length, not, pos, replicate, suc, take, true, zero, ℕ, ℤ, ◌++◌, ◌<◌, ◌^◌, ◌∷◌, ◌≡◌, ◌≢◌, ◌≤◌}
+use Rattle.std.proofs.Common.{ap, ap₂, arith, length-drop, refl, subst, sym, ◌∙◌}
 use Rattle.std.proofs.lemmas.Bool.Decides.{Decides-int_eq}
 use Rattle.std.proofs.lemmas.Int.{ints}
-use Rattle.arbitrary_base.specs.Range.{InRange}
-use Rattle.arbitrary_base.specs.Residue.{wrap}
 use Rattle.arbitrary_base.specs.BitList.{bits, bits_and, fill, shr}
 use Rattle.arbitrary_base.specs.Operation.{bitwise_and, bitwise_not, bitwise_or, bitwise_xor, reversed, rotated_right, shifted_left, shifted_right}
+use Rattle.arbitrary_base.specs.Range.{InRange}
+use Rattle.arbitrary_base.specs.Residue.{wrap}
 use Rattle.arbitrary_base.proofs.bit_lists.Movement.{length-rotr, length-shr, rotr}
 use Rattle.arbitrary_base.proofs.bit_lists.Pointwise.{and-zeros, cons}
 use Rattle.arbitrary_base.proofs.bit_lists.UnsignedNumber.{length-bits}
-use Rattle.arbitrary_base.proofs.operations.Bitwise.{and-distributes_or, and-distributes_xor, bitwise_and-commutes}
-use Rattle.arbitrary_base.proofs.operations.Definition.{and-is, bits-right, bits-rotr, by-bits}
-use Rattle.arbitrary_base.proofs.operations.KnownMask.{and-by_complement}
+use Rattle.arbitrary_base.proofs.operations.Bitwise.{bitwise_and-commutes}
+use Rattle.arbitrary_base.proofs.operations.Definition.{and-is, bits-right, by-bits}
 use Rattle.arbitrary_base.proofs.operations.RotateAndReverse.{reversed-shifted_left}
 use Rattle.arbitrary_base.proofs.operations.Shift.{shifted_left-is_product}
 use Rattle.arbitrary_base.proofs.operations.WrappedRing.{product-in_range}
-use Rattle.arbitrary_laws.proofs.places.BitPlaces.{bit-elsewhere, clear-by_mask}
+use Rattle.arbitrary_laws.proofs.bits.Identities.{and-distributes_or, and-distributes_xor}
 use Rattle.arbitrary_laws.proofs.counts.CountBounds.{bits-one}
+use Rattle.arbitrary_laws.proofs.masks.NumberUnderMask.{and-by_complement}
+use Rattle.arbitrary_laws.proofs.places.BitPlaces.{bit-elsewhere, clear-by_mask}
+use Rattle.arbitrary_laws.proofs.rotations.RotatedLists.{bits-rotr}
 use Rattle.arbitrary_laws.proofs.shifts.Truncations.{left-truncated, reversal-converted}
 
 -- ---- one bit set or turned over, and another cleared, in either order

@@ -1,12 +1,12 @@
 -- Foldings by `x ^ (x >> k)` give the same in either order, so that a Gray code is read back by foldings in the order of a program.
 -- For callers: `#![tactic(auto, using(arbitrary_laws::proofs::shifts::FoldingOrder::folding_orders))]`.
-use Rattle.std.specs.Prelude.{◌≡◌, ◌≤◌, ℕ, ℤ, false}
+use Rattle.std.specs.Prelude.{false, ℕ, ℤ, ◌≡◌, ◌≤◌}
 use Rattle.std.proofs.Common.{ap, sym, ◌∙◌}
 use Rattle.std.proofs.lemmas.Bool.Decides.{Decides-int_eq}
-use Rattle.arbitrary_base.specs.Range.{InRange}
 use Rattle.arbitrary_base.specs.Operation.{bitwise_xor, shifted_right}
-use Rattle.arbitrary_base.proofs.operations.Folding.{bitwise_xor-exchanged, folded-away, folded-twice}
+use Rattle.arbitrary_base.specs.Range.{InRange}
 use Rattle.arbitrary_base.proofs.operations.Shift.{shifted_right-xor}
+use Rattle.arbitrary_laws.proofs.shifts.Folding.{bitwise_xor-exchanged, folded-away, folded-twice}
 use Rattle.arbitrary_laws.proofs.shifts.MovedProducts.{shifted_right-exchanged}
 
 pub folds-exchanged : (B : ℕ) (x : ℤ) (a b : ℕ) → 1 ≤ B → a ≤ B → b ≤ B → InRange false B x

@@ -1,16 +1,18 @@
 -- Shifts to the left by an amount that may vary, beside products, negation and each other.
 -- For callers: `#![tactic(auto, using(arbitrary_laws::proofs::shifts::MovedProducts::moved_products))]`.
-use Rattle.std.specs.Prelude.{◌≡◌, ◌≤◌, ◌+◌, ◌/◌, ◌^◌, ℕ, ℤ, Bool, pos, negsuc}
 use Rattle.std.specs.Int.{int_shr}
-use Rattle.std.proofs.Common.{inl, inr, sym, ap, ◌∙◌, arith, pow-add}
+use Rattle.std.specs.Prelude.{Bool, negsuc, pos, ℕ, ℤ, ◌+◌, ◌/◌, ◌^◌, ◌≡◌, ◌≤◌}
+use Rattle.std.proofs.Common.{ap, arith, inl, inr, pow-add, sym, ◌∙◌}
 use Rattle.std.proofs.Math.Nat.{div-div-eq-div-mul}
 use Rattle.std.proofs.lemmas.Bool.{cases_lt}
 use Rattle.std.proofs.lemmas.Bool.Decides.{Decides-int_eq}
-use Rattle.arbitrary_base.specs.Range.{InRange}
 use Rattle.arbitrary_base.specs.Operation.{shifted_left, shifted_right, wrapped_difference, wrapped_product}
+use Rattle.arbitrary_base.specs.Range.{InRange}
 use Rattle.arbitrary_base.proofs.bit_lists.SignBit.{InRange-int_shr}
-use Rattle.arbitrary_base.proofs.operations.Shift.{shifted_left-difference, shifted_left-is_product, shifted_left-past, shifted_left-twice, shifted_left-zero, shifted_right-is_shr}
-use Rattle.arbitrary_base.proofs.operations.WrappedRing.{wrapped_product-associates, wrapped_product-commutes, wrapped_product-one}
+use Rattle.arbitrary_base.proofs.operations.Shift.{shifted_left-difference, shifted_left-is_product, shifted_left-zero, shifted_right-is_shr}
+use Rattle.arbitrary_base.proofs.operations.WrappedRing.{wrapped_product-associates, wrapped_product-commutes}
+use Rattle.arbitrary_laws.proofs.shifts.ShiftAndBack.{shifted_left-past, shifted_left-twice}
+use Rattle.arbitrary_laws.proofs.sums.Ring.{wrapped_product-one}
 
 module _ (s : Bool) (B : ℕ) (x : ℤ) (k : ℕ) (h : 1 ≤ B) (g : k ≤ B) where
   pub shifted_left-negated : shifted_left s B (wrapped_difference s B (pos 0) x) k ≡ wrapped_difference s B (pos 0) (shifted_left s B x k)

@@ -1,30 +1,31 @@
 -- Two shifts of one number: left and back, as what a narrower type has of it; side by side, as a rotation; and right by more places, which is no
 -- greater.
-use Rattle.std.specs.Prelude.{◌≡◌, ℕ, ℤ, Bool, true, false, ◌&&◌, List, ◌++◌, length, take, drop, replicate, pos, negsuc, ◌≤◌, ◌+◌, ◌-◌, ◌*◌, ◌/◌, ◌^◌, ◌*ℤ◌, ◌≤ℤ◌}
 use Rattle.std.specs.Int.{int_shr}
 use Rattle.std.specs.Ordering.{int_cmp, is_ge, is_le}
-use Rattle.std.proofs.Common.{sym, ap, ap₂, subst, ◌∙◌, arith, div-le_self, length-drop}
+use Rattle.std.specs.Prelude.{Bool, List, drop, false, length, negsuc, pos, replicate, take, true, ℕ, ℤ, ◌&&◌, ◌*ℤ◌, ◌*◌, ◌++◌, ◌+◌, ◌-◌, ◌/◌, ◌^◌, ◌≡◌, ◌≤ℤ◌, ◌≤◌}
+use Rattle.std.proofs.Common.{ap, ap₂, arith, div-le_self, length-drop, subst, sym, ◌∙◌}
 use Rattle.std.proofs.Math.Nat.{div-eq_of_lt-le}
 use Rattle.std.proofs.lemmas.Int.{ints}
 use Rattle.std.proofs.lemmas.List.{length-replicate, length-take-le, replicate-append-replicate}
 use Rattle.std.proofs.lemmas.Nat.{pow_pos}
-use Rattle.arbitrary_base.specs.Range.{InRange}
-use Rattle.arbitrary_base.specs.Residue.{Congruent, wrap}
 use Rattle.arbitrary_base.specs.BitList.{bits, bits_and, shl, shr}
 use Rattle.arbitrary_base.specs.Operation.{bitwise_and, bitwise_xor, rotated_left, shifted_left, shifted_right, wrapped_sum}
-use Rattle.arbitrary_base.proofs.integers.Ring.{mul_assoc_z, sub-mul_z}
-use Rattle.arbitrary_base.proofs.modular.Congruence.{pow_split}
-use Rattle.arbitrary_base.proofs.modular.Residue.{wrap-congruent, wrap-in_range, wrap-unique}
+use Rattle.arbitrary_base.specs.Range.{InRange}
+use Rattle.arbitrary_base.specs.Residue.{Congruent, wrap}
 use Rattle.arbitrary_base.proofs.bit_lists.Pointwise.{and-comm, and-zeros, append-pointwise}
 use Rattle.arbitrary_base.proofs.bit_lists.SignBit.{InRange-int_shr}
 use Rattle.arbitrary_base.proofs.bit_lists.UnsignedNumber.{length-bits}
+use Rattle.arbitrary_base.proofs.integers.Ring.{mul_assoc_z, sub-mul_z}
+use Rattle.arbitrary_base.proofs.modular.Congruence.{pow_split}
+use Rattle.arbitrary_base.proofs.modular.Residue.{wrap-congruent, wrap-in_range, wrap-unique}
 use Rattle.arbitrary_base.proofs.operations.BitsAndSums.{sum-of_disjoint, xor-in_range}
-use Rattle.arbitrary_base.proofs.operations.Bitwise.{bitwise_xor-zero}
 use Rattle.arbitrary_base.proofs.operations.Definition.{and-is, bits-left, bits-right, by-bits, product-is, zero-is}
-use Rattle.arbitrary_base.proofs.operations.Mask.{or-is_xor}
-use Rattle.arbitrary_base.proofs.operations.Order.{ge-tested, le-tested}
-use Rattle.arbitrary_base.proofs.operations.RotateAndReverse.{rotated_left-as_shifts}
-use Rattle.arbitrary_base.proofs.operations.Shift.{shifted_left-is_product, shifted_right-is_shr, shifted_right-twice}
+use Rattle.arbitrary_base.proofs.operations.Shift.{shifted_left-is_product, shifted_right-is_shr}
+use Rattle.arbitrary_laws.proofs.bits.Identities.{bitwise_xor-zero}
+use Rattle.arbitrary_laws.proofs.bits.Parts.{or-is_xor}
+use Rattle.arbitrary_laws.proofs.orders.Order.{ge-tested, le-tested}
+use Rattle.arbitrary_laws.proofs.rotations.RotationsAndReversals.{rotated_left-as_shifts}
+use Rattle.arbitrary_laws.proofs.shifts.ShiftAndBack.{shifted_right-twice}
 
 -- ---- left and back
 

@@ -1,18 +1,19 @@
 -- The low bits of a result, as a conversion to a narrower type keeps them, are those of the same operation on the low bits; and a rotation or
 -- a reversal of a number that is converted to the other sign.
 -- For callers: `#![tactic(auto, using(arbitrary_laws::proofs::shifts::Truncations::truncations))]`.
-use Rattle.std.specs.Prelude.{◌≡◌, ℕ, ℤ, Bool, List, reverse, ◌≤◌, ◌<◌}
 use Rattle.std.specs.List.{slice_rotate_right}
-use Rattle.std.proofs.Common.{sym, ap, ◌∙◌}
+use Rattle.std.specs.Prelude.{Bool, List, reverse, ℕ, ℤ, ◌<◌, ◌≡◌, ◌≤◌}
+use Rattle.std.proofs.Common.{ap, sym, ◌∙◌}
 use Rattle.std.proofs.lemmas.Bool.Decides.{Decides-int_eq}
 use Rattle.arbitrary_base.specs.BitList.{bits, val}
 use Rattle.arbitrary_base.proofs.bit_lists.Movement.{rotr}
-use Rattle.arbitrary_base.specs.Residue.{wrap}
 use Rattle.arbitrary_base.specs.Operation.{bitwise_and, bitwise_not, bitwise_or, bitwise_xor, reversed, rotated_left, rotated_right, shifted_left, wrapped_difference, wrapped_product, wrapped_sum}
-use Rattle.arbitrary_base.proofs.modular.LowBitOperation.{low-and, low-difference, low-not, low-or, low-product, low-shl, low-sum, low-xor, wrap-wide}
+use Rattle.arbitrary_base.specs.Residue.{wrap}
 use Rattle.arbitrary_base.proofs.bit_lists.TwosComplement.{bits-wrap}
+use Rattle.arbitrary_base.proofs.modular.LowBitOperation.{low-and, low-difference, low-not, low-or, low-product, low-shl, low-sum, low-xor, wrap-wide}
 use Rattle.arbitrary_base.proofs.modular.Residue.{wrap-in_range}
-use Rattle.arbitrary_base.proofs.operations.Definition.{and-is, bits-reversed, bits-rotl, bits-rotr, by-bits, difference-is, left-is, not-is, of-bits, or-is, product-is, reversed-is, rotl-is, rotr-is, sum-is, xor-is}
+use Rattle.arbitrary_base.proofs.operations.Definition.{and-is, bits-reversed, bits-rotl, by-bits, difference-is, left-is, not-is, of-bits, or-is, product-is, reversed-is, rotl-is, rotr-is, sum-is, xor-is}
+use Rattle.arbitrary_laws.proofs.rotations.RotatedLists.{bits-rotr}
 
 module _ (s t : Bool) (A B : ℕ) (x y : ℤ) (h : 1 ≤ A) (g : A ≤ B) where
   pub and-truncated : wrap s A (bitwise_and t B x y) ≡ bitwise_and s A (wrap s A x) (wrap s A y)

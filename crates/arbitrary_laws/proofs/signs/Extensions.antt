@@ -1,29 +1,30 @@
 -- `&`, `|`, `^` and right shifts of numbers that a narrower type has too, with its sign: they give what that type gives. A signed
 -- primitive's own operators give it too.
 -- For callers: `#![tactic(auto, using(arbitrary_laws::proofs::signs::Extensions::extensions))]`.
-use Rattle.std.specs.Prelude.{◌≡◌, ◌⊎◌, ℕ, ℤ, zero, suc, Bool, true, false, pos, negsuc, ◌≤◌, ◌<◌, ◌-◌, ◌/◌, ◌^◌, ◌≤ℤ◌, ◌<ℤ◌, ◌+ℤ◌, ◌*ℤ◌, FitsSigned}
-use Rattle.std.specs.Int.{Width, w8, w16, w32, w64, w128, cast_unsigned, int_shr}
+use Rattle.std.specs.Int.{Width, cast_unsigned, int_shr, w128, w16, w32, w64, w8}
 use Rattle.std.specs.Int.Bits.{and_lt, bit_and, bit_or, bit_xor}
-use mir.Val.{bits as width}
-use Rattle.std.proofs.Common.{refl, sym, ap, ap₂, subst, ◌∙◌, arith, inl, inr}
+use Rattle.std.specs.Prelude.{Bool, FitsSigned, false, negsuc, pos, suc, true, zero, ℕ, ℤ, ◌*ℤ◌, ◌+ℤ◌, ◌-◌, ◌/◌, ◌<ℤ◌, ◌<◌, ◌^◌, ◌≡◌, ◌≤ℤ◌, ◌≤◌, ◌⊎◌}
+use Rattle.std.proofs.Common.{ap, ap₂, arith, inl, inr, refl, subst, sym, ◌∙◌}
 use Rattle.std.proofs.Math.Nat.{div-eq_of_lt-le}
 use Rattle.std.proofs.lemmas.Bool.Decides.{Decides-int_eq}
 use Rattle.std.proofs.lemmas.Int.{ints, of_z-to_z}
 use Rattle.std.proofs.lemmas.Nat.{or_lt, pow_pos, xor_lt}
-use Rattle.arbitrary_base.specs.Range.{InRange}
 use Rattle.arbitrary_base.specs.Operation.{bitwise_and, bitwise_or, bitwise_xor}
+use Rattle.arbitrary_base.specs.Range.{InRange}
+use Rattle.arbitrary_base.proofs.bit_lists.StdBitwise.{and-left}
 use Rattle.arbitrary_base.proofs.modular.Residue.{residue-lt, wrap-of_in_range}
 use Rattle.arbitrary_base.proofs.modular.Truncation.{InRange-wider}
-use Rattle.arbitrary_base.proofs.bit_lists.StdBitwise.{and-left}
 use Rattle.arbitrary_base.proofs.operations.BitsAndSums.{and-in_range}
-use Rattle.arbitrary_base.proofs.operations.Bitwise.{bitwise_and-commutes, bitwise_and-minus_one, bitwise_and-zero}
+use Rattle.arbitrary_base.proofs.operations.Bitwise.{bitwise_and-commutes}
 use Rattle.arbitrary_base.proofs.operations.Definition.{and-is, or-is, xor-is}
-use Rattle.arbitrary_base.proofs.operations.KnownMask.{or-by_and, xor-by_and}
 use Rattle.arbitrary_base.proofs.operations.Shift.{shifted_right-and, shifted_right-is_shr}
 use Rattle.arbitrary_base.proofs.operations.ShiftAsProduct.{int_shr-high, int_shr-low}
 use Rattle.arbitrary_base.proofs.storages.Primitive.{bits_some, cast_unsigned-residue, signed-in_range}
 use Rattle.arbitrary_base.proofs.storages.PrimitiveBits.{bitand-signed, bitor-signed, bitxor-signed}
+use Rattle.arbitrary_laws.proofs.bits.Identities.{bitwise_and-minus_one, bitwise_and-zero}
+use Rattle.arbitrary_laws.proofs.masks.NumberUnderMask.{or-by_and, xor-by_and}
 use Rattle.arbitrary_laws.proofs.shifts.Truncations.{and-truncated}
+use mir.Val.{bits as width}
 
 -- ---- the range of `&`
 

@@ -1,23 +1,23 @@
 -- An overflow of a sum or a difference, told by the signs of its operands and of what wraps.
 -- For callers: `#![tactic(auto, using(arbitrary_laws::proofs::signs::OverflowBits::overflow_bits))]`.
-use Rattle.std.specs.Prelude.{◌≡◌, ◌↔◌, ◌⊎◌, ℕ, ℤ, true, not, pos, ◌≤◌, ◌-◌, ◌^◌, ◌≤ℤ◌, ◌<ℤ◌, ◌+ℤ◌, ◌-ℤ◌}
 use Rattle.std.specs.Bool.{beq}
 use Rattle.std.specs.Ordering.{int_cmp, is_lt}
-use Rattle.std.proofs.Common.{refl, arith, inl, inr}
+use Rattle.std.specs.Prelude.{not, pos, true, ℕ, ℤ, ◌+ℤ◌, ◌-ℤ◌, ◌-◌, ◌<ℤ◌, ◌^◌, ◌↔◌, ◌≡◌, ◌≤ℤ◌, ◌≤◌, ◌⊎◌}
+use Rattle.std.proofs.Common.{arith, inl, inr, refl}
 use Rattle.std.proofs.lemmas.Int.{ints}
 use Rattle.std.proofs.lemmas.Nat.{pow_pos}
+use Rattle.arbitrary_base.specs.Operation.{bitwise_and, bitwise_xor, wrapped_difference, wrapped_sum}
 use Rattle.arbitrary_base.specs.Range.{InRange, hi, in_range, lo}
 use Rattle.arbitrary_base.specs.Residue.{Congruent}
-use Rattle.arbitrary_base.specs.Operation.{bitwise_and, bitwise_xor, wrapped_difference, wrapped_sum}
 use Rattle.arbitrary_base.proofs.LawProof.{out-of_range_tested}
 use Rattle.arbitrary_base.proofs.modular.Congruence.{Congruent-refl, Congruent-trans, pow_half}
 use Rattle.arbitrary_base.proofs.modular.Residue.{congruent-same}
 use Rattle.arbitrary_base.proofs.operations.BitsAndSums.{xor-in_range}
 use Rattle.arbitrary_base.proofs.operations.Bitwise.{bitwise_and-commutes, bitwise_xor-commutes}
 use Rattle.arbitrary_base.proofs.operations.Definition.{bits-xor}
-use Rattle.arbitrary_base.proofs.operations.Order.{and-negative, lt-tested, sign-pointwise, xor-negative}
 use Rattle.arbitrary_base.proofs.operations.WrappedRing.{difference-congruent, difference-in_range, sum-congruent, sum-in_range}
 use Rattle.arbitrary_base.proofs.storages.CheckedSum.{three_ways}
+use Rattle.arbitrary_laws.proofs.orders.Order.{and-negative, lt-tested, sign-pointwise, xor-negative}
 
 -- ---- a sum or a difference passes its range by less than once
 

@@ -1,21 +1,23 @@
 -- A number under a mask that is -1 or 0, as a spread sign `x >> (BITS - 1)`, its complement or a chosen number is: the absolute of a number, the
 -- lesser and the greater of two. `SignWord` has the spread sign alone. These laws are about any such mask, so they hold of its complement too.
 -- For callers: `#![tactic(auto, using(arbitrary_laws::proofs::signs::SignMasks::sign_masks))]`.
-use Rattle.std.specs.Prelude.{◌≡◌, ◌⊎◌, ℕ, ℤ, true, pos, neg_ℤ, negsuc, ◌≤◌, ◌+◌, ◌^◌, ◌≤ℤ◌, ◌<ℤ◌, ◌+ℤ◌, ◌-ℤ◌}
-use Rattle.std.proofs.Common.{refl, sym, ap, subst, ◌∙◌, arith, inl, inr}
+use Rattle.std.specs.Prelude.{neg_ℤ, negsuc, pos, true, ℕ, ℤ, ◌+ℤ◌, ◌+◌, ◌-ℤ◌, ◌<ℤ◌, ◌^◌, ◌≡◌, ◌≤ℤ◌, ◌≤◌, ◌⊎◌}
+use Rattle.std.proofs.Common.{ap, arith, inl, inr, refl, subst, sym, ◌∙◌}
 use Rattle.std.proofs.lemmas.Bool.Decides.{Decides-int_eq}
 use Rattle.std.proofs.lemmas.Int.{ints}
+use Rattle.arbitrary_base.specs.Operation.{bitwise_and, bitwise_or, bitwise_xor, shifted_left, shifted_right, wrapped_difference, wrapped_sum}
 use Rattle.arbitrary_base.specs.Range.{InRange}
 use Rattle.arbitrary_base.specs.Residue.{Congruent}
-use Rattle.arbitrary_base.specs.Operation.{bitwise_and, bitwise_or, bitwise_xor, shifted_left, shifted_right, wrapped_difference, wrapped_sum}
 use Rattle.arbitrary_base.proofs.bit_lists.StdBitwise.{not-signed}
-use Rattle.arbitrary_base.proofs.operations.Bitwise.{bitwise_and-commutes, bitwise_and-minus_one, bitwise_and-zero, bitwise_or-commutes, bitwise_or-minus_one, bitwise_or-zero, bitwise_xor-commutes, bitwise_xor-minus_one, bitwise_xor-undoes, bitwise_xor-zero}
 use Rattle.arbitrary_base.proofs.modular.Congruence.{Congruent-refl, Congruent-sub}
 use Rattle.arbitrary_base.proofs.operations.BitsAndSums.{xor-in_range}
+use Rattle.arbitrary_base.proofs.operations.Bitwise.{bitwise_and-commutes, bitwise_or-commutes, bitwise_xor-commutes}
 use Rattle.arbitrary_base.proofs.operations.Definition.{not-is}
 use Rattle.arbitrary_base.proofs.operations.Shift.{shifted_left-is_product}
-use Rattle.arbitrary_base.proofs.operations.WrappedRing.{by-congruence, difference-congruent, difference-in_range, difference-twice, product-in_range, sum-congruent, sum-in_range, wrapped_difference-self, wrapped_difference-zero, wrapped_product-two}
+use Rattle.arbitrary_base.proofs.operations.WrappedRing.{by-congruence, difference-congruent, difference-in_range, difference-twice, product-in_range, sum-congruent, sum-in_range, wrapped_difference-self}
+use Rattle.arbitrary_laws.proofs.bits.Identities.{bitwise_and-minus_one, bitwise_and-zero, bitwise_or-minus_one, bitwise_or-zero, bitwise_xor-minus_one, bitwise_xor-undoes, bitwise_xor-zero}
 use Rattle.arbitrary_laws.proofs.signs.SignWord.{sign-spread}
+use Rattle.arbitrary_laws.proofs.sums.Ring.{wrapped_difference-zero, wrapped_product-two}
 
 -- ---- a mask of ones and one of zeros
 

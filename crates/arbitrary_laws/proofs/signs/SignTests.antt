@@ -2,26 +2,26 @@
 -- The search does not find these by itself: it would split each number by its sign and each difference by how it wraps. So each law has one
 -- formula whole, proved by the highest bits of its parts.
 -- For callers: `#![tactic(auto, using(arbitrary_laws::proofs::signs::SignTests::sign_tests))]`.
-use Rattle.std.specs.Prelude.{◌≡◌, ◌↔◌, ℕ, ℤ, Bool, true, false, not, ◌&&◌, ◌||◌, List, get_or, pos, length, map, int_lt, ◌≤◌, ◌-◌, ◌≤ℤ◌, ◌<ℤ◌, ◌+ℤ◌, ◌-ℤ◌}
 use Rattle.std.specs.Bool.{beq}
 use Rattle.std.specs.Ordering.{int_cmp, int_eq, is_ge, is_le, is_lt}
-use Rattle.std.proofs.Common.{IsTrue, refl, sym, subst, ap, ap₂, ◌∙◌, arith}
+use Rattle.std.specs.Prelude.{Bool, List, false, get_or, int_lt, length, map, not, pos, true, ℕ, ℤ, ◌&&◌, ◌+ℤ◌, ◌-ℤ◌, ◌-◌, ◌<ℤ◌, ◌||◌, ◌↔◌, ◌≡◌, ◌≤ℤ◌, ◌≤◌}
+use Rattle.std.proofs.Common.{IsTrue, ap, ap₂, arith, refl, subst, sym, ◌∙◌}
 use Rattle.std.proofs.lemmas.Bool.Decides.{Decides-int_eq}
 use Rattle.std.proofs.lemmas.Int.{ints}
 use Rattle.std.proofs.lemmas.List.{get_or-map}
-use Rattle.arbitrary_base.specs.Range.{InRange, hi, in_range, lo}
 use Rattle.arbitrary_base.specs.BitList.{bits, fill}
 use Rattle.arbitrary_base.specs.Operation.{bitwise_and, bitwise_not, bitwise_or, bitwise_xor, wrapped_difference, wrapped_sum}
-use Rattle.arbitrary_base.proofs.bit_lists.SignBit.{fill-is_negative}
+use Rattle.arbitrary_base.specs.Range.{InRange, hi, in_range, lo}
 use Rattle.arbitrary_base.proofs.bit_lists.UnsignedNumber.{length-bits, length-not}
 use Rattle.arbitrary_base.proofs.modular.Residue.{wrap-of_in_range}
 use Rattle.arbitrary_base.proofs.operations.BitsAndSums.{and-in_range, or-in_range, xor-in_range}
 use Rattle.arbitrary_base.proofs.operations.Bitwise.{bitwise_and-commutes, bitwise_or-commutes, bitwise_xor-commutes}
 use Rattle.arbitrary_base.proofs.operations.Definition.{bits-and, bits-not, bits-or, bits-xor, difference-is, not-in_range}
-use Rattle.arbitrary_base.proofs.operations.Order.{and-negative, ge-tested, gt-tested, le-tested, lt-tested, or-negative, xor-negative}
 use Rattle.arbitrary_base.proofs.operations.Shift.{fill-pointwise}
-use Rattle.arbitrary_base.proofs.operations.WrappedRing.{difference-in_range, difference-turned, sum-of_difference, wrapped_difference-self, wrapped_sum-commutes, wrapped_sum-zero}
+use Rattle.arbitrary_base.proofs.operations.WrappedRing.{difference-in_range, wrapped_difference-self, wrapped_sum-commutes, wrapped_sum-zero}
+use Rattle.arbitrary_laws.proofs.orders.Order.{and-negative, fill-is_negative, ge-tested, gt-tested, le-tested, lt-tested, or-negative, xor-negative}
 use Rattle.arbitrary_laws.proofs.signs.OverflowBits.{difference-overflow_told, sum-overflow_flag, sum-overflow_told}
+use Rattle.arbitrary_laws.proofs.sums.Ring.{difference-turned, sum-of_difference}
 
 -- ---- the highest bit
 

@@ -1,17 +1,18 @@
 -- The sign of a number spread over all its bits, `x >> (BITS - 1)`: -1 below 0, and else 0; and a number under it.
 -- For callers: `#![tactic(auto, using(arbitrary_laws::proofs::signs::SignWord::signs))]`.
-use Rattle.std.specs.Prelude.{◌≡◌, ◌⊎◌, ℕ, ℤ, true, pos, neg_ℤ, negsuc, ◌<◌, ◌+◌, ◌-◌, ◌/◌, ◌^◌, ◌≤ℤ◌, ◌<ℤ◌, ◌-ℤ◌}
-use Rattle.std.proofs.Common.{refl, ap, ◌∙◌, arith, inl, inr}
+use Rattle.std.specs.Prelude.{neg_ℤ, negsuc, pos, true, ℕ, ℤ, ◌+◌, ◌-ℤ◌, ◌-◌, ◌/◌, ◌<ℤ◌, ◌<◌, ◌^◌, ◌≡◌, ◌≤ℤ◌, ◌⊎◌}
+use Rattle.std.proofs.Common.{ap, arith, inl, inr, refl, ◌∙◌}
 use Rattle.std.proofs.Math.Nat.{div-eq_of_lt-le}
 use Rattle.std.proofs.lemmas.Bool.Decides.{Decides-int_eq}
 use Rattle.std.proofs.lemmas.Int.{ints}
-use Rattle.arbitrary_base.specs.Range.{InRange}
 use Rattle.arbitrary_base.specs.Operation.{bitwise_and, bitwise_or, bitwise_xor, shifted_right}
+use Rattle.arbitrary_base.specs.Range.{InRange}
 use Rattle.arbitrary_base.proofs.bit_lists.StdBitwise.{not-signed}
-use Rattle.arbitrary_base.proofs.operations.Bitwise.{bitwise_and-commutes, bitwise_and-minus_one, bitwise_and-zero, bitwise_or-commutes, bitwise_or-minus_one, bitwise_or-zero, bitwise_xor-commutes, bitwise_xor-minus_one, bitwise_xor-zero}
+use Rattle.arbitrary_base.proofs.operations.Bitwise.{bitwise_and-commutes, bitwise_or-commutes, bitwise_xor-commutes}
 use Rattle.arbitrary_base.proofs.operations.Definition.{not-is}
-use Rattle.arbitrary_base.proofs.operations.KnownMask.{and-by_complement}
 use Rattle.arbitrary_base.proofs.operations.Shift.{shifted_right-is_shr}
+use Rattle.arbitrary_laws.proofs.bits.Identities.{bitwise_and-minus_one, bitwise_and-zero, bitwise_or-minus_one, bitwise_or-zero, bitwise_xor-minus_one, bitwise_xor-zero}
+use Rattle.arbitrary_laws.proofs.masks.NumberUnderMask.{and-by_complement}
 
 none-left : (n k : ℕ) → n < 2 ^ k → n / 2 ^ k ≡ 0
 none-left n k h = div-eq_of_lt-le (2 ^ k) (omega arith) (omega arith)

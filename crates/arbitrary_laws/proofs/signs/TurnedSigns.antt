@@ -1,20 +1,20 @@
 -- A signed number with its sign turned over, `x ^ min_value()`, read without a sign: the numbers stand from 0 up, in their order.
 -- For callers: `#![tactic(auto, using(arbitrary_laws::proofs::signs::TurnedSigns::turned_signs))]`.
-use Rattle.std.specs.Prelude.{◌≡◌, ℕ, ℤ, zero, suc, false, true, pos, neg_ℤ, unsigned_abs, ◌≤◌, ◌-◌, ◌*◌, ◌^◌, ◌+ℤ◌, ◌-ℤ◌}
 use Rattle.std.specs.Cmp.{int_ranks}
 use Rattle.std.specs.Ordering.{int_cmp}
-use Rattle.std.proofs.Common.{ap, ap₂, subst, ◌∙◌, arith}
+use Rattle.std.specs.Prelude.{false, neg_ℤ, pos, suc, true, unsigned_abs, zero, ℕ, ℤ, ◌*◌, ◌+ℤ◌, ◌-ℤ◌, ◌-◌, ◌^◌, ◌≡◌, ◌≤◌}
+use Rattle.std.proofs.Common.{ap, ap₂, arith, subst, ◌∙◌}
 use Rattle.std.proofs.lemmas.Bool.Decides.{Decides-int_eq}
 use Rattle.std.proofs.lemmas.Int.{ints}
 use Rattle.std.proofs.lemmas.Nat.{pow_pos}
+use Rattle.arbitrary_base.specs.Operation.{bitwise_xor}
 use Rattle.arbitrary_base.specs.Range.{InRange, lo}
 use Rattle.arbitrary_base.specs.Residue.{Congruent, wrap}
-use Rattle.arbitrary_base.specs.Operation.{bitwise_xor}
 use Rattle.arbitrary_base.proofs.modular.Congruence.{Congruent-add, Congruent-refl, Congruent-sym, Congruent-trans, pow_half}
 use Rattle.arbitrary_base.proofs.modular.Residue.{congruent-same, wrap-congruent, wrap-in_range, wrap-unique}
 use Rattle.arbitrary_base.proofs.operations.BitsAndSums.{xor-in_range}
-use Rattle.arbitrary_base.proofs.operations.HighestBit.{difference-with_highest, sum-with_highest}
 use Rattle.arbitrary_base.proofs.operations.WrappedRing.{difference-congruent, sum-congruent}
+use Rattle.arbitrary_laws.proofs.sums.HighestBit.{difference-with_highest, sum-with_highest}
 
 module _ (B : ℕ) (x y : ℤ) (h : 1 ≤ B) (f : InRange true B x) (e : y ≡ lo true B) where
   -- modulo 2 ^ B, turning the highest bit adds it or takes it away

@@ -1,18 +1,19 @@
 -- A number coded with its sign in the lowest bit (zigzag), as `((x << 1) ^ (x >> 11)).to_unsigned()` of an `i12`.
 -- For callers: `#![tactic(auto, using(arbitrary_laws::proofs::signs::ZigZag::zigzag))]`.
-use Rattle.std.specs.Prelude.{◌≡◌, ◌⊎◌, ℕ, ℤ, true, false, pos, neg_ℤ, negsuc, ◌+◌, ◌≤ℤ◌, ◌<ℤ◌, ◌-ℤ◌, ◌*ℤ◌}
-use Rattle.std.proofs.Common.{refl, ap, ap₂, ◌∙◌, arith, inl, inr}
+use Rattle.std.specs.Prelude.{false, neg_ℤ, negsuc, pos, true, ℕ, ℤ, ◌*ℤ◌, ◌+◌, ◌-ℤ◌, ◌<ℤ◌, ◌≡◌, ◌≤ℤ◌, ◌⊎◌}
+use Rattle.std.proofs.Common.{ap, ap₂, arith, inl, inr, refl, ◌∙◌}
 use Rattle.std.proofs.lemmas.Bool.Decides.{Decides-int_eq}
 use Rattle.std.proofs.lemmas.Int.{ints}
+use Rattle.arbitrary_base.specs.Operation.{bitwise_xor, shifted_left, shifted_right}
 use Rattle.arbitrary_base.specs.Range.{InRange}
 use Rattle.arbitrary_base.specs.Residue.{Congruent, wrap}
-use Rattle.arbitrary_base.specs.Operation.{bitwise_xor, shifted_left, shifted_right}
 use Rattle.arbitrary_base.proofs.bit_lists.StdBitwise.{not-signed}
 use Rattle.arbitrary_base.proofs.modular.Congruence.{Apart-from_congruent, Congruent-from_apart, Congruent-sym, pow_half}
 use Rattle.arbitrary_base.proofs.modular.Residue.{wrap-congruent, wrap-in_range, wrap-unique}
-use Rattle.arbitrary_base.proofs.operations.Bitwise.{bitwise_xor-commutes, bitwise_xor-minus_one, bitwise_xor-zero}
+use Rattle.arbitrary_base.proofs.operations.Bitwise.{bitwise_xor-commutes}
 use Rattle.arbitrary_base.proofs.operations.Definition.{not-is, product-is}
 use Rattle.arbitrary_base.proofs.operations.Shift.{shifted_left-is_product}
+use Rattle.arbitrary_laws.proofs.bits.Identities.{bitwise_xor-minus_one, bitwise_xor-zero}
 use Rattle.arbitrary_laws.proofs.signs.SignWord.{sign-spread}
 
 module _ (B k : ℕ) (last : k + 1 ≡ B) where

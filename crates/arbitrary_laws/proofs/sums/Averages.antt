@@ -1,17 +1,17 @@
 -- The mean of two numbers by their bits, with no sum that may overflow: what both have and half of what one has alone, rounded down; what any
 -- has, less that half, rounded up. Also with a sign.
 -- For callers: `#![tactic(auto, using(arbitrary_laws::proofs::sums::Averages::averages))]`.
-use Rattle.std.specs.Prelude.{◌≡◌, ℕ, ℤ, Bool, pos, ◌≤◌, ◌≤ℤ◌, ◌+ℤ◌, ◌-ℤ◌, ◌*ℤ◌}
-use Rattle.std.proofs.Common.{refl, arith, ◌∙◌}
+use Rattle.std.specs.Prelude.{Bool, pos, ℕ, ℤ, ◌*ℤ◌, ◌+ℤ◌, ◌-ℤ◌, ◌≡◌, ◌≤ℤ◌, ◌≤◌}
+use Rattle.std.proofs.Common.{arith, refl, ◌∙◌}
 use Rattle.std.proofs.lemmas.Int.{ints}
-use Rattle.arbitrary_base.specs.Range.{InRange}
 use Rattle.arbitrary_base.specs.Operation.{bitwise_and, bitwise_or, bitwise_xor, shifted_right, wrapped_difference, wrapped_sum}
+use Rattle.arbitrary_base.specs.Range.{InRange}
 use Rattle.arbitrary_base.proofs.modular.Residue.{wrap-of_in_range}
 use Rattle.arbitrary_base.proofs.operations.BitsAndSums.{xor-in_range}
 use Rattle.arbitrary_base.proofs.operations.Definition.{difference-is, sum-is}
-use Rattle.arbitrary_base.proofs.operations.KnownMask.{or-by_and, xor-by_and}
 use Rattle.arbitrary_base.proofs.operations.Shift.{shifted_right-is_shr}
 use Rattle.arbitrary_base.proofs.operations.ShiftAsProduct.{int_shr-high, int_shr-low}
+use Rattle.arbitrary_laws.proofs.masks.NumberUnderMask.{or-by_and, xor-by_and}
 
 -- r is half of what x and y share no bit of, rounded down, where they share those of a
 record Half (a x y r : ℤ) : Type 0 where

@@ -1,19 +1,20 @@
 -- A number below the place to which another one is moved: they share no bit, so `|` and `^` are their sum.
 -- For callers: `#![tactic(auto, using(arbitrary_laws::proofs::sums::LowSums::low_sums))]`.
-use Rattle.std.specs.Prelude.{◌≡◌, ℕ, ℤ, Bool, pos, negsuc, ◌/◌, ◌^◌, ◌≤◌, ◌<◌, ◌≤ℤ◌, ◌<ℤ◌, ◌+ℤ◌}
 use Rattle.std.specs.Int.{int_shr}
-use Rattle.std.proofs.Common.{refl, sym, ap, arith, ◌∙◌}
+use Rattle.std.specs.Prelude.{Bool, negsuc, pos, ℕ, ℤ, ◌+ℤ◌, ◌/◌, ◌<ℤ◌, ◌<◌, ◌^◌, ◌≡◌, ◌≤ℤ◌, ◌≤◌}
+use Rattle.std.proofs.Common.{ap, arith, refl, sym, ◌∙◌}
 use Rattle.std.proofs.Math.Nat.{div-eq_of_lt}
 use Rattle.std.proofs.lemmas.Bool.Decides.{Decides-int_eq}
 use Rattle.std.proofs.lemmas.Int.{ints}
-use Rattle.arbitrary_base.specs.Range.{InRange}
 use Rattle.arbitrary_base.specs.Operation.{bitwise_and, bitwise_or, bitwise_xor, shifted_left, shifted_right, wrapped_difference, wrapped_sum}
-use Rattle.arbitrary_base.proofs.operations.Bitwise.{bitwise_and-associates, bitwise_and-commutes, bitwise_and-zero}
+use Rattle.arbitrary_base.specs.Range.{InRange}
 use Rattle.arbitrary_base.proofs.operations.BitsAndSums.{sum-of_disjoint}
-use Rattle.arbitrary_base.proofs.operations.KnownMask.{or-by_and, xor-by_and}
+use Rattle.arbitrary_base.proofs.operations.Bitwise.{bitwise_and-commutes}
 use Rattle.arbitrary_base.proofs.operations.Shift.{shifted_left-zero, shifted_right-is_shr}
-use Rattle.arbitrary_base.proofs.operations.WrappedRing.{wrapped_difference-zero}
+use Rattle.arbitrary_laws.proofs.bits.Identities.{bitwise_and-associates, bitwise_and-zero}
+use Rattle.arbitrary_laws.proofs.masks.NumberUnderMask.{or-by_and, xor-by_and}
 use Rattle.arbitrary_laws.proofs.masks.VariableMasks.{left-in_range, low-of_left, low-wrapped}
+use Rattle.arbitrary_laws.proofs.sums.Ring.{wrapped_difference-zero}
 
 module _ (s : Bool) (B : ℕ) (x y : ℤ) (k : ℕ) (place : k < B) (f : InRange s B y) (l : pos 0 ≤ℤ y) (u : y <ℤ pos (2 ^ k)) where
   some : 1 ≤ B

@@ -1,6 +1,6 @@
 -- Written numbers at a width that is not known: they are in range where the width has room for their digits.
 -- For callers: `#![tactic(auto, using(arbitrary_laws::proofs::written::AnyWidth::any_width))]`.
-use Rattle.std.specs.Prelude.{ℕ, zero, suc, true, false, pos, negsuc, ◌≤◌, ◌<◌, ◌-◌, ◌^◌}
+use Rattle.std.specs.Prelude.{false, negsuc, pos, suc, true, zero, ℕ, ◌-◌, ◌<◌, ◌^◌, ◌≤◌}
 use Rattle.std.proofs.Common.{arith}
 use Rattle.std.proofs.Math.Nat.{mod_self}
 use Rattle.std.proofs.Math.Pow.{pow_mono}
@@ -8,7 +8,7 @@ use Rattle.std.proofs.lemmas.Grind.{bit_length}
 use Rattle.std.proofs.lemmas.Int.{ints}
 use Rattle.std.proofs.lemmas.Nat.{pow_pos}
 use Rattle.arbitrary_base.specs.Range.{InRange}
-use Rattle.arbitrary_base.proofs.operations.RunsByDigits.{length-between}
+use Rattle.arbitrary_calls.proofs.counts.RunsByDigits.{length-between}
 
 below : (B m : ℕ) → m < 2 ^ 128 → bit_length 128 m ≤ B → m < 2 ^ B
 below B zero g h = pow_pos B

@@ -1,7 +1,7 @@
 -- How many bits of a number that is written out are one.
-use Rattle.std.specs.Prelude.{◌≡◌, ℕ, zero, suc, pos, ◌+◌, ◌/◌, ◌%◌, ◌^◌, ◌≤◌, ◌<◌, ◌==◌}
-use Rattle.std.proofs.Common.{refl, ap, ap₂, ◌∙◌, arith, pow-suc}
 use Rattle.std.specs.List.{count_by}
+use Rattle.std.specs.Prelude.{pos, suc, zero, ℕ, ◌%◌, ◌+◌, ◌/◌, ◌<◌, ◌==◌, ◌^◌, ◌≡◌, ◌≤◌}
+use Rattle.std.proofs.Common.{ap, ap₂, arith, pow-suc, refl, ◌∙◌}
 use Rattle.arbitrary_base.specs.BitList.{bits}
 use Rattle.arbitrary_base.proofs.bit_lists.Count.{popcount-cons}
 use Rattle.arbitrary_base.proofs.bit_lists.UnsignedNumber.{digit}

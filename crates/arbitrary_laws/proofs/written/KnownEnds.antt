@@ -1,19 +1,19 @@
 -- The counts of a number that is written out, also of one below 0 and of one with its highest bit set: a complement has ones for zeros.
-use Rattle.std.specs.Prelude.{◌≡◌, ℕ, zero, suc, true, false, pos, negsuc, ◌≤◌, ◌<◌, ◌+◌, ◌-◌, ◌/◌, ◌%◌, ◌^◌, ◌==◌, ◌∷◌, ◌≤ℤ◌}
 use Rattle.std.specs.Bool.{beq}
 use Rattle.std.specs.List.{count_by, prefix_len, suffix_len}
-use Rattle.std.proofs.Common.{refl, sym, ap, ◌∙◌, arith, pow-suc}
+use Rattle.std.specs.Prelude.{false, negsuc, pos, suc, true, zero, ℕ, ◌%◌, ◌+◌, ◌-◌, ◌/◌, ◌<◌, ◌==◌, ◌^◌, ◌∷◌, ◌≡◌, ◌≤ℤ◌, ◌≤◌}
+use Rattle.std.proofs.Common.{ap, arith, pow-suc, refl, sym, ◌∙◌}
 use Rattle.std.proofs.lemmas.Grind.{bit_length, low_zeros}
 use Rattle.std.proofs.lemmas.Int.{ints}
 use Rattle.std.proofs.lemmas.Nat.{pow_pos}
-use Rattle.arbitrary_base.specs.Range.{InRange, hi}
 use Rattle.arbitrary_base.specs.BitList.{bits}
 use Rattle.arbitrary_base.specs.Operation.{bitwise_not}
-use Rattle.arbitrary_base.proofs.modular.Congruence.{pow_half}
+use Rattle.arbitrary_base.specs.Range.{InRange, hi}
 use Rattle.arbitrary_base.proofs.bit_lists.StdBitwise.{not-signed, not-unsigned}
+use Rattle.arbitrary_base.proofs.modular.Congruence.{pow_half}
 use Rattle.arbitrary_base.proofs.operations.Definition.{not-is}
-use Rattle.arbitrary_base.proofs.operations.RunsByDigits.{front-counted, tail-counted}
 use Rattle.arbitrary_base.proofs.operations.PopulationAndRuns.{front_ones-of_not, popcount-of_not, tail_ones-of_not, tail_zeros-of_not}
+use Rattle.arbitrary_calls.proofs.counts.RunsByDigits.{front-counted, tail-counted}
 use Rattle.arbitrary_laws.proofs.counts.CountBounds.{front-of_numeral}
 use Rattle.arbitrary_laws.proofs.written.KnownCount.{counted, ones_of}
 

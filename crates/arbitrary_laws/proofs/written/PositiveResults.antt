@@ -1,15 +1,16 @@
 -- Written numbers above 0 that two operations bring together: their sum and their product, as `(x + 3) * 5` has them, and what of a turned number
 -- a mask leaves, as `(x ^ 0x55) & 0x0F`. As in PositiveParts.antt, the numbers that are not written out are none of them.
 -- For callers: `#![tactic(auto, using(arbitrary_laws::proofs::written::PositiveResults::positive_results))]`.
-use Rattle.std.specs.Prelude.{◌≡◌, ℕ, ℤ, suc, Bool, true, false, pos, ◌≤◌, ◌+◌, ◌*◌, ◌≤ℤ◌}
 use Rattle.std.specs.Int.Bits.{bit_and}
-use Rattle.std.proofs.Common.{ap₂, ◌∙◌, arith}
+use Rattle.std.specs.Prelude.{Bool, false, pos, suc, true, ℕ, ℤ, ◌*◌, ◌+◌, ◌≡◌, ◌≤ℤ◌, ◌≤◌}
+use Rattle.std.proofs.Common.{ap₂, arith, ◌∙◌}
 use Rattle.std.proofs.lemmas.Bool.Decides.{Decides-int_eq}
 use Rattle.std.proofs.lemmas.Int.{ints}
-use Rattle.arbitrary_base.specs.Range.{hi, lo}
 use Rattle.arbitrary_base.specs.Operation.{bitwise_and, bitwise_xor, wrapped_product, wrapped_sum}
+use Rattle.arbitrary_base.specs.Range.{hi, lo}
 use Rattle.arbitrary_base.proofs.modular.Residue.{wrap-of_in_range}
-use Rattle.arbitrary_base.proofs.operations.Bitwise.{and-distributes_xor, bitwise_and-commutes}
+use Rattle.arbitrary_base.proofs.operations.Bitwise.{bitwise_and-commutes}
+use Rattle.arbitrary_laws.proofs.bits.Identities.{and-distributes_xor}
 use Rattle.arbitrary_laws.proofs.written.WrittenParts.{and-numbers}
 
 least : (s : Bool) (B n : ℕ) → lo s B ≤ℤ pos n

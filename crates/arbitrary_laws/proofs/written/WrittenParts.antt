@@ -1,14 +1,15 @@
 -- Written numbers that follow each other under `& | ^` are one: `(x | 0x0F) | 0xF0` is `x | 0xFF`, and so are the parts of a number
 -- under two masks.
-use Rattle.std.specs.Prelude.{◌≡◌, ℕ, ℤ, Bool, pos, ◌≤◌, ◌≤ℤ◌}
 use Rattle.std.specs.Int.Bits.{bit_and, bit_or, bit_xor}
-use Rattle.std.proofs.Common.{sym, ap, ◌∙◌, arith}
+use Rattle.std.specs.Prelude.{Bool, pos, ℕ, ℤ, ◌≡◌, ◌≤ℤ◌, ◌≤◌}
+use Rattle.std.proofs.Common.{ap, arith, sym, ◌∙◌}
 use Rattle.std.proofs.lemmas.Int.{ints}
-use Rattle.arbitrary_base.specs.Range.{hi}
 use Rattle.arbitrary_base.specs.Operation.{bitwise_and, bitwise_or, bitwise_xor}
+use Rattle.arbitrary_base.specs.Range.{hi}
 use Rattle.arbitrary_base.proofs.bit_lists.StdBitwise.{and-plain, or-plain, xor-plain}
+use Rattle.arbitrary_base.proofs.operations.Bitwise.{bitwise_and-commutes, bitwise_or-associates}
 use Rattle.arbitrary_base.proofs.operations.Definition.{and-is, or-is, xor-is}
-use Rattle.arbitrary_base.proofs.operations.Bitwise.{and-distributes_or, and-distributes_xor, bitwise_and-associates, bitwise_and-commutes, bitwise_or-associates, bitwise_xor-associates}
+use Rattle.arbitrary_laws.proofs.bits.Identities.{and-distributes_or, and-distributes_xor, bitwise_and-associates, bitwise_xor-associates}
 use Rattle.arbitrary_laws.proofs.masks.WrittenMask.{masked}
 
 module _ (s : Bool) (B m n : ℕ) (h : 1 ≤ B) (f : pos m ≤ℤ hi s B) (g : pos n ≤ℤ hi s B) where

@@ -4,7 +4,7 @@ use Rattle.std.proofs.Common.{ap, ◌∙◌}
 use Rattle.arbitrary_base.specs.BitList.{bits}
 use Rattle.arbitrary_base.proofs.bit_lists.Count.{popcount-plain}
 use Rattle.arbitrary_base.proofs.bit_lists.TwosComplement.{bits-residue}
-use Rattle.arbitrary_base.proofs.operations.PopulationAndRuns.{no_ones-of_zero}
+use Rattle.arbitrary_calls.proofs.counts.EndCounts.{no_ones-of_zero}
 use Rattle.arbitrary_calls.proofs.calls.counts.CountCalls.count_ones.Goals as goal
 
 pub returns-clause-none : goal.returns-clause-none

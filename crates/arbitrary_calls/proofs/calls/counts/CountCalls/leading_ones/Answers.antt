@@ -6,9 +6,9 @@ use Rattle.std.proofs.Math.Nat.{mod-eq_of_lt}
 use Rattle.arbitrary_base.specs.BitList.{bits}
 use Rattle.arbitrary_base.proofs.bit_lists.Count.{tail-fits}
 use Rattle.arbitrary_base.proofs.bit_lists.TwosComplement.{bits-residue}
-use Rattle.arbitrary_base.proofs.operations.PopulationAndRuns.{tail-of_highest}
-use Rattle.arbitrary_base.proofs.operations.OneRunBounds.{leading_ones-found, leading_ones-minus_one, leading_ones-negative, leading_ones-none, leading_ones-some}
-use Rattle.arbitrary_base.proofs.operations.RunBesideCount.{tail_ones-below_ones}
+use Rattle.arbitrary_calls.proofs.counts.EndCounts.{tail-of_highest}
+use Rattle.arbitrary_calls.proofs.counts.OneRunBounds.{leading_ones-found, leading_ones-minus_one, leading_ones-negative, leading_ones-none, leading_ones-some}
+use Rattle.arbitrary_calls.proofs.counts.RunBesideCount.{tail_ones-below_ones}
 use Rattle.arbitrary_calls.proofs.calls.counts.CountCalls.leading_ones.Goals as goal
 
 pub returns : goal.returns

@@ -7,9 +7,9 @@ use Rattle.arbitrary_base.specs.BitList.{bits}
 use Rattle.arbitrary_base.proofs.bit_lists.Count.{tail-fits}
 use Rattle.arbitrary_base.proofs.bit_lists.StdBitwise.{not_below_zero}
 use Rattle.arbitrary_base.proofs.bit_lists.TwosComplement.{bits-residue}
-use Rattle.arbitrary_base.proofs.operations.RunsByDigits.{leading-by_count}
-use Rattle.arbitrary_base.proofs.operations.ZeroRunBounds.{leading-none, leading-found, leading-negative, leading-low, leading-high, leading-set, leading-clear}
-use Rattle.arbitrary_base.proofs.operations.RunBesideCount.{tail_zeros-beside_ones}
+use Rattle.arbitrary_calls.proofs.counts.RunsByDigits.{leading-by_count}
+use Rattle.arbitrary_calls.proofs.counts.ZeroRunBounds.{leading-none, leading-found, leading-negative, leading-low, leading-high, leading-set, leading-clear}
+use Rattle.arbitrary_calls.proofs.counts.RunBesideCount.{tail_zeros-beside_ones}
 use Rattle.arbitrary_calls.proofs.calls.counts.CountCalls.leading_zeros.Goals as goal
 
 pub returns : goal.returns

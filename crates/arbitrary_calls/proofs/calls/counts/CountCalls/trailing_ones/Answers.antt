@@ -4,8 +4,8 @@ use Rattle.std.specs.List.{prefix_len}
 use Rattle.std.proofs.Common.{ap, ◌∙◌}
 use Rattle.arbitrary_base.specs.BitList.{bits}
 use Rattle.arbitrary_base.proofs.bit_lists.TwosComplement.{bits-residue}
-use Rattle.arbitrary_base.proofs.operations.PopulationAndRuns.{front-of_highest}
-use Rattle.arbitrary_base.proofs.operations.OneRunBounds.{trailing_ones-minus_one}
+use Rattle.arbitrary_calls.proofs.counts.EndCounts.{front-of_highest}
+use Rattle.arbitrary_calls.proofs.counts.OneRunBounds.{trailing_ones-minus_one}
 use Rattle.arbitrary_calls.proofs.calls.counts.CountCalls.trailing_ones.Goals as goal
 
 pub returns-clause-highest : goal.returns-clause-highest

@@ -1,13 +1,13 @@
--- Results of an operation that can be undone are equal where what they came from is.
-use Rattle.std.specs.Prelude.{◌≡◌, ℕ, ℤ, Bool, true, ◌≤◌}
+-- TODO arbitrary_laws.proofs.orders.EqualResults
 use Rattle.std.specs.Ordering.{int_eq}
-use Rattle.std.proofs.Common.{sym, ap, ◌∙◌}
+use Rattle.std.specs.Prelude.{Bool, true, ℕ, ℤ, ◌≡◌, ◌≤◌}
+use Rattle.std.proofs.Common.{ap, sym, ◌∙◌}
 use Rattle.std.proofs.lemmas.Bool.Decides.{Decides-int_eq, same_from_decides}
-use Rattle.arbitrary_base.specs.Range.{InRange}
 use Rattle.arbitrary_base.specs.Operation.{bitwise_not, bitwise_xor, reversed, rotated_left, rotated_right, wrapped_difference, wrapped_sum}
-use Rattle.arbitrary_base.proofs.operations.Bitwise.{bitwise_not-twice, bitwise_xor-undoes}
-use Rattle.arbitrary_base.proofs.operations.RotateAndReverse.{left-undoes_right, reversed-twice, right-undoes_left}
-use Rattle.arbitrary_base.proofs.operations.WrappedRing.{difference-of_sum, difference-to_difference, sum-of_difference}
+use Rattle.arbitrary_base.specs.Range.{InRange}
+use Rattle.arbitrary_laws.proofs.bits.Identities.{bitwise_not-twice, bitwise_xor-undoes}
+use Rattle.arbitrary_laws.proofs.rotations.RotationsAndReversals.{left-undoes_right, reversed-twice, right-undoes_left}
+use Rattle.arbitrary_laws.proofs.sums.Ring.{difference-of_sum, difference-to_difference, sum-of_difference}
 
 by-inverse : (f g : ℤ → ℤ) (x y : ℤ) → g (f x) ≡ x → g (f y) ≡ y → int_eq (f x) (f y) ≡ int_eq x y
 by-inverse f g x y d e =

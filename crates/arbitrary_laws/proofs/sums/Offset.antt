@@ -1,10 +1,10 @@
--- A number moved by written numbers, up and down, round its range: `x + 5 - 9` is `x - 4`, and of three bits `x - 1` is `x + 7`.
-use Rattle.std.specs.Prelude.{◌≡◌, ℕ, ℤ, Bool, false, pos, negsuc, neg_ℤ, ◌≤◌, ◌^◌, ◌+ℤ◌, ◌-ℤ◌, IsTrue, int_lt}
-use Rattle.std.proofs.Common.{refl, ◌∙◌, arith}
+-- TODO arbitrary_laws.proofs.sums.Offset
+use Rattle.std.specs.Prelude.{Bool, IsTrue, false, int_lt, neg_ℤ, negsuc, pos, ℕ, ℤ, ◌+ℤ◌, ◌-ℤ◌, ◌^◌, ◌≡◌, ◌≤◌}
+use Rattle.std.proofs.Common.{arith, refl, ◌∙◌}
 use Rattle.std.proofs.lemmas.Int.{ints}
-use Rattle.arbitrary_base.specs.Range.{lo, hi}
-use Rattle.arbitrary_base.specs.Residue.{Congruent}
 use Rattle.arbitrary_base.specs.Operation.{wrapped_difference, wrapped_sum}
+use Rattle.arbitrary_base.specs.Range.{hi, lo}
+use Rattle.arbitrary_base.specs.Residue.{Congruent}
 use Rattle.arbitrary_base.proofs.modular.Congruence.{Congruent-refl}
 use Rattle.arbitrary_base.proofs.operations.WrappedRing.{by-congruence, difference-congruent, difference-in_range, sum-congruent, sum-in_range}
 

@@ -1,15 +1,17 @@
--- A number under `^` with itself shifted: Gray codes, and generators of random numbers by shifts and `^`.
-use Rattle.std.specs.Prelude.{◌≡◌, ℕ, ℤ, Bool, false, pos, negsuc, ◌≤◌, ◌<◌, ◌+◌, ◌/◌, ◌^◌}
+-- TODO arbitrary_laws.proofs.shifts.Folding
 use Rattle.std.specs.Int.{int_shr}
-use Rattle.std.proofs.Common.{sym, ap, ◌∙◌, arith, lit≤, pow-add}
+use Rattle.std.specs.Prelude.{Bool, false, negsuc, pos, ℕ, ℤ, ◌+◌, ◌/◌, ◌<◌, ◌^◌, ◌≡◌, ◌≤◌}
+use Rattle.std.proofs.Common.{ap, arith, lit≤, pow-add, sym, ◌∙◌}
 use Rattle.std.proofs.Math.Nat.{div-div-eq-div-mul, div-eq_of_lt, pow-le-pow_right}
 use Rattle.std.proofs.lemmas.Int.{ints}
 use Rattle.std.proofs.lemmas.Nat.{pow_pos}
-use Rattle.arbitrary_base.specs.Range.{InRange}
 use Rattle.arbitrary_base.specs.Operation.{bitwise_xor, shifted_right}
+use Rattle.arbitrary_base.specs.Range.{InRange}
 use Rattle.arbitrary_base.proofs.bit_lists.SignBit.{InRange-int_shr}
-use Rattle.arbitrary_base.proofs.operations.Bitwise.{bitwise_xor-associates, bitwise_xor-commutes, bitwise_xor-undoes, bitwise_xor-zero}
-use Rattle.arbitrary_base.proofs.operations.Shift.{shifted_right-is_shr, shifted_right-twice, shifted_right-xor}
+use Rattle.arbitrary_base.proofs.operations.Bitwise.{bitwise_xor-commutes}
+use Rattle.arbitrary_base.proofs.operations.Shift.{shifted_right-is_shr, shifted_right-xor}
+use Rattle.arbitrary_laws.proofs.bits.Identities.{bitwise_xor-associates, bitwise_xor-undoes, bitwise_xor-zero}
+use Rattle.arbitrary_laws.proofs.shifts.ShiftAndBack.{shifted_right-twice}
 
 shr-past : (B n k : ℕ) → n < 2 ^ B → B ≤ k → n / 2 ^ k ≡ 0
 shr-past B n k h g = let p : 2 ^ B ≤ 2 ^ k = pow-le-pow_right (lit≤ tt) g in div-eq_of_lt (omega arith)

@@ -1,10 +1,10 @@
--- The laws of sums and differences told by the bits that two numbers share, and those that only one of them has: the carries and the borrows.
-use Rattle.std.specs.Prelude.{◌≡◌, ℕ, ℤ, Bool, pos, ◌≤◌, ◌+ℤ◌, map, not}
-use Rattle.std.proofs.Common.{ap, subst, ◌∙◌, arith}
+-- TODO arbitrary_laws.proofs.sums.Carry
+use Rattle.std.specs.Prelude.{Bool, map, not, pos, ℕ, ℤ, ◌+ℤ◌, ◌≡◌, ◌≤◌}
+use Rattle.std.proofs.Common.{ap, arith, subst, ◌∙◌}
 use Rattle.std.proofs.lemmas.Int.{ints}
-use Rattle.arbitrary_base.specs.Residue.{Congruent}
-use Rattle.arbitrary_base.specs.BitList.{bits, num, bits_and}
+use Rattle.arbitrary_base.specs.BitList.{bits, bits_and, num}
 use Rattle.arbitrary_base.specs.Operation.{bitwise_and, bitwise_not, bitwise_or, bitwise_xor, wrapped_difference, wrapped_sum}
+use Rattle.arbitrary_base.specs.Residue.{Congruent}
 use Rattle.arbitrary_base.proofs.bit_lists.Pointwise.{and-comm}
 use Rattle.arbitrary_base.proofs.bit_lists.UnsignedNumber.{same_length}
 use Rattle.arbitrary_base.proofs.operations.BitsAndSums.{and-in_range, natural, num-and_not, num-or_and, num-xor_and, of-list, or-in_range, xor-in_range}

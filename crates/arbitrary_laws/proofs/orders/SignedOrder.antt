@@ -1,14 +1,14 @@
--- Which of a signed number and its `&` or `|` with another is the greater: that depends on the two signs alone.
-use Rattle.std.specs.Prelude.{◌↔◌, ◌⊎◌, ℕ, ℤ, true, pos, ◌≤◌, ◌≤ℤ◌, ◌<ℤ◌}
-use Rattle.std.proofs.Common.{refl, arith}
+-- TODO arbitrary_laws.proofs.orders.SignedOrder
+use Rattle.std.specs.Prelude.{pos, true, ℕ, ℤ, ◌<ℤ◌, ◌↔◌, ◌≤ℤ◌, ◌≤◌, ◌⊎◌}
+use Rattle.std.proofs.Common.{arith, refl}
 use Rattle.std.proofs.lemmas.Int.{ints}
-use Rattle.arbitrary_base.specs.Range.{InRange}
 use Rattle.arbitrary_base.specs.Operation.{bitwise_and, bitwise_not, bitwise_or}
+use Rattle.arbitrary_base.specs.Range.{InRange}
 use Rattle.arbitrary_base.proofs.bit_lists.StdBitwise.{not-signed}
 use Rattle.arbitrary_base.proofs.operations.Bitwise.{bitwise_and-commutes}
 use Rattle.arbitrary_base.proofs.operations.Definition.{not-in_range, not-is}
-use Rattle.arbitrary_base.proofs.operations.KnownMask.{and-by_complement, or-by_and}
-use Rattle.arbitrary_base.proofs.operations.Order.{and-negative}
+use Rattle.arbitrary_laws.proofs.masks.NumberUnderMask.{and-by_complement, or-by_and}
+use Rattle.arbitrary_laws.proofs.orders.Order.{and-negative}
 
 -- what `&` takes from x is `x & !y`
 pub and-at_most : (B : ℕ) (x y : ℤ) → 1 ≤ B → InRange true B x → InRange true B y

@@ -1,19 +1,20 @@
 -- Rotations to the right beside the other operations, and any two rotations in either order, by amounts that may vary.
--- For callers: `#![tactic(auto, using(arbitrary_laws::proofs::shifts::RightRotations::right_rotations))]`.
-use Rattle.std.specs.Prelude.{◌≡◌, ◌≤◌, ◌+◌, ◌-◌, ℕ, ℤ, Bool, List, length}
+-- For callers: `#![tactic(auto, using(arbitrary_laws::proofs::rotations::RightRotations::right_rotations))]`.
 use Rattle.std.specs.List.{slice_rotate_right}
-use Rattle.std.proofs.Common.{inl, inr, sym, ap, ◌∙◌, arith}
+use Rattle.std.specs.Prelude.{Bool, List, length, ℕ, ℤ, ◌+◌, ◌-◌, ◌≡◌, ◌≤◌}
+use Rattle.std.proofs.Common.{ap, arith, inl, inr, sym, ◌∙◌}
 use Rattle.std.proofs.lemmas.Bool.{cases_lt}
 use Rattle.std.proofs.lemmas.Bool.Decides.{Decides-int_eq}
 use Rattle.arbitrary_base.specs.BitList.{bits}
 use Rattle.arbitrary_base.specs.Operation.{rotated_left, rotated_right}
-use Rattle.arbitrary_base.proofs.bit_lists.Movement.{length-rotr, rotr}
-use Rattle.arbitrary_base.proofs.bit_lists.Rotation.{rotr-long, rotr-short}
+use Rattle.arbitrary_base.proofs.bit_lists.Movement.{length-rotr}
 use Rattle.arbitrary_base.proofs.bit_lists.UnsignedNumber.{length-bits}
-use Rattle.arbitrary_base.proofs.operations.Cancellation.{right_rotations-equal}
-use Rattle.arbitrary_base.proofs.operations.Definition.{bits-rotl, bits-rotr, by-bits, rotl-is, rotr-is}
-use Rattle.arbitrary_base.proofs.operations.PopulationAndRuns.{popcount-of_right}
-use Rattle.arbitrary_base.proofs.operations.RotateAndReverse.{left-undoes_right, reversed-rotated_left, reversed-rotated_right, right-undoes_left, rotated_right-and, rotated_right-highest, rotated_right-minus_one, rotated_right-none, rotated_right-not, rotated_right-not_zero, rotated_right-or, rotated_right-round, rotated_right-twice, rotated_right-xor, rotated_right-zero}
+use Rattle.arbitrary_base.proofs.operations.Definition.{bits-rotl, by-bits, rotl-is, rotr-is}
+use Rattle.arbitrary_base.proofs.operations.RotateAndReverse.{reversed-rotated_left, rotated_right-none}
+use Rattle.arbitrary_laws.proofs.counts.Population.{popcount-of_right}
+use Rattle.arbitrary_laws.proofs.orders.EqualResults.{right_rotations-equal}
+use Rattle.arbitrary_laws.proofs.rotations.RotatedLists.{bits-rotr, rotr-long, rotr-short}
+use Rattle.arbitrary_laws.proofs.rotations.RotationsAndReversals.{left-undoes_right, reversed-rotated_right, right-undoes_left, rotated_right-and, rotated_right-highest, rotated_right-minus_one, rotated_right-not, rotated_right-not_zero, rotated_right-or, rotated_right-round, rotated_right-twice, rotated_right-xor, rotated_right-zero}
 
 -- ---- two rotations, in either order
 

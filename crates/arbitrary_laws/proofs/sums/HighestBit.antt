@@ -1,16 +1,17 @@
--- A sum or a difference with the highest bit turns that bit and no other: the carry out of it is lost.
-use Rattle.std.specs.Prelude.{◌≡◌, ℕ, ℤ, Bool, pos, negsuc, unsigned_abs, ◌≤◌, ◌*◌, ◌^◌, ◌+ℤ◌, ◌-ℤ◌, neg_ℤ}
-use Rattle.std.proofs.Common.{refl, sym, ap, ◌∙◌, arith}
+-- TODO arbitrary_laws.proofs.sums.HighestBit
+use Rattle.std.specs.Prelude.{Bool, neg_ℤ, negsuc, pos, unsigned_abs, ℕ, ℤ, ◌*◌, ◌+ℤ◌, ◌-ℤ◌, ◌^◌, ◌≡◌, ◌≤◌}
+use Rattle.std.proofs.Common.{ap, arith, refl, sym, ◌∙◌}
 use Rattle.std.proofs.lemmas.Int.{ints}
-use Rattle.arbitrary_base.specs.Residue.{Congruent}
 use Rattle.arbitrary_base.specs.Operation.{bitwise_and, bitwise_xor, wrapped_difference, wrapped_sum}
+use Rattle.arbitrary_base.specs.Residue.{Congruent}
 use Rattle.arbitrary_base.proofs.modular.Congruence.{Congruent-refl, Congruent-trans}
-use Rattle.arbitrary_base.proofs.operations.BitsAndSums.{sum-twice, xor-in_range}
-use Rattle.arbitrary_base.proofs.operations.Bitwise.{bitwise_and-zero}
-use Rattle.arbitrary_base.proofs.operations.Carry.{sum-with_carry}
+use Rattle.arbitrary_base.proofs.operations.BitsAndSums.{xor-in_range}
 use Rattle.arbitrary_base.proofs.operations.Definition.{zero-in_range}
 use Rattle.arbitrary_base.proofs.operations.Shift.{shifted_left-and}
 use Rattle.arbitrary_base.proofs.operations.WrappedRing.{by-congruence, difference-congruent, difference-in_range, sum-congruent, sum-in_range, wrapped_sum-zero}
+use Rattle.arbitrary_laws.proofs.bits.Identities.{bitwise_and-zero}
+use Rattle.arbitrary_laws.proofs.sums.BitsBesideSums.{sum-twice}
+use Rattle.arbitrary_laws.proofs.sums.Carry.{sum-with_carry}
 
 -- the double of the highest bit, with or without a sign
 double : (B : ℕ) (y : ℤ) → unsigned_abs y * 2 ≡ 2 ^ B → Congruent B (y +ℤ y) (pos 0)

@@ -1,20 +1,20 @@
 -- How many zeros stand at an end of a number, by its own digits: a width adds zeros above them, and none below.
-use Rattle.std.specs.Prelude.{◌≡◌, ◌⊎◌, ℕ, zero, suc, ℤ, Bool, true, false, pos, negsuc, unsigned_abs, ◌∷◌, ◌==◌, ◌≤◌, ◌<◌, ◌+◌, ◌-◌, ◌*◌, ◌/◌, ◌%◌, ◌^◌, ◌≤ℤ◌}
 use Rattle.std.specs.Bool.{beq}
-use Rattle.std.specs.List.{prefix_len, suffix_len}
 use Rattle.std.specs.Int.Count.{count_leading_zeros, count_trailing_zeros, leading_of_zero, leading_unique, under}
-use Rattle.std.proofs.Common.{refl, sym, ap, ◌∙◌, arith, inl, inr, pow-suc}
+use Rattle.std.specs.List.{prefix_len, suffix_len}
+use Rattle.std.specs.Prelude.{Bool, false, negsuc, pos, suc, true, unsigned_abs, zero, ℕ, ℤ, ◌%◌, ◌*◌, ◌+◌, ◌-◌, ◌/◌, ◌<◌, ◌==◌, ◌^◌, ◌∷◌, ◌≡◌, ◌≤ℤ◌, ◌≤◌, ◌⊎◌}
+use Rattle.std.proofs.Common.{ap, arith, inl, inr, pow-suc, refl, sym, ◌∙◌}
 use Rattle.std.proofs.Math.Pow.{pow_mono}
 use Rattle.std.proofs.lemmas.Bool.{cases_lt}
 use Rattle.std.proofs.lemmas.Grind.{bit_length, low_zeros}
 use Rattle.std.proofs.lemmas.Int.{ints}
 use Rattle.std.proofs.lemmas.Nat.{pow_pos}
-use Rattle.arbitrary_base.specs.Range.{InRange}
 use Rattle.arbitrary_base.specs.BitList.{bits, num}
-use Rattle.arbitrary_base.proofs.modular.Congruence.{pow_half}
+use Rattle.arbitrary_base.specs.Range.{InRange}
 use Rattle.arbitrary_base.proofs.bit_lists.Count.{leading-num}
 use Rattle.arbitrary_base.proofs.bit_lists.UnsignedNumber.{length-bits, num-bits_small}
-use Rattle.arbitrary_base.proofs.operations.PopulationAndRuns.{front-of_zero}
+use Rattle.arbitrary_base.proofs.modular.Congruence.{pow_half}
+use Rattle.arbitrary_calls.proofs.counts.EndCounts.{front-of_zero}
 
 -- ---- at the high end
 

@@ -1,25 +1,27 @@
--- What the tests of two numbers tell, and the laws of order beside bits, sums and shifts.
-use Rattle.std.specs.Prelude.{◌≡◌, ◌↔◌, ◌⊎◌, ℕ, ℤ, Bool, false, true, not, ◌&&◌, ◌||◌, pos, negsuc, int_lt, ◌≤◌, ◌+ℤ◌, ◌-ℤ◌, ◌≤ℤ◌, ◌<ℤ◌}
+-- What the tests of two numbers tell, and the order beside bits, sums and shifts. SignedOrder.antt has `&` and `|` of signed numbers.
 use Rattle.std.specs.Bool.{Decides, beq}
 use Rattle.std.specs.Cmp.{int_ranks}
 use Rattle.std.specs.Int.{int_shr}
-use Rattle.std.specs.Ordering.{int_cmp, is_le, is_lt, is_ge, is_gt}
-use Rattle.std.proofs.Common.{refl, sym, ap, ap₂, ◌∙◌, arith, inl, inr}
+use Rattle.std.specs.Ordering.{int_cmp, is_ge, is_gt, is_le, is_lt}
+use Rattle.std.specs.Prelude.{Bool, false, int_lt, negsuc, not, pos, true, ℕ, ℤ, ◌&&◌, ◌+ℤ◌, ◌-ℤ◌, ◌<ℤ◌, ◌||◌, ◌↔◌, ◌≡◌, ◌≤ℤ◌, ◌≤◌, ◌⊎◌}
+use Rattle.std.proofs.Common.{ap, ap₂, arith, inl, inr, refl, sym, ◌-◌, ◌<◌, ◌^◌, ◌∙◌}
 use Rattle.std.proofs.Math.Pow.{shr_mono}
 use Rattle.std.proofs.lemmas.Int.{ints}
-use Rattle.arbitrary_base.specs.Range.{InRange, lo, hi}
-use Rattle.arbitrary_base.specs.Saturation.{clamp}
+use Rattle.std.proofs.lemmas.Nat.{pow_pos}
 use Rattle.arbitrary_base.specs.BitList.{bits, fill, num}
 use Rattle.arbitrary_base.specs.Operation.{bitwise_and, bitwise_or, bitwise_xor, shifted_right}
+use Rattle.arbitrary_base.specs.Range.{InRange, hi, lo}
+use Rattle.arbitrary_base.specs.Saturation.{clamp}
 use Rattle.arbitrary_base.proofs.bit_lists.Pointwise.{pointwise}
-use Rattle.arbitrary_base.proofs.bit_lists.SignBit.{fill-is_negative}
-use Rattle.arbitrary_base.proofs.bit_lists.UnsignedNumber.{same_length}
+use Rattle.arbitrary_base.proofs.bit_lists.SignBit.{last-natural, last-not}
 use Rattle.arbitrary_base.proofs.bit_lists.StdBitwise.{num-and_right}
+use Rattle.arbitrary_base.proofs.bit_lists.TwosComplement.{bits-negsuc}
+use Rattle.arbitrary_base.proofs.bit_lists.UnsignedNumber.{length-bits, same_length}
 use Rattle.arbitrary_base.proofs.operations.BitsAndSums.{and-in_range, num-or_and, num-xor_and, or-in_range, plain, xor-in_range}
 use Rattle.arbitrary_base.proofs.operations.Definition.{bits-and, bits-or, bits-xor}
+use Rattle.arbitrary_base.proofs.operations.Shift.{fill-pointwise, shifted_right-is_shr}
 use Rattle.arbitrary_base.proofs.storages.CheckedSum.{three_ways}
 use Rattle.arbitrary_base.proofs.storages.Clamp.{clamp-above, clamp-fits}
-use Rattle.arbitrary_base.proofs.operations.Shift.{fill-pointwise, shifted_right-is_shr}
 
 -- ---- the tests
 
@@ -128,3 +130,18 @@ pub shifted_right-keeps_order : (s : Bool) (B : ℕ) (x y : ℤ) (k : ℕ) → 1
     → shifted_right s B x k ≤ℤ shifted_right s B y k
 shifted_right-keeps_order s B x y k h g e f l =
     rw (shifted_right-is_shr s B x k h g e, shifted_right-is_shr s B y k h g f) (int_shr-keeps_order k x y l)
+
+-- ---- the last bit
+
+-- the last bit tells whether a number with a sign is below 0
+pub fill-is_negative : (B : ℕ) (x : ℤ) → 1 ≤ B → InRange true B x → fill true (bits B x) ≡ int_lt x (pos 0)
+fill-is_negative B (pos n) h r =
+    let t = r.high in
+    let p = pow_pos (B - 1) in
+    let e : int_lt (pos n) (pos 0) ≡ false = grind (arith, ints) in
+    last-natural B n h (omega (arith, ints)) ∙ sym e
+fill-is_negative B (negsuc n) h r =
+    let t = r.low in
+    let p = pow_pos (B - 1) in
+    let small : n < 2 ^ (B - 1) = omega (arith, ints) in
+    rw (bits-negsuc B n, last-not (bits B (pos n)) (omega (arith, length-bits B (pos n))), last-natural B n h small) refl

@@ -1,16 +1,17 @@
--- A rotation of a number from 0 up, by quotient and remainder: what is pushed out at one end comes in at the other.
-use Rattle.std.specs.Prelude.{◌≡◌, ℕ, ℤ, Bool, List, length, false, pos, unsigned_abs, ◌≤◌, ◌+◌, ◌-◌, ◌*◌, ◌/◌, ◌%◌, ◌^◌}
-use Rattle.std.proofs.Common.{refl, ap, subst, sym, ◌∙◌, arith}
-use Rattle.arbitrary_base.specs.Range.{InRange}
+-- TODO arbitrary_laws.proofs.rotations.RotatedNumber
+use Rattle.std.specs.Prelude.{Bool, List, false, length, pos, unsigned_abs, ℕ, ℤ, ◌%◌, ◌*◌, ◌+◌, ◌-◌, ◌/◌, ◌^◌, ◌≡◌, ◌≤◌}
+use Rattle.std.proofs.Common.{ap, arith, refl, subst, sym, ◌∙◌}
 use Rattle.arbitrary_base.specs.BitList.{bits, num, val}
 use Rattle.arbitrary_base.specs.Operation.{rotated_left, rotated_right}
-use Rattle.arbitrary_base.proofs.modular.Residue.{wrap-in_range}
+use Rattle.arbitrary_base.specs.Range.{InRange}
 use Rattle.arbitrary_base.proofs.bit_lists.Movement.{length-rotl, length-rotr, num-rotl, num-rotr}
 use Rattle.arbitrary_base.proofs.bit_lists.StdBitwise.{num-plain}
 use Rattle.arbitrary_base.proofs.bit_lists.TwosComplement.{val-num}
 use Rattle.arbitrary_base.proofs.bit_lists.UnsignedNumber.{length-bits}
+use Rattle.arbitrary_base.proofs.modular.Residue.{wrap-in_range}
 use Rattle.arbitrary_base.proofs.operations.BitsAndSums.{plain}
-use Rattle.arbitrary_base.proofs.operations.Definition.{bits-rotl, bits-rotr, rotl-is, rotr-is}
+use Rattle.arbitrary_base.proofs.operations.Definition.{bits-rotl, rotl-is, rotr-is}
+use Rattle.arbitrary_laws.proofs.rotations.RotatedLists.{bits-rotr}
 
 value-in_range : (s : Bool) (B : ℕ) (l : List Bool) (x : ℤ) → 1 ≤ B → length l ≡ B → x ≡ val s l → InRange s B x
 value-in_range s B l x h n e = subst (InRange s B) (sym (e ∙ val-num s B l n)) (wrap-in_range s B _ h)

@@ -1,24 +1,24 @@
 -- What the counts of zeros at an end say of the number.
-use Rattle.std.specs.Prelude.{◌≡◌, ◌≢◌, ℕ, ℤ, Bool, true, false, List, [], ◌∷◌, length, pos, negsuc, ◌+◌, ◌-◌, ◌*◌, ◌%◌, ◌/◌, ◌^◌, ◌<◌, ◌≤◌, ◌+ℤ◌, ◌<ℤ◌, ◌≤ℤ◌}
 use Rattle.std.specs.Bool.{beq}
-use Rattle.std.specs.List.{suffix_len, prefix_len, count_by}
 use Rattle.std.specs.Int.Count.{count_leading_zeros}
-use Rattle.std.proofs.Common.{refl, sym, ap, arith, ◌∙◌, zero, suc, inl, inr}
+use Rattle.std.specs.List.{count_by, prefix_len, suffix_len}
+use Rattle.std.specs.Prelude.{Bool, List, [], false, length, negsuc, pos, true, ℕ, ℤ, ◌%◌, ◌*◌, ◌+ℤ◌, ◌+◌, ◌-◌, ◌/◌, ◌<ℤ◌, ◌<◌, ◌^◌, ◌∷◌, ◌≡◌, ◌≢◌, ◌≤ℤ◌, ◌≤◌}
+use Rattle.std.proofs.Common.{ap, arith, inl, inr, refl, suc, sym, zero, ◌∙◌}
 use Rattle.std.proofs.Math.Nat.{pow-suc}
-use Rattle.std.proofs.lemmas.Int.{ints}
 use Rattle.std.proofs.lemmas.Bool.{cases_lt}
-use Rattle.std.proofs.lemmas.Nat.{pow_pos, leading_length}
+use Rattle.std.proofs.lemmas.Int.{ints}
+use Rattle.std.proofs.lemmas.Nat.{leading_length, pow_pos}
+use Rattle.arbitrary_base.specs.BitList.{bits, num}
 use Rattle.arbitrary_base.specs.Range.{InRange}
 use Rattle.arbitrary_base.specs.Residue.{Congruent, residue}
-use Rattle.arbitrary_base.specs.BitList.{bits, num}
 use Rattle.arbitrary_base.proofs.bit_lists.Count.{front-fits, leading-num}
-use Rattle.arbitrary_base.proofs.bit_lists.UnsignedNumber.{length-bits}
 use Rattle.arbitrary_base.proofs.bit_lists.TwosComplement.{num-bits_residue}
-use Rattle.arbitrary_base.proofs.modular.Congruence.{Congruent-narrower, Congruent-trans, Congruent-sym, pow_half, pow_le}
-use Rattle.arbitrary_base.proofs.operations.PopulationAndRuns.{front-of_zero, tail-of_zero, no_ones-of_zero, zero-of_no_ones}
+use Rattle.arbitrary_base.proofs.bit_lists.UnsignedNumber.{length-bits}
+use Rattle.arbitrary_base.proofs.modular.Congruence.{Congruent-narrower, Congruent-sym, Congruent-trans, pow_half, pow_le}
+use Rattle.arbitrary_base.proofs.modular.Residue.{residue-congruent, residue-lt, wrap-unique}
 use Rattle.arbitrary_base.proofs.modular.Truncation.{residue-wrap}
 use Rattle.arbitrary_base.proofs.storages.Primitive.{residue-pos}
-use Rattle.arbitrary_base.proofs.modular.Residue.{residue-lt, residue-congruent, wrap-unique}
+use Rattle.arbitrary_calls.proofs.counts.EndCounts.{front-of_zero, no_ones-of_zero, tail-of_zero, zero-of_no_ones}
 
 -- ---- the residue of a number in range
 

@@ -1,20 +1,21 @@
 -- What the counts of ones at an end say of the number: they are the zeros of its complement.
-use Rattle.std.specs.Prelude.{◌≡◌, ◌≢◌, ℕ, ℤ, zero, suc, Bool, true, false, ◌∷◌, pos, negsuc, neg_ℤ, ◌+◌, ◌-◌, ◌%◌, ◌^◌, ◌<◌, ◌≤◌, ◌-ℤ◌, ◌*ℤ◌, ◌<ℤ◌, ◌≤ℤ◌, ◌==◌, unsigned_abs}
 use Rattle.std.specs.Bool.{beq}
-use Rattle.std.specs.List.{suffix_len, prefix_len, count_by}
 use Rattle.std.specs.Int.{int_div_euclid}
-use Rattle.std.proofs.Common.{refl, sym, ap, arith, ◌∙◌}
+use Rattle.std.specs.List.{count_by, prefix_len, suffix_len}
+use Rattle.std.specs.Prelude.{Bool, false, neg_ℤ, negsuc, pos, suc, true, unsigned_abs, zero, ℕ, ℤ, ◌%◌, ◌*ℤ◌, ◌+◌, ◌-ℤ◌, ◌-◌, ◌<ℤ◌, ◌<◌, ◌==◌, ◌^◌, ◌∷◌, ◌≡◌, ◌≢◌, ◌≤ℤ◌, ◌≤◌}
+use Rattle.std.proofs.Common.{ap, arith, refl, sym, ◌∙◌}
 use Rattle.std.proofs.lemmas.Int.{ints}
 use Rattle.std.proofs.lemmas.Nat.{pow_pos}
-use Rattle.arbitrary_base.specs.Range.{InRange}
-use Rattle.arbitrary_base.specs.Residue.{Congruent}
 use Rattle.arbitrary_base.specs.BitList.{bits}
 use Rattle.arbitrary_base.specs.Operation.{bitwise_not}
+use Rattle.arbitrary_base.specs.Range.{InRange}
+use Rattle.arbitrary_base.specs.Residue.{Congruent}
 use Rattle.arbitrary_base.proofs.bit_lists.StdBitwise.{not-signed, not-unsigned}
 use Rattle.arbitrary_base.proofs.modular.Congruence.{pow_half, pow_le}
-use Rattle.arbitrary_base.proofs.operations.ZeroRunBounds.{leading-found, leading-high, leading-low, leading-negative, leading-none, popcount-some, trailing-found}
-use Rattle.arbitrary_base.proofs.operations.PopulationAndRuns.{front-of_minus_one, front_zeros-of_not, no_ones-of_zero, popcount-of_highest, popcount-of_minus_one, popcount-of_not, tail-of_minus_one, tail_zeros-of_not}
 use Rattle.arbitrary_base.proofs.operations.Definition.{not-in_range, not-is}
+use Rattle.arbitrary_base.proofs.operations.PopulationAndRuns.{front_zeros-of_not, popcount-of_not, tail_zeros-of_not}
+use Rattle.arbitrary_calls.proofs.counts.EndCounts.{front-of_minus_one, no_ones-of_zero, popcount-of_highest, popcount-of_minus_one, tail-of_minus_one}
+use Rattle.arbitrary_calls.proofs.counts.ZeroRunBounds.{leading-found, leading-high, leading-low, leading-negative, leading-none, popcount-some, trailing-found}
 
 -- ---- the complement
 

@@ -1,8 +1,8 @@
 -- A run at one end beside the whole count: zeros and ones don't overlap, and one of two runs at an end is empty.
-use Rattle.std.specs.Prelude.{◌≡◌, ◌⊎◌, ℕ, ℤ, Bool, true, false, List, [], ◌∷◌, ◌++◌, length, reverse, ◌≤◌, ◌+◌}
 use Rattle.std.specs.Bool.{beq}
 use Rattle.std.specs.List.{count_by, prefix_len, suffix_len}
-use Rattle.std.proofs.Common.{refl, ap, arith, inl, inr}
+use Rattle.std.specs.Prelude.{Bool, List, [], false, length, reverse, true, ℕ, ℤ, ◌++◌, ◌+◌, ◌∷◌, ◌≡◌, ◌≤◌}
+use Rattle.std.proofs.Common.{ap, arith, refl}
 use Rattle.std.proofs.lemmas.List.{length-reverse}
 use Rattle.std.proofs.lemmas.List.Sums.{sum_by-append}
 use Rattle.arbitrary_base.specs.BitList.{bits}
@@ -45,16 +45,5 @@ front_ones-below_ones B x = front-ones_ones (bits B x)
 
 pub tail_ones-below_ones : (B : ℕ) (x : ℤ) → suffix_len (beq true) (bits B x) ≤ count_by (λ b. b) (bits B x)
 tail_ones-below_ones B x = omega (arith, front-ones_ones (reverse (bits B x)), reverse-ones (bits B x))
-
-one-end : (l : List Bool) → (prefix_len (beq false) l ≡ 0) ⊎ (prefix_len (beq true) l ≡ 0)
-one-end [] = inl refl
-one-end (true ∷ l) = inl refl
-one-end (false ∷ l) = inr refl
-
-pub front-alike_one : (B : ℕ) (x : ℤ) → (prefix_len (beq false) (bits B x) ≡ 0) ⊎ (prefix_len (beq true) (bits B x) ≡ 0)
-front-alike_one B x = one-end (bits B x)
-
-pub tail-alike_one : (B : ℕ) (x : ℤ) → (suffix_len (beq false) (bits B x) ≡ 0) ⊎ (suffix_len (beq true) (bits B x) ≡ 0)
-tail-alike_one B x = one-end (reverse (bits B x))
 
 pub ruleset zeros_beside_ones = (front_zeros-beside_ones, front_ones-below_ones)

@@ -1,12 +1,12 @@
 -- A rotation to the right as one to the left by the rest of the width, where the amount varies.
--- For callers: `#![tactic(auto, using(arbitrary_laws::proofs::shifts::BackRotations::back_rotations))]`.
-use Rattle.std.specs.Prelude.{◌≡◌, ◌⊎◌, ℕ, ℤ, Bool, zero, suc, ◌+◌, ◌-◌, ◌*◌, ◌/◌, ◌%◌, ◌≤◌, ◌<◌}
-use Rattle.std.proofs.Common.{sym, ap, arith, ◌∙◌, div-add-mod', inl, inr}
+-- For callers: `#![tactic(auto, using(arbitrary_laws::proofs::rotations::BackRotations::back_rotations))]`.
+use Rattle.std.specs.Prelude.{Bool, suc, zero, ℕ, ℤ, ◌%◌, ◌*◌, ◌+◌, ◌-◌, ◌/◌, ◌<◌, ◌≡◌, ◌≤◌, ◌⊎◌}
+use Rattle.std.proofs.Common.{ap, arith, div-add-mod', inl, inr, sym, ◌∙◌}
 use Rattle.std.proofs.Math.Nat.{div-eq_of_lt-le, mod-eq_of_lt}
 use Rattle.std.proofs.lemmas.Bool.{cases_lt}
 use Rattle.std.proofs.lemmas.Bool.Decides.{Decides-int_eq}
-use Rattle.arbitrary_base.specs.Range.{InRange}
 use Rattle.arbitrary_base.specs.Operation.{rotated_left, rotated_right}
+use Rattle.arbitrary_base.specs.Range.{InRange}
 use Rattle.arbitrary_base.proofs.operations.RotateAndReverse.{rotated_left-none, rotated_right-as_left, rotated_right-none}
 
 -- two amounts that make a whole round are told by a remainder: a case for none would split the search

@@ -1,14 +1,15 @@
--- Multiples of one number, added and taken from each other, wrapped: `(x << 3) + (x << 1)` is ten times x.
-use Rattle.std.specs.Prelude.{◌≡◌, ℕ, ℤ, Bool, false, pos, negsuc, ◌≤◌, ◌+ℤ◌, ◌-ℤ◌, ◌*ℤ◌}
-use Rattle.std.proofs.Common.{sym, ap, ap₂, ◌∙◌, arith}
-use Rattle.std.proofs.lemmas.Int.{ints}
+-- TODO arbitrary_laws.proofs.sums.Multiple
+use Rattle.std.specs.Prelude.{Bool, false, negsuc, pos, ℕ, ℤ, ◌*ℤ◌, ◌+ℤ◌, ◌-ℤ◌, ◌≡◌, ◌≤◌}
+use Rattle.std.proofs.Common.{ap, ap₂, arith, sym, ◌∙◌}
 use Rattle.std.proofs.Math.IntN.{*ℤ_comm}
+use Rattle.std.proofs.lemmas.Int.{ints}
+use Rattle.arbitrary_base.specs.Operation.{wrapped_difference, wrapped_product, wrapped_sum}
 use Rattle.arbitrary_base.specs.Range.{hi}
 use Rattle.arbitrary_base.specs.Residue.{Congruent}
-use Rattle.arbitrary_base.specs.Operation.{wrapped_difference, wrapped_product, wrapped_sum}
 use Rattle.arbitrary_base.proofs.integers.Ring.{add-mul_z, sub-mul_z}
 use Rattle.arbitrary_base.proofs.modular.Congruence.{Congruent-refl}
-use Rattle.arbitrary_base.proofs.operations.WrappedRing.{by-congruence, difference-congruent, difference-in_range, product-congruent, product-in_range, sum-congruent, sum-in_range, wrapped_product-two}
+use Rattle.arbitrary_base.proofs.operations.WrappedRing.{by-congruence, difference-congruent, difference-in_range, product-congruent, product-in_range, sum-congruent, sum-in_range}
+use Rattle.arbitrary_laws.proofs.sums.Ring.{wrapped_product-two}
 
 times-sum : (x a b : ℤ) → x *ℤ a +ℤ x *ℤ b ≡ x *ℤ (a +ℤ b)
 times-sum x a b = ap₂ (λ (c d : ℤ). c +ℤ d) (*ℤ_comm x a) (*ℤ_comm x b) ∙ sym (add-mul_z a b x) ∙ *ℤ_comm (a +ℤ b) x

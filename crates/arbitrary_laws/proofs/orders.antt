@@ -1,0 +1,3 @@
+pub mod EqualResults
+pub mod Order
+pub mod SignedOrder

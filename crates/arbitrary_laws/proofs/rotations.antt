@@ -1,0 +1,5 @@
+pub mod BackRotations
+pub mod RightRotations
+pub mod RotatedLists
+pub mod RotatedNumber
+pub mod RotationsAndReversals
