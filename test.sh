@@ -29,11 +29,11 @@ programs=(crates/bitrun/out/bitrun crates/bitrun/out/bitrun.by-rattle)
 python3 tools/endings.py "${programs[@]}"
 python3 tools/fuzz.py "${programs[@]}"
 # the conditions of the calls at each type, eight that the commit chooses
-python3 tools/wrong_bodies.py --some 8 test_bounds_core test_bounds
+python3 tools/wrong_bodies.py --some 8 bounds_core bounds
 # the lines that docs/PROVING.md calls refused
-python3 tools/wrong_bodies.py test_pages
+python3 tools/wrong_bodies.py pages
 # wrong laws, eight that the commit chooses
-python3 tools/wrong_bodies.py --some 8 test_laws test_bit_laws test_shift_laws test_sum_laws test_generic_laws test_number_laws test_count_laws
+python3 tools/wrong_bodies.py --some 8 laws_operations laws_bits laws_shifts laws_sums laws_generic laws_numbers laws_counts
 # what the libraries promise, four that the commit chooses
 python3 tools/wrong_bodies.py --some 4 \
     arbitrary_base/{checked_sum_wraps,clamps_an_odd_power_of_a_negative_base_to_the_greatest_number} \

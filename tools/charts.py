@@ -234,8 +234,8 @@ def layers():
     x, width = 10 + 2 * (third + gap), full - 2 * (third + gap)
     parts.append(box(x, 10, width, 3 * high + 2 * gap, 'none', GREY, 5))
     others = [
-        'tests and a benchmark', 'test_facts, test_.._facts', 'test_programs, test_words', 'test_laws, test_.._laws',
-        'test_pages, test_bounds, test_bounds_core', 'test_widths, test_differential', 'test_vectors_.., test_call_examples', 'bench_calls',
+        'tests and a benchmark', 'facts_numbers, facts_bits, ..', 'programs', 'laws_words, laws_bits, ..',
+        'pages, bounds', 'vectors_base, vectors_calls, ..', 'bench_calls',
     ]
     for place, said in enumerate(others):
         parts.append(text(x + width / 2, 34 + 22 * place, said, 'middle', 12, GREY, 'normal' if place else 'bold'))

@@ -2,7 +2,7 @@
 """document_examples.py [--write]
 
 Tells whether what the documents show is what the gate runs: the examples in docs/CALLS.md and the table "In Rust you wrote"
-in docs/DIFFERENCES.md are tests, the functions in the README and in docs/PROVING.md stand in crates/test_pages, and each
+in docs/DIFFERENCES.md are tests, the functions in the README and in docs/PROVING.md stand in crates/pages, and each
 line that docs/PROVING.md calls refused is an edit that the prover must refuse. With --write it writes the tests anew
 from the tables; run `rt fmt` in their crates afterwards.
 """
@@ -11,10 +11,10 @@ import sys
 from pathlib import Path
 
 ROOT = Path(__file__).resolve().parent.parent
-# The modules of tests that docs/CALLS.md makes, with what each brings in. A table runs in test_call_examples, unless its title is
+# The modules of tests that docs/CALLS.md makes, with what each brings in. A table runs in vectors_examples, unless its title is
 # named here.
 USES = {
-    'test_call_examples/src/calls.rt': [
+    'vectors_examples/src/calls.rt': [
         'use crate::same::same;', 'use arbitrary_int::prelude::*;',
         'use std::io::sink;', 'use std::test::Fail;',
     ],
@@ -23,8 +23,8 @@ USES = {
 ELSEWHERE = {'Fields in a record': 'bit_fields/src/vectors/calls.rt'}
 # How many examples one test has: what a proof takes grows with the square of a test's length.
 AT_ONCE = 8
-FROM_RUST = ROOT / 'crates/test_pages/src/from_rust.rt'
-PROVING = ROOT / 'crates/test_pages'
+FROM_RUST = ROOT / 'crates/pages/src/from_rust.rt'
+PROVING = ROOT / 'crates/pages'
 
 
 def tables(page):
@@ -64,7 +64,7 @@ def calls(module):
     line = 'same(&rt, {}, {});' if 'use crate::same::same;' in uses else 'assert_eq!(rt; {}, {});'
     lines = ['//! The examples of docs/CALLS.md.', '', *uses]
     for title, examples in tables('docs/CALLS.md'):
-        if ELSEWHERE.get(title, 'test_call_examples/src/calls.rt') == module:
+        if ELSEWHERE.get(title, 'vectors_examples/src/calls.rt') == module:
             lines += tests(re.sub(r'\W+', '_', title.lower()), [], examples, line)
     return '\n'.join(lines) + '\n'
 

@@ -4,7 +4,7 @@
 Tells whether the short names `u1` to `u127` and `i1` to `i127` each stand for the type over the smallest primitive
 that has room, and whether `arbitrary_int` gives all of them at its root and in its prelude; whether each width from 1 to 128
 has its impl of `HasWidth`, and each from 8 on that of `FitsIn`; whether both types have the constant `BITS` at each; and
-whether `test_widths` asks for the ends of both types at each. With --write it writes the two files of names, the four of
+whether `vectors_widths` asks for the ends of both types at each. With --write it writes the two files of names, the four of
 constants, the four of impls and the two of tests. 8, 16, 32 and 64 bits have no short name: they are primitives already.
 """
 import re
@@ -131,7 +131,7 @@ def main():
     signs = [('u', 'UInt', 'unsigned'), ('i', 'Int', 'signed')]
     core = CRATES / 'arbitrary_core/src'
     texts = {core / f'aliases/{module}.rt': definitions(letter, name, module) for letter, name, module in signs}
-    texts |= {CRATES / f'test_widths/src/{module}.rt': ends(letter, name, module) for letter, name, module in signs}
+    texts |= {CRATES / f'vectors_widths/src/{module}.rt': ends(letter, name, module) for letter, name, module in signs}
     for letter, name, module in signs:
         texts[core / f'bits/{module}_to_64.rt'] = constants(letter, name, module, 1, 64)
         texts[core / f'bits/{module}_to_128.rt'] = constants(letter, name, module, 65, 128)

@@ -1,5 +1,5 @@
 //! Test vectors of texts, bytes, streams and keys: each result was computed apart from the library. Those of the other calls stand
-//! in `test_vectors_calls`, and those of the base in `test_vectors_base`: three crates are proved side by side.
+//! in `vectors_calls`, and those of the base in `vectors_base`: three crates are proved side by side.
 #![tactic(auto)]
 
 #[cfg(test)]

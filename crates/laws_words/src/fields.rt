@@ -1,7 +1,7 @@
 //! Fields of a record, of the library's types and of primitives.
 
 ghost use Rattle.std.specs.Prelude.{◌≡◌, ◌/◌, ◌%◌, pos, IsTrue};
-ghost use Rattle.test_words.specs.Frame.{IsWritten};
+ghost use Rattle.laws_words.specs.Frame.{IsWritten};
 
 use arbitrary_int::prelude::*;
 use bit_fields::{Record, disjoint};
