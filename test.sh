@@ -15,7 +15,6 @@ python3 tools/charts.py
 python3 tools/api_index.py
 python3 tools/glossary.py
 python3 tools/document_examples.py
-python3 tools/find_set.py --listed
 python3 tools/believed.py
 python3 tools/bitrun_cases.py
 log="$(mktemp)"
@@ -29,11 +28,11 @@ programs=(crates/bitrun/out/bitrun crates/bitrun/out/bitrun.by-rattle)
 python3 tools/endings.py "${programs[@]}"
 python3 tools/fuzz.py "${programs[@]}"
 # the conditions of the calls at each type, eight that the commit chooses
-python3 tools/wrong_bodies.py --some 8 bounds_core bounds
+python3 tools/wrong_bodies.py --some 8 bounds
 # the lines that docs/PROVING.md calls refused
 python3 tools/wrong_bodies.py pages
 # wrong laws, eight that the commit chooses
-python3 tools/wrong_bodies.py --some 8 laws_operations laws_bits laws_shifts laws_sums laws_generic laws_numbers laws_counts
+python3 tools/wrong_bodies.py --some 8 laws_bits laws_shifts laws_sums laws_generic laws_numbers
 # what the libraries promise, four that the commit chooses
 python3 tools/wrong_bodies.py --some 4 \
     arbitrary_base/{checked_sum_wraps,clamps_an_odd_power_of_a_negative_base_to_the_greatest_number} \

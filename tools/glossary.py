@@ -13,8 +13,6 @@ ROOT = Path(__file__).resolve().parent.parent
 RETIRED = ROOT / 'tools/retired_words.txt'
 LIBRARIES = ['arbitrary_base', 'arbitrary_traits', 'arbitrary_core', 'arbitrary_calls', 'arbitrary_int', 'bit_fields']
 COLUMNS = 100
-# The module that keeps names of before 1.0.0 for users: it, and what is below a heading or on a line that names it, may have them.
-FORMER = 'former_names'
 # How many clause lines of the libraries are longer than that.
 LONG = 0
 
@@ -71,12 +69,8 @@ def main():
         for part in path.parts:
             if phrase.search(part) or name.search(part.split('.')[0]):
                 wrong.append(f'{path}: a retired word in the name {part}')
-        section = ''
         for number, line in enumerate(text.splitlines(), 1):
             line = line.replace('Answers.antt', '')
-            section = line if line.startswith('#') else section
-            if FORMER in str(file) + section + line:
-                continue
             found = phrase.search(line) or name.search(code(file, line))
             if found:
                 wrong.append(f'{path}:{number}: the retired word {found[1]}')

@@ -5,7 +5,6 @@
 pub mod borsh;
 pub mod byte_laws;
 pub mod byte_orders;
-pub mod former_names;
 pub mod laws;
 pub mod number;
 pub mod prelude;

@@ -1,10 +1,9 @@
 //! What most programs use: the types, their short names, the traits that give them their calls, and what sums,
 //! ranges and streams take. Each row of docs/CALLS.md compiles with this one import, so a new name of a row goes here.
-//! `traits` has the bounds of generic code too, and `former_names` the names of before 1.0.0.
+//! `traits` has the bounds of generic code too.
 
 pub use crate::borsh::{BorshDeserialize, BorshSerialize};
 pub use crate::byte_orders::ByteOrders;
-pub use crate::former_names::{FormerNames, PatternOf, SignedMate, UnsignedMate};
 pub use crate::ranges::range_inclusive;
 pub use crate::stepping::Stepping;
 pub use crate::totals::{try_product, try_sum};

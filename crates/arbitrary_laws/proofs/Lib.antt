@@ -1,5 +1,3 @@
-pub mod AllSets
-pub mod BitVector
 pub mod Everyday
 pub mod Sets
 pub mod bits

@@ -7,3 +7,4 @@ pub mod NegatedParts
 pub mod OwnBits
 pub mod Identities
 pub mod Parts
+pub mod Rulesets

@@ -1,2 +1,3 @@
 pub mod SwappedBytes
 pub mod StreamBytes
+pub mod Rulesets

@@ -6,3 +6,4 @@ pub mod NormalShifts
 pub mod Population
 pub mod RunsOfTwo
 pub mod TrailingZeros
+pub mod Rulesets

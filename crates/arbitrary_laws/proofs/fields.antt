@@ -12,3 +12,4 @@ pub mod ReadBack
 pub mod ReplacedField
 pub mod SideBySide
 pub mod SignedField
+pub mod Rulesets

@@ -6,3 +6,4 @@ pub mod MaskedResults
 pub mod VariableMasks
 pub mod WrittenMask
 pub mod NumberUnderMask
+pub mod Rulesets

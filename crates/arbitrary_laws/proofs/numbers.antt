@@ -5,3 +5,4 @@ pub mod QuotientParts
 pub mod Remainders
 pub mod TextLength
 pub mod WiderRanges
+pub mod Rulesets

@@ -1,3 +1,4 @@
 pub mod EqualResults
 pub mod Order
 pub mod SignedOrder
+pub mod Rulesets

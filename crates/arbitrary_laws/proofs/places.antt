@@ -9,3 +9,4 @@ pub mod OtherBits
 pub mod PrimitiveBit
 pub mod SingleBit
 pub mod VariablePlaces
+pub mod Rulesets

@@ -3,3 +3,4 @@ pub mod RightRotations
 pub mod RotatedLists
 pub mod RotatedNumber
 pub mod RotationsAndReversals
+pub mod Rulesets

@@ -5,3 +5,4 @@ pub mod Truncations
 pub mod VariableAmounts
 pub mod Folding
 pub mod ShiftAndBack
+pub mod Rulesets

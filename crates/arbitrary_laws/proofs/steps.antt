@@ -1,2 +1,3 @@
 pub mod StepWords
 pub mod RangeNumbers
+pub mod Rulesets

@@ -13,3 +13,4 @@ pub mod HighestBit
 pub mod Multiple
 pub mod Offset
 pub mod Ring
+pub mod Rulesets

@@ -7,3 +7,4 @@ pub mod KnownNumbers
 pub mod PositiveParts
 pub mod PositiveResults
 pub mod WrittenParts
+pub mod Rulesets

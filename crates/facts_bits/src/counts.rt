@@ -59,14 +59,14 @@ pub fn ones_of_all() -> u32
     u12::max_value().count_ones()
 }
 
-#[tactic(auto, using(arbitrary_laws::proofs::BitVector::known_counts))]
+#[tactic(auto, using(arbitrary_laws::proofs::counts::Rulesets::known_counts))]
 pub fn parity_of_one() -> bool
     ensures { IsTrue result }
 {
     u12::new(1).count_ones() % 2 == 1
 }
 
-#[tactic(auto, using(arbitrary_laws::proofs::BitVector::known_counts))]
+#[tactic(auto, using(arbitrary_laws::proofs::counts::Rulesets::known_counts))]
 pub fn count_of_a_number() -> u32
     ensures { result ≡ 4 }
 {

@@ -1,6 +1,6 @@
 //! One bit by its place, and the others, which stay.
 //! None has a proof of its own: the file names one set of laws.
-#![tactic(auto, using(arbitrary_laws::proofs::Sets::other_bits))]
+#![tactic(auto, using(arbitrary_laws::proofs::places::Rulesets::other_bits))]
 
 ghost use Rattle.std.specs.Prelude.{◌≡◌, ◌≢◌, ◌/◌, ◌%◌, ◌^◌, ◌-◌, ◌<ℤ◌, ℕ, pos, unsigned_abs};
 

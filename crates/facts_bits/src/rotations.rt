@@ -1,6 +1,6 @@
 //! Rotations.
 //! None has a proof of its own: the file names one set of laws.
-#![tactic(auto, using(arbitrary_laws::proofs::BitVector::rotations))]
+#![tactic(auto, using(arbitrary_laws::proofs::rotations::Rulesets::rotations))]
 
 ghost use Rattle.std.specs.Prelude.{◌≡◌, ◌+◌, ◌*◌, ◌/◌, ◌%◌, ◌*ℤ◌, ◌<ℤ◌, pos, unsigned_abs, IsTrue};
 
@@ -37,7 +37,7 @@ pub fn turned_three_times(x: u12) -> u12
     x.rotate_left(4).rotate_left(4).rotate_left(4)
 }
 
-#[tactic(auto, using(arbitrary_laws::proofs::BitVector::reversals))]
+#[tactic(auto, using(arbitrary_laws::proofs::rotations::Rulesets::reversals))]
 pub fn two_shifts(x: u12) -> bool
     ensures { IsTrue result }
 {
@@ -46,21 +46,21 @@ pub fn two_shifts(x: u12) -> bool
 
 // ---- by quotient and remainder
 
-#[tactic(auto, using(arbitrary_laws::proofs::Sets::rotated_numbers))]
+#[tactic(auto, using(arbitrary_laws::proofs::rotations::Rulesets::rotated_numbers))]
 pub fn halves_swapped(x: u12) -> u12
     ensures { result ≡ pos (unsigned_abs x % 64 * 64 + unsigned_abs x / 64) }
 {
     x.rotate_left(6)
 }
 
-#[tactic(auto, using(arbitrary_laws::proofs::Sets::rotated_numbers))]
+#[tactic(auto, using(arbitrary_laws::proofs::rotations::Rulesets::rotated_numbers))]
 pub fn low_byte_first(x: u24) -> u24
     ensures { result ≡ pos (unsigned_abs x % 256 * 65536 + unsigned_abs x / 256) }
 {
     x.rotate_right(8)
 }
 
-#[tactic(auto, using(arbitrary_laws::proofs::Sets::rotated_numbers))]
+#[tactic(auto, using(arbitrary_laws::proofs::rotations::Rulesets::rotated_numbers))]
 pub fn doubled_below_the_half(x: u12) -> u12
     requires { x <ℤ pos 2048 }
     ensures { result ≡ pos 2 *ℤ x }
@@ -68,21 +68,21 @@ pub fn doubled_below_the_half(x: u12) -> u12
     x.rotate_left(1)
 }
 
-#[tactic(auto, using(arbitrary_laws::proofs::Sets::rotated_numbers))]
+#[tactic(auto, using(arbitrary_laws::proofs::rotations::Rulesets::rotated_numbers))]
 pub fn highest_bit_comes_in_below(x: u12) -> u1
     ensures { result ≡ pos (unsigned_abs x / 2048) }
 {
     u1::extract_u16(x.rotate_left(1).value(), 0)
 }
 
-#[tactic(auto, using(arbitrary_laws::proofs::Sets::rotated_numbers))]
+#[tactic(auto, using(arbitrary_laws::proofs::rotations::Rulesets::rotated_numbers))]
 pub fn highest_bit_is_the_lowest_then(x: u12) -> bool
     ensures { IsTrue result }
 {
     x.rotate_left(1) & u12::new(1) == x >> 11
 }
 
-#[tactic(auto, using(arbitrary_laws::proofs::Sets::rotated_numbers))]
+#[tactic(auto, using(arbitrary_laws::proofs::rotations::Rulesets::rotated_numbers))]
 pub fn highest_byte_is_the_lowest_then(x: u24) -> bool
     ensures { IsTrue result }
 {

@@ -1,6 +1,6 @@
 //! One bit by its place.
 //! None has a proof of its own: the file names one set of laws.
-#![tactic(auto, using(arbitrary_laws::proofs::BitVector::single_bits))]
+#![tactic(auto, using(arbitrary_laws::proofs::places::Rulesets::single_bits))]
 
 ghost use Rattle.std.specs.Prelude.{◌≡◌, ◌≢◌, ◌↔◌, ◌/◌, ◌%◌, ◌^◌, ◌<◌, ◌+ℤ◌, ◌≤ℤ◌, ◌<ℤ◌, pos, unsigned_abs, IsTrue};
 
@@ -51,7 +51,7 @@ pub fn set_adds(map: u24, place: u5) -> u24
     map | (u24::new(1) << place.value())
 }
 
-#[tactic(auto, using(arbitrary_laws::proofs::BitVector::bit_tests))]
+#[tactic(auto, using(arbitrary_laws::proofs::places::Rulesets::bit_tests))]
 pub fn set_then_test(x: u24, place: u5) -> bool
     requires { place <ℤ pos 24 }
     ensures { IsTrue result }
@@ -60,7 +60,7 @@ pub fn set_then_test(x: u24, place: u5) -> bool
     (set >> place.value()) & u24::new(1) == u24::new(1)
 }
 
-#[tactic(auto, using(arbitrary_laws::proofs::BitVector::bit_tests))]
+#[tactic(auto, using(arbitrary_laws::proofs::places::Rulesets::bit_tests))]
 pub fn clear_then_test(x: u24, place: u8) -> bool
     requires { place < 24 }
     ensures { IsTrue result }
@@ -69,7 +69,7 @@ pub fn clear_then_test(x: u24, place: u8) -> bool
     (cleared >> place) & u24::new(1) == u24::new(0)
 }
 
-#[tactic(auto, using(arbitrary_laws::proofs::BitVector::bit_tests))]
+#[tactic(auto, using(arbitrary_laws::proofs::places::Rulesets::bit_tests))]
 pub fn clear_then_test_another(x: u24, place: u8, other: u8) -> bool
     requires place { place < 24 }
     requires other { other < 24 }
@@ -80,7 +80,7 @@ pub fn clear_then_test_another(x: u24, place: u8, other: u8) -> bool
     ((cleared >> place) & u24::new(1) == u24::new(1)) == ((x >> place) & u24::new(1) == u24::new(1))
 }
 
-#[tactic(auto, using(arbitrary_laws::proofs::BitVector::bit_tests))]
+#[tactic(auto, using(arbitrary_laws::proofs::places::Rulesets::bit_tests))]
 pub fn set_then_test_another_by_mask(x: u24, place: u8, other: u8) -> bool
     requires place { place < 24 }
     requires other { other < 24 }
@@ -92,7 +92,7 @@ pub fn set_then_test_another_by_mask(x: u24, place: u8, other: u8) -> bool
     (set & mask == u24::new(0)) == (x & mask == u24::new(0))
 }
 
-#[tactic(auto, using(arbitrary_laws::proofs::BitVector::bit_tests))]
+#[tactic(auto, using(arbitrary_laws::proofs::places::Rulesets::bit_tests))]
 pub fn clear_then_test_another_by_mask(x: u24, place: u8, other: u8) -> bool
     requires place { place < 24 }
     requires other { other < 24 }
@@ -104,7 +104,7 @@ pub fn clear_then_test_another_by_mask(x: u24, place: u8, other: u8) -> bool
     (cleared & mask == u24::new(0)) == (x & mask == u24::new(0))
 }
 
-#[tactic(auto, using(arbitrary_laws::proofs::BitVector::order))]
+#[tactic(auto, using(arbitrary_laws::proofs::orders::Rulesets::order))]
 pub fn set_is_no_less(map: u24, place: u5) -> u24
     requires { place <ℤ pos 24 }
     ensures { map ≤ℤ result }

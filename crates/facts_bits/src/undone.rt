@@ -7,7 +7,7 @@ ghost use Rattle.arbitrary_int.specs.Operation.{bitwise_xor, reversed, rotated_r
 use arbitrary_int::Int;
 use arbitrary_int::prelude::*;
 
-#[tactic(auto, using(arbitrary_laws::proofs::BitVector::ring))]
+#[tactic(auto, using(arbitrary_laws::proofs::sums::Rulesets::ring))]
 pub fn sum(c: u12, p: u12, k: u12) -> u12
     requires { c ≡ wrapped_sum false 12 p k }
     ensures { result ≡ p }
@@ -15,7 +15,7 @@ pub fn sum(c: u12, p: u12, k: u12) -> u12
     c.wrapping_sub(k)
 }
 
-#[tactic(auto, using(arbitrary_laws::proofs::BitVector::ring))]
+#[tactic(auto, using(arbitrary_laws::proofs::sums::Rulesets::ring))]
 pub fn difference(c: u12, p: u12, k: u12) -> u12
     requires { c ≡ wrapped_difference false 12 p k }
     ensures { result ≡ p }
@@ -23,7 +23,7 @@ pub fn difference(c: u12, p: u12, k: u12) -> u12
     c.wrapping_add(k)
 }
 
-#[tactic(auto, using(arbitrary_laws::proofs::BitVector::bits))]
+#[tactic(auto, using(arbitrary_laws::proofs::bits::Rulesets::bits))]
 pub fn exclusive_or(c: u12, p: u12, k: u12) -> u12
     requires { c ≡ bitwise_xor false 12 p k }
     ensures { result ≡ p }
@@ -31,7 +31,7 @@ pub fn exclusive_or(c: u12, p: u12, k: u12) -> u12
     c ^ k
 }
 
-#[tactic(auto, using(arbitrary_laws::proofs::BitVector::rotations))]
+#[tactic(auto, using(arbitrary_laws::proofs::rotations::Rulesets::rotations))]
 pub fn left_rotation(c: u12, p: u12) -> u12
     requires { c ≡ rotated_right false 12 p 5 }
     ensures { result ≡ p }
@@ -39,7 +39,7 @@ pub fn left_rotation(c: u12, p: u12) -> u12
     c.rotate_left(5)
 }
 
-#[tactic(auto, using(arbitrary_laws::proofs::BitVector::reversals))]
+#[tactic(auto, using(arbitrary_laws::proofs::rotations::Rulesets::reversals))]
 pub fn reversal(c: u12, p: u12) -> u12
     requires { c ≡ reversed false 12 p }
     ensures { result ≡ p }

@@ -1,11 +1,14 @@
-//! What a user takes for granted in code that is generic over the type or its width, each fact in one function. None has a proof of its own:
-//! the contracts and laws of the bounds carry them.
+//! Facts in code that is generic over the type or its width. None has a proof of its own and none names a set: the bounds `Integer` and
+//! `FixedWidth` have the laws.
 #![tactic(auto)]
 
-pub mod generic;
-pub mod generic_calls;
-pub mod generic_checked;
-pub mod generic_operators;
-pub mod generic_orders;
-pub mod generic_places;
-pub mod generic_widths;
+pub mod any_width;
+pub mod bits;
+pub mod calls;
+pub mod checked;
+pub mod numbers;
+pub mod operations;
+pub mod operators;
+pub mod orders;
+pub mod places;
+pub mod widths;

@@ -13,25 +13,11 @@ pub fn wrapping_fits(a: u4, b: u4) -> u4
     a.wrapping_add(b)
 }
 
-pub fn plus_fits(a: u4, b: u4) -> u4
-    requires { (a +ℤ b) ≤ℤ pos 15 }
-    ensures { result ≡ a +ℤ b }
-{
-    a + b
-}
-
 pub fn wrapping_passes(a: u4, b: u4) -> u4
     requires { pos 16 ≤ℤ (a +ℤ b) }
     ensures { result ≡ a +ℤ b -ℤ pos 16 }
 {
     a.wrapping_add(b)
-}
-
-pub fn saturating_fits(a: u4, b: u4) -> u4
-    requires { (a +ℤ b) ≤ℤ pos 15 }
-    ensures { result ≡ a +ℤ b }
-{
-    a.saturating_add(b)
 }
 
 pub fn saturating_ends(a: u4, b: u4) -> u4
@@ -66,28 +52,6 @@ pub fn borrow(a: u4, b: u4) -> bool
     a.overflowing_sub(b).1
 }
 
-pub fn next(x: u4) -> u4
-    ensures below { x <ℤ pos 15 → result ≡ x +ℤ pos 1 }
-    ensures last { x ≡ pos 15 → result ≡ pos 0 }
-{
-    if x < u4::max_value() {
-        x + u4::new(1)
-    } else {
-        u4::new(0)
-    }
-}
-
-pub fn next_by_number(x: u4) -> u4
-    ensures below { x <ℤ pos 15 → result ≡ x +ℤ pos 1 }
-    ensures last { x ≡ pos 15 → result ≡ pos 0 }
-{
-    if x.value() < 15 {
-        x + u4::new(1)
-    } else {
-        u4::new(0)
-    }
-}
-
 pub fn less_three(x: u4) -> u4
     ensures above { pos 3 <ℤ x → result ≡ x -ℤ pos 3 }
     ensures others { x ≤ℤ pos 3 → result ≡ x }
@@ -102,7 +66,7 @@ pub fn back_and_forth(a: u12, b: u12) -> u12
 }
 
 /// Modulo 4096. That it is the same value as `a.wrapping_add(u12::new(2))` is not found.
-#[tactic(auto, using(arbitrary_laws::proofs::Everyday::everyday))]
+#[tactic(auto, using(arbitrary_laws::proofs::Sets::numbers))]
 pub fn wrapping_twice(a: u12) -> u12
     ensures { Congruent 12 result (a +ℤ pos 2) }
 {
@@ -168,12 +132,6 @@ pub fn signed_product(a: i6, b: i6) -> i12
     ensures { result ≡ a *ℤ b }
 {
     i12::from_(a) * i12::from_(b)
-}
-
-pub fn signed_back_and_forth(a: i12, b: i12) -> i12
-    ensures { result ≡ a }
-{
-    a.wrapping_sub(b).wrapping_add(b)
 }
 
 pub fn negated_twice(x: i12) -> i12
@@ -249,13 +207,6 @@ pub fn overflowing_fits(a: i12, b: i12) -> i12
     a.overflowing_sub(b).0
 }
 
-pub fn overflowing_passes(a: u4, b: u4) -> u4
-    requires { pos 16 ≤ℤ (a +ℤ b) }
-    ensures { result ≡ a +ℤ b -ℤ pos 16 }
-{
-    a.overflowing_add(b).0
-}
-
 /// A number of two digits: the low one, and the carry into the high one.
 pub fn two_digits(a: u4, b: u4) -> u8
     ensures { pos result ≡ a +ℤ b }
@@ -265,13 +216,6 @@ pub fn two_digits(a: u4, b: u4) -> u8
 }
 
 // ---- counters
-
-pub fn starts_again(x: u14) -> u14
-    requires { x ≡ pos 16383 }
-    ensures { result ≡ pos 0 }
-{
-    x.wrapping_add(u14::new(1))
-}
 
 pub fn added_in_place(a: u12, b: u12) -> u12
     requires { (a +ℤ b) ≤ℤ pos 4095 }
@@ -291,21 +235,6 @@ pub fn scaled_in_place(a: i12) -> i12
     scaled *= i12::new(10);
     scaled -= i12::new(1);
     scaled
-}
-
-pub fn quotient_in_place(a: u12) -> u12
-    ensures { result ≡ int_div a (pos 10) }
-{
-    let mut quotient = a;
-    quotient /= u12::new(10);
-    quotient
-}
-
-pub fn smaller(a: i12, b: i12) -> i12
-    ensures left { result ≤ℤ a }
-    ensures right { result ≤ℤ b }
-{
-    if a < b { a } else { b }
 }
 
 pub fn product_is_out_of_range(x: i12, y: i12) -> bool

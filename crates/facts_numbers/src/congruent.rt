@@ -23,22 +23,10 @@ pub fn turn_by_conversion(from: u14, to: u14) -> i14
     to.wrapping_sub(from).as_::<i14>()
 }
 
-pub fn turn_by_bits(from: u14, to: u14) -> i14
-    ensures { Congruent 14 result (to -ℤ from) }
-{
-    i14::from_bits(to.wrapping_sub(from).value())
-}
-
 pub fn low_bits_of_sum(a: i24, b: i24) -> i12
     ensures { Congruent 12 result (a +ℤ b) }
 {
     a.wrapping_add(b).as_::<i12>()
-}
-
-pub fn low_bits_of_difference(a: u24, b: u24) -> u12
-    ensures { Congruent 12 result (a -ℤ b) }
-{
-    u12::masked_new(a.wrapping_sub(b))
 }
 
 pub fn low_bits_of_product(a: u24, b: u24) -> u12
@@ -62,12 +50,6 @@ pub fn negated(x: u12) -> u12
 pub fn negated_number(x: u100) -> u100
     ensures zero { x ≡ pos 0 → result ≡ pos 0 }
     ensures other { pos 0 <ℤ x → result ≡ pos 1267650600228229401496703205376 -ℤ x }
-{
-    x.wrapping_neg()
-}
-
-pub fn negated_byte(x: UInt<u8, 8>) -> UInt<u8, 8>
-    ensures { pos 0 <ℤ x → result ≡ pos 256 -ℤ x }
 {
     x.wrapping_neg()
 }

@@ -16,12 +16,6 @@ pub fn softer(volume: u7, step: u7) -> u7
     volume.saturating_sub(step)
 }
 
-pub fn louder_and_softer(volume: u7, step: u7) -> u7
-    ensures { result ≤ℤ volume }
-{
-    volume.saturating_add(step).saturating_sub(step)
-}
-
 pub fn slider(volume: u7, change: i8) -> u7
     ensures up { pos 0 ≤ℤ change → volume ≤ℤ result }
     ensures down { change ≤ℤ pos 0 → result ≤ℤ volume }
@@ -69,15 +63,6 @@ pub fn counted(counter: u48) -> Option<u48>
     counter.checked_add(u48::new(1))
 }
 
-pub fn counted_or_same(counter: u48) -> u48
-    ensures { counter ≤ℤ result }
-{
-    match counter.checked_add(u48::new(1)) {
-        Some(next) => next,
-        None => counter,
-    }
-}
-
 pub fn counted_twice(counter: u24) -> Option<u24>
     ensures { IfSome result (λ next. next ≡ counter +ℤ pos 2) }
 {
@@ -108,10 +93,4 @@ pub fn sub_and_add(a: u48, b: u48) -> u48
     ensures { result ≡ a }
 {
     a - b + b
-}
-
-pub fn square(x: i12) -> i24
-    ensures { pos 0 ≤ℤ result }
-{
-    i24::from_(x) * i24::from_(x)
 }

@@ -17,12 +17,6 @@ pub fn rotated_by_the_width(x: i48) -> bool
     x.rotate_right(48) == x
 }
 
-pub fn first_power(x: i12) -> bool
-    ensures { IsTrue result }
-{
-    x.saturating_pow(1) == x
-}
-
 pub fn power_of_one(exp: u32) -> u7
     ensures { result ≡ pos 1 }
 {
@@ -36,24 +30,12 @@ pub fn power_of_zero(exp: u32) -> i12
     i12::zero().saturating_pow(exp)
 }
 
-pub fn quotient_by_itself(x: u12) -> bool
-    ensures { IsTrue result }
-{
-    x == u12::zero() || x.wrapping_div(x) == u12::new(1)
-}
-
 pub fn quotient_of_equal_operands(x: Int<i64, 64>, y: Int<i64, 64>) -> Int<i64, 64>
     requires equal { x ≡ y }
     requires some { y ≢ pos 0 }
     ensures { result ≡ pos 1 }
 {
     x.wrapping_div(y)
-}
-
-pub fn least_by_minus_one() -> bool
-    ensures { IsTrue result }
-{
-    i12::min_value().wrapping_div(i12::new(-1)) == i12::min_value()
 }
 
 pub fn least_by_minus_one_overflows() -> bool
@@ -86,12 +68,6 @@ pub fn odd_as_the_last_bit_says(x: i48) -> bool
     ensures { IsTrue result }
 {
     (x.trailing_zeros() == 0) == (x & i48::new(1) == i48::new(1))
-}
-
-pub fn even_as_the_last_bit_says(x: u24) -> bool
-    ensures { IsTrue result }
-{
-    (x.trailing_ones() == 0) == (x & u24::new(1) == u24::new(0))
 }
 
 pub fn upper_half_as_the_first_bit_says(x: u12) -> bool
@@ -133,12 +109,6 @@ pub fn shifted_by_none<const BITS: usize>(x: Int<i32, BITS>) -> bool
     ensures { IsTrue result }
 {
     x << 0u32 == x
-}
-
-pub fn checked_shift_by_none<const BITS: usize>(x: Int<i32, BITS>) -> bool
-    ensures { IsTrue result }
-{
-    x.checked_shl(0) == Some(x)
 }
 
 pub fn shifted_by_the_width<const BITS: usize>(x: Int<i32, BITS>) -> bool

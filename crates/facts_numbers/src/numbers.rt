@@ -1,14 +1,8 @@
 //! Numbers that are held, halved, scaled and squared, and what is refused.
 
-ghost use Rattle.std.specs.Prelude.{◌≡◌, ◌↔◌, ◌≤◌, ◌+ℤ◌, ◌-ℤ◌, ◌*ℤ◌, ◌≤ℤ◌, ◌<ℤ◌, pos, IsTrue, IsNone};
+ghost use Rattle.std.specs.Prelude.{◌≡◌, ◌↔◌, ◌≤◌, ◌+ℤ◌, ◌-ℤ◌, ◌≤ℤ◌, ◌<ℤ◌, pos, IsTrue, IsNone};
 
 use arbitrary_int::prelude::*;
-
-pub fn previous_of_zero() -> u12
-    ensures { result ≡ pos 4095 }
-{
-    u12::zero().wrapping_sub(u12::new(1))
-}
 
 pub fn difference_of_two(a: u12, b: u12) -> u12
     ensures upper { b ≤ℤ a → result ≡ a -ℤ b }
@@ -57,12 +51,6 @@ pub fn large_is_refused(x: i8) -> bool
     i5::try_new(x).is_err()
 }
 
-pub fn fixed_point_product(a: i24, b: i24) -> i48
-    ensures { result ≡ a *ℤ b }
-{
-    i48::from_(a) * i48::from_(b)
-}
-
 pub fn gain(sample: i12) -> i12
     ensures { pos 0 ≤ℤ sample → sample ≤ℤ result }
 {
@@ -80,20 +68,6 @@ pub fn wide_signed_difference(a: i120, b: i120) -> Option<i120>
     ensures { a ≡ b → ¬ (IsNone result) }
 {
     a.checked_sub(b)
-}
-
-pub fn squared(x: u6) -> u12
-    ensures { result ≡ x *ℤ x }
-{
-    let wide = u12::from_(x);
-    wide * wide
-}
-
-pub fn percent(x: u7) -> u7
-    requires { x ≤ℤ pos 100 }
-    ensures { result ≤ℤ pos 100 }
-{
-    u7::new(100) - x
 }
 
 pub fn by_ranges(x: u4) -> u8

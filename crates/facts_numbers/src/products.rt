@@ -9,10 +9,6 @@ pub fn shifted(a: i12, b: i12) -> i24 {
     (i24::from_(a) * i24::from_(b)) >> 8
 }
 
-pub fn shifted_to_the_high_half(a: i12, b: i12) -> i12 {
-    i12::from_((i24::from_(a) * i24::from_(b)) >> 12)
-}
-
 pub fn truncated(a: i12, b: i12) -> i12 {
     ((i24::from_(a) * i24::from_(b)) >> 12).as_::<i12>()
 }
@@ -37,14 +33,6 @@ pub fn added_and_shifted(a: i12, b: i12, c: i12) -> i25 {
     (i25::from_(a) * i25::from_(b) + i25::from_(c)) >> 3
 }
 
-pub fn added_and_divided(a: i12, b: i12, c: i12) -> i25 {
-    (i25::from_(a) * i25::from_(b) + i25::from_(c)) / i25::new(3)
-}
-
-pub fn is_above(a: i12, b: i12) -> bool {
-    i24::from_(a) * i24::from_(b) > i24::new(100)
-}
-
 pub fn clamped(a: i12, b: i12) -> i12 {
     let product = i24::from_(a) * i24::from_(b);
     if product > i24::new(2047) {
@@ -60,11 +48,6 @@ pub fn in_place(a: i12, b: i12) -> i24 {
     let mut product = i24::from_(a);
     product *= i24::from_(b);
     product >> 3
-}
-
-pub fn squared(a: i12) -> i24 {
-    let wide = i24::from_(a);
-    (wide * wide) >> 4
 }
 
 pub fn squares(a: i12, b: i12) -> i25

@@ -1,6 +1,6 @@
 //! Quotients times their divisor, and powers.
 //! None has a proof of its own: the file names one set of laws.
-#![tactic(auto, using(arbitrary_laws::proofs::BitVector::quotients))]
+#![tactic(auto, using(arbitrary_laws::proofs::Sets::numbers))]
 
 ghost use Rattle.std.specs.Prelude.{◌≡◌, ◌*ℤ◌, ◌≤ℤ◌, ◌<ℤ◌, pos};
 
@@ -17,13 +17,6 @@ pub fn remainder(a: u24, b: u24) -> u24
     ensures { result <ℤ b }
 {
     a - a / b * b
-}
-
-pub fn power_of_two(x: u12) -> u12
-    requires { x ≡ pos 3 }
-    ensures { result ≡ pos 9 }
-{
-    x.saturating_pow(2)
 }
 
 pub fn blocks(size: u24, block: u12) -> u24

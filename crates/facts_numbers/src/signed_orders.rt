@@ -10,12 +10,6 @@ pub fn greatest_is_at_least_each(a: i12, b: i12, c: i12) -> bool
     a.max(b).max(c) >= b
 }
 
-pub fn greater_is_at_least_a_lesser(a: i12, b: i12, c: i12) -> bool
-    ensures { IsTrue result }
-{
-    a.max(b) >= b.min(c)
-}
-
 pub fn least_is_at_most_greatest(a: i60, b: i60, c: i60) -> bool
     ensures { IsTrue result }
 {
@@ -28,12 +22,6 @@ pub fn spread(a: i12, b: i12, c: i12) -> i13
     let greatest = a.max(b).max(c);
     let least = a.min(b).min(c);
     i13::from_(greatest) - i13::from_(least)
-}
-
-pub fn distance(a: i12, b: i12) -> bool
-    ensures { IsTrue result }
-{
-    i13::from_(a.max(b)) - i13::from_(a.min(b)) >= i13::new(0)
 }
 
 pub fn median(a: i24, b: i24, c: i24) -> i24
@@ -73,13 +61,6 @@ pub fn held_twice(x: i12, low: i12, high: i12) -> bool
     ensures { IsTrue result }
 {
     x.clamp(low, high).clamp(low, high) == x.clamp(low, high)
-}
-
-pub fn held_by_two_steps(x: i12, low: i12, high: i12) -> bool
-    requires { low ≤ℤ high }
-    ensures { IsTrue result }
-{
-    x.clamp(low, high) == x.max(low).min(high)
 }
 
 pub fn held_at_any_width<const BITS: usize>(x: Int<i32, BITS>, y: Int<i32, BITS>) -> bool

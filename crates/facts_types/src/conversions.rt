@@ -9,10 +9,6 @@ pub fn index_as_usize(t: &[u8; 16], i: u4) -> u8 {
     t[i.as_usize()]
 }
 
-pub fn index_value_as(t: &[u8; 16], i: u4) -> u8 {
-    t[i.value() as usize]
-}
-
 pub fn index_usize_from(t: &[u8; 4096], i: u12) -> u8 {
     t[usize::from(i.value())]
 }
@@ -21,12 +17,6 @@ pub fn new_of_mask(x: u8) -> u4
     ensures { result ≡ pos (x % 16) }
 {
     u4::new(x & 15)
-}
-
-pub fn new_of_rem(x: u8) -> u4
-    ensures { result ≡ pos (x % 16) }
-{
-    u4::new(x % 16)
 }
 
 pub fn new_of_shift(x: u8) -> u4
@@ -47,33 +37,14 @@ pub fn masked(x: u8) -> u4
     u4::masked_new(x)
 }
 
-pub fn masked_small(x: u8) -> u4
-    requires { x < 16 }
-    ensures { result ≡ pos x }
-{
-    u4::masked_new(x)
-}
-
 pub fn as_u8_keeps(x: u4) -> u8
     ensures { pos result ≡ x }
 {
     x.as_u8()
 }
 
-pub fn as_u8_small(x: u4) -> u8
-    ensures { result < 16 }
-{
-    x.as_u8()
-}
-
 pub fn from_keeps(x: u4) -> u8
     ensures { pos result ≡ x }
-{
-    u8::from_(x)
-}
-
-pub fn from_small(x: u4) -> u8
-    ensures { result < 16 }
 {
     u8::from_(x)
 }
@@ -88,12 +59,6 @@ pub fn as_wider(x: u4) -> u7
     ensures { result ≡ x }
 {
     x.as_::<u7>()
-}
-
-pub fn from_wider(x: u4) -> u7
-    ensures { result ≡ x }
-{
-    u7::from_(x)
 }
 
 pub fn as_narrower(x: u8) -> u4
@@ -113,12 +78,6 @@ pub fn millivolts_as(x: i12) -> i32
     ensures { result ≡ int_div (x *ℤ pos 2500) (pos 2048) }
 {
     x.as_i32() * 2500 / 2048
-}
-
-pub fn millivolts_from(x: i12) -> i32
-    ensures { result ≡ int_div (x *ℤ pos 2500) (pos 2048) }
-{
-    i32::from_(x) * 2500 / 2048
 }
 
 pub fn millivolts_value(x: i12) -> i32
@@ -165,12 +124,6 @@ pub fn in_loop() -> u8 {
     last.value()
 }
 
-pub fn last_is_max(x: u4) -> bool
-    ensures { IsTrue result }
-{
-    x <= u4::max_value()
-}
-
 /// The mask of a field's own type fits that type.
 pub fn new_of_own_mask(x: u8) -> u7
     ensures { result ≡ pos (x % 128) }
@@ -205,22 +158,10 @@ pub fn low_byte_of_a_negative_number(x: i4) -> u8
     x.as_u8()
 }
 
-pub fn wider_and_back(x: i12) -> i12
-    ensures { result ≡ x }
-{
-    x.as_::<i20>().as_::<i12>()
-}
-
 pub fn widened(x: u5) -> u7
     ensures { result ≡ x }
 {
     x.widen()
-}
-
-pub fn all_ones_is_minus_one() -> i4
-    ensures { result ≡ neg_ℤ (pos 1) }
-{
-    i4::from_bits(15)
 }
 
 pub fn tried_bits(bits: u8, other: i4) -> i4
@@ -231,13 +172,6 @@ pub fn tried_bits(bits: u8, other: i4) -> i4
         Ok(x) => x,
         Err(_) => other,
     }
-}
-
-pub fn ends() -> (i12, i12)
-    ensures low { result.0 ≡ neg_ℤ (pos 2048) }
-    ensures high { result.1 ≡ pos 2047 }
-{
-    (i12::min_value(), i12::max_value())
 }
 
 pub fn narrowed_after_a_test(x: u32) -> u12

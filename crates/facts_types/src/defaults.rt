@@ -1,11 +1,11 @@
 //! What has a value without being given one, and the calls of `num_traits`.
 
-ghost use Rattle.std.specs.Prelude.{◌≡◌, ◌+ℤ◌, ◌-ℤ◌, ◌≤ℤ◌, ◌<ℤ◌, pos, neg_ℤ, true, None};
+ghost use Rattle.std.specs.Prelude.{◌≡◌, ◌+ℤ◌, ◌-ℤ◌, ◌≤ℤ◌, pos, neg_ℤ, true, None};
 ghost use Rattle.arbitrary_int.specs.Range.{InRange};
 ghost use Rattle.arbitrary_int.specs.Residue.{Congruent};
 
 use arbitrary_int::prelude::*;
-use num_traits::{Bounded, SaturatingAdd, SaturatingSub, WrappingAdd, WrappingSub};
+use num_traits::{Bounded, SaturatingAdd, SaturatingSub, WrappingAdd};
 
 pub fn no_volume() -> u12
     ensures { result ≡ pos 0 }
@@ -13,22 +13,10 @@ pub fn no_volume() -> u12
     u12::default()
 }
 
-pub fn no_change() -> i12
-    ensures { result ≡ pos 0 }
-{
-    Default::default()
-}
-
 pub fn greatest_volume() -> u12
     ensures { result ≡ pos 4095 }
 {
     <u12 as Bounded>::max_value()
-}
-
-pub fn greatest_change() -> i12
-    ensures { result ≡ pos 2047 }
-{
-    <i12 as Bounded>::max_value()
 }
 
 pub fn least_change() -> i12
@@ -41,12 +29,6 @@ pub fn raised(volume: u12, step: u12) -> u12
     ensures { volume ≤ℤ result }
 {
     SaturatingAdd::saturating_add(&volume, &step)
-}
-
-pub fn lowered(volume: u12, step: u12) -> u12
-    ensures { result ≤ℤ volume }
-{
-    SaturatingSub::saturating_sub(&volume, &step)
 }
 
 pub fn raised_far(level: i12, step: i12) -> i12
@@ -67,12 +49,6 @@ pub fn turned_on(phase: u12, step: u12) -> u12
     ensures { Congruent 12 result (phase +ℤ step) }
 {
     WrappingAdd::wrapping_add(&phase, &step)
-}
-
-pub fn turned_back(phase: i12, step: i12) -> i12
-    ensures { Congruent 12 result (phase -ℤ step) }
-{
-    WrappingSub::wrapping_sub(&phase, &step)
 }
 
 pub fn taken(setting: &mut u12) -> u12

@@ -10,12 +10,6 @@ pub fn into_the_narrowest(x: UInt<u32, 5>) -> u5
     u5::from(x)
 }
 
-pub fn into_the_next(x: UInt<u128, 60>) -> u60
-    ensures { result ≡ x }
-{
-    x.into()
-}
-
 pub fn at_full_width(x: UInt<u128, 8>) -> UInt<u8, 8>
     ensures { result ≡ x }
 {

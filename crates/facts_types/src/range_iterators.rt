@@ -11,13 +11,6 @@ pub fn count(low: u7, high: u7) -> usize
     range_inclusive(low, high).count()
 }
 
-pub fn count_of_signed(low: i12, high: i12) -> usize
-    requires { low ≤ℤ high }
-    ensures { pos result ≡ high -ℤ low +ℤ pos 1 }
-{
-    range_inclusive(low, high).count()
-}
-
 pub fn count_of_none(low: u7, high: u7) -> usize
     requires { high <ℤ low }
     ensures { result ≡ 0 }
@@ -60,12 +53,6 @@ pub fn none_above(low: u7, high: u7) -> bool
     range_inclusive(low, high).all(|x| x <= high)
 }
 
-pub fn none_below(low: u7, high: u7) -> bool
-    ensures { IsTrue result }
-{
-    range_inclusive(low, high).all(|x| x >= low)
-}
-
 pub fn greatest(low: u7, high: u7) -> Option<u7>
     ensures { IfSome result (λ x. x ≤ℤ high) }
 {
@@ -76,16 +63,6 @@ pub fn with_three_ones(low: u7, high: u7) -> Option<u7>
     ensures { IfSome result (λ x. x ≤ℤ high) }
 {
     range_inclusive(low, high).find(|x| x.count_ones() == 3)
-}
-
-pub fn fewest_ones(low: u7, high: u7) -> Option<u7> {
-    range_inclusive(low, high).min_by_key(|x| x.count_ones())
-}
-
-pub fn folded(low: u7, high: u7) -> u32 {
-    range_inclusive(low, high)
-        .map(|x| x.as_u32())
-        .fold(0, |sum, x| sum.wrapping_add(x))
 }
 
 pub fn looked_up(table: &[u8; 16], low: u4, high: u4) -> u8 {

@@ -1,8 +1,8 @@
 //! The values of a range: facts that you take for granted of `range_inclusive`. None has a proof of its own: the file
 //! names one set of laws. `lists` beside it has sums and steps from value to value.
-#![tactic(auto, using(arbitrary_laws::proofs::Sets::ranges))]
+#![tactic(auto, using(arbitrary_laws::proofs::Sets::steps))]
 
-ghost use Rattle.std.specs.Prelude.{◌≡◌, ◌≤ℤ◌, ◌<ℤ◌, Some};
+ghost use Rattle.std.specs.Prelude.{◌≡◌, ◌≤ℤ◌, Some};
 
 use arbitrary_int::prelude::*;
 use arbitrary_int::range_inclusive;
@@ -19,11 +19,4 @@ pub fn last_of_range(low: u7, high: u7) -> Option<u7>
     ensures { result ≡ Some high }
 {
     range_inclusive(low, high).next_back()
-}
-
-pub fn no_values(low: u7, high: u7) -> usize
-    requires { high <ℤ low }
-    ensures { result ≡ 0 }
-{
-    range_inclusive(low, high).count()
 }

@@ -1,6 +1,6 @@
 //! Lines that a user of the Rust crate has: its constants, its conversions, and a type of one's own.
 
-ghost use Rattle.std.specs.Prelude.{◌≡◌, ◌≢◌, ◌<◌, ◌≤◌, ◌+ℤ◌, ◌-ℤ◌, ◌*ℤ◌, ◌≤ℤ◌, ◌<ℤ◌, pos, neg_ℤ, true, IsTrue};
+ghost use Rattle.std.specs.Prelude.{◌≡◌, ◌≢◌, ◌<◌, ◌≤◌, ◌+ℤ◌, ◌-ℤ◌, ◌*ℤ◌, ◌≤ℤ◌, pos, neg_ℤ, true};
 ghost use Rattle.arbitrary_int.specs.Range.{lo, hi};
 
 use arbitrary_int::prelude::*;
@@ -24,12 +24,6 @@ pub fn greatest_of_full_width() -> u8
     UInt::<u8, 8>::MAX.value()
 }
 
-pub fn greatest_primitive() -> u8
-    ensures { result ≡ 255 }
-{
-    u8::MAX
-}
-
 pub fn greatest_of_any<V: Constants>() -> V
     ensures { V.number result ≡ hi V.IS_SIGNED V.BITS }
 {
@@ -42,12 +36,6 @@ pub fn mask() -> u8
     u4::MASK
 }
 
-pub fn mask_of_signed() -> i16
-    ensures { result ≡ pos 4095 }
-{
-    i12::MASK
-}
-
 pub fn mask_of_full_signed() -> i8
     ensures { result ≡ neg_ℤ (pos 1) }
 {
@@ -56,12 +44,6 @@ pub fn mask_of_full_signed() -> i8
 
 pub fn masked(byte: u8) -> u4 {
     u4::new(byte & u4::MASK)
-}
-
-pub fn at_most_greatest(x: u4) -> bool
-    ensures { IsTrue result }
-{
-    x <= u4::MAX
 }
 
 pub fn up_to_greatest(x: u12) -> u12
@@ -77,27 +59,10 @@ pub fn magnitude(x: i12) -> i12
     if x < i12::ZERO { -x } else { x }
 }
 
-pub fn next_round(x: u4) -> u4
-    ensures next { x <ℤ pos 15 → result ≡ x +ℤ pos 1 }
-    ensures round { x ≡ pos 15 → result ≡ pos 0 }
-{
-    if x == u4::MAX {
-        u4::ZERO
-    } else {
-        x + u4::new(1)
-    }
-}
-
 pub fn into_own_storage(x: u7) -> u8
     ensures { pos result ≡ x }
 {
     u8::from(x)
-}
-
-pub fn below_sixteen(x: u4) -> u8
-    ensures { result < 16 }
-{
-    x.into()
 }
 
 pub fn into_wider_storage(x: u7) -> u14
@@ -185,12 +150,6 @@ pub fn hundredths(reading: &Reading) -> i32
     i32::from(reading.degrees) * 25
 }
 
-pub fn quarters(reading: &Reading) -> u32
-    ensures { pos result ≡ reading.now.level *ℤ pos 25 }
-{
-    u32::from(reading.level) * 25
-}
-
 pub fn two_levels(first: &u7, second: &u7) -> u16
     ensures { pos result ≡ first.now *ℤ pos 128 +ℤ second.now }
 {
@@ -201,10 +160,4 @@ pub fn next_level(reading: &Reading) -> u14
     ensures { result ≡ reading.now.level +ℤ pos 1 }
 {
     u14::from(reading.level) + u14::new(1)
-}
-
-pub fn next_degree(reading: &Reading) -> i17
-    ensures { result ≡ reading.now.degrees +ℤ pos 1 }
-{
-    i17::from(reading.degrees) + i17::new(1)
 }

@@ -1,6 +1,6 @@
 //! Laws of bits by their places, at types with and without a sign: one bit that is set, cleared or turned over, and then tested; and flags
 //! that are tested at once, beside the tests of each.
-#![tactic(auto, using(arbitrary_laws::proofs::places::BitPlaces::bit_places))]
+#![tactic(auto, using(arbitrary_laws::proofs::Sets::masks))]
 
 ghost use Rattle.std.specs.Prelude.{◌<◌, IsTrue};
 
@@ -21,7 +21,6 @@ pub fn set_then_tested_with_a_sign(x: i12, place: u32) -> bool
     ((x | (i12::new(1) << place)) >> place) & i12::new(1) == i12::new(1)
 }
 
-#[tactic(auto, using(arbitrary_laws::proofs::BitVector::bit_tests))]
 pub fn turned_then_read(x: u12, place: u32) -> bool
     requires { place < 12 }
     ensures { IsTrue result }
@@ -30,7 +29,6 @@ pub fn turned_then_read(x: u12, place: u32) -> bool
         == u12::new(1) - ((x >> place) & u12::new(1))
 }
 
-#[tactic(auto, using(arbitrary_laws::proofs::masks::FlagTests::flag_tests))]
 pub fn both_flags(x: u12) -> bool
     ensures { IsTrue result }
 {
@@ -38,7 +36,6 @@ pub fn both_flags(x: u12) -> bool
         == (x & u12::new(2) != u12::new(0) && x & u12::new(0x10) != u12::new(0))
 }
 
-#[tactic(auto, using(arbitrary_laws::proofs::masks::FlagTests::flag_tests))]
 pub fn one_flag_of_two(x: u24) -> bool
     ensures { IsTrue result }
 {
@@ -46,7 +43,6 @@ pub fn one_flag_of_two(x: u24) -> bool
         == (x & u24::new(2) == u24::new(0) && x & u24::new(0x10) != u24::new(0))
 }
 
-#[tactic(auto, using(arbitrary_laws::proofs::masks::FlagTests::flag_tests))]
 pub fn any_flag_with_a_sign(x: i12) -> bool
     ensures { IsTrue result }
 {

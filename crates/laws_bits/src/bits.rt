@@ -1,6 +1,6 @@
 //! Laws of one of `& | ^` with `!`, once or nested, each by the set `bits` alone. `distribution` has two of them, one over the
 //! other.
-#![tactic(auto, using(arbitrary_laws::proofs::BitVector::bits))]
+#![tactic(auto, using(arbitrary_laws::proofs::Sets::bits))]
 
 ghost use Rattle.std.specs.Prelude.{IsTrue};
 
@@ -18,34 +18,16 @@ pub fn and_assoc(x: u12, y: u12, z: u12) -> bool
     ((x & y) & z) == (x & (y & z))
 }
 
-pub fn or_comm(x: u12, y: u12) -> bool
-    ensures { IsTrue result }
-{
-    (x | y) == (y | x)
-}
-
 pub fn or_assoc(x: u12, y: u12, z: u12) -> bool
     ensures { IsTrue result }
 {
     ((x | y) | z) == (x | (y | z))
 }
 
-pub fn or_self(x: u12) -> bool
-    ensures { IsTrue result }
-{
-    (x | x) == x
-}
-
 pub fn or_zero(x: u12) -> bool
     ensures { IsTrue result }
 {
     (x | u12::zero()) == x
-}
-
-pub fn or_ones(x: u12) -> bool
-    ensures { IsTrue result }
-{
-    (x | u12::max_value()) == u12::max_value()
 }
 
 pub fn xor_comm(x: u12, y: u12) -> bool
@@ -64,12 +46,6 @@ pub fn or_not_self(x: u12) -> bool
     ensures { IsTrue result }
 {
     (x | !x) == u12::max_value()
-}
-
-pub fn xor_zero_is_equal(x: u12, y: u12) -> bool
-    ensures { IsTrue result }
-{
-    ((x ^ y) == u12::zero()) == (x == y)
 }
 
 pub fn xor_zero_is_equal_signed(x: i12, y: i12) -> bool

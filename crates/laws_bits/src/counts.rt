@@ -1,5 +1,5 @@
 //! Laws of counts of bits.
-#![tactic(auto, using(arbitrary_laws::proofs::BitVector::counts))]
+#![tactic(auto, using(arbitrary_laws::proofs::Sets::counts))]
 
 ghost use Rattle.std.specs.Prelude.{IsTrue};
 
@@ -9,12 +9,6 @@ pub fn ones_of_zero() -> bool
     ensures { IsTrue result }
 {
     u12::zero().count_ones() == 0
-}
-
-pub fn ones_of_ones() -> bool
-    ensures { IsTrue result }
-{
-    u12::max_value().count_ones() == 12
 }
 
 pub fn ones_of_not(x: u12) -> bool
@@ -27,18 +21,6 @@ pub fn ones_of_rev(x: u12) -> bool
     ensures { IsTrue result }
 {
     x.reverse_bits().count_ones() == x.count_ones()
-}
-
-pub fn ones_of_rotl(x: u12) -> bool
-    ensures { IsTrue result }
-{
-    x.rotate_left(3).count_ones() == x.count_ones()
-}
-
-pub fn leading_of_zero() -> bool
-    ensures { IsTrue result }
-{
-    u12::zero().leading_zeros() == 12
 }
 
 pub fn trailing_of_zero() -> bool

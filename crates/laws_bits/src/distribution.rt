@@ -1,5 +1,5 @@
 //! Laws of `& | ^ !`, one over another.
-#![tactic(auto, using(arbitrary_laws::proofs::BitVector::distribution))]
+#![tactic(auto, using(arbitrary_laws::proofs::Sets::bits))]
 
 ghost use Rattle.std.specs.Prelude.{IsTrue};
 
@@ -9,12 +9,6 @@ pub fn absorb_and(x: u12, y: u12) -> bool
     ensures { IsTrue result }
 {
     (x & (x | y)) == x
-}
-
-pub fn absorb_or(x: u12, y: u12) -> bool
-    ensures { IsTrue result }
-{
-    (x | (x & y)) == x
 }
 
 pub fn and_or_distributes(x: u12, y: u12, z: u12) -> bool
@@ -33,12 +27,6 @@ pub fn de_morgan_and(x: u12, y: u12) -> bool
     ensures { IsTrue result }
 {
     (!(x & y)) == (!x | !y)
-}
-
-pub fn de_morgan_or(x: u12, y: u12) -> bool
-    ensures { IsTrue result }
-{
-    (!(x | y)) == (!x & !y)
 }
 
 pub fn xor_is_or_minus_and(x: u12, y: u12) -> bool

@@ -12,21 +12,21 @@ pub fn or_of_fields(high: u5, middle: u6, low: u5) -> u16
     (u16::from_(high) << 11) | (u16::from_(middle) << 5) | u16::from_(low)
 }
 
-#[tactic(auto, using(arbitrary_laws::proofs::Sets::replaced_fields))]
+#[tactic(auto, using(arbitrary_laws::proofs::Sets::fields))]
 pub fn replaced_is_read(register: u16, field: u6) -> u6
     ensures { result ≡ field }
 {
     u6::extract_u16((register & !0x07E0) | (u16::from_(field) << 5), 5)
 }
 
-#[tactic(auto, using(arbitrary_laws::proofs::Sets::cleared_fields))]
+#[tactic(auto, using(arbitrary_laws::proofs::Sets::fields))]
 pub fn written_below(register: u12, field: u4) -> u12
     ensures { result ≡ pos 16 *ℤ int_div register (pos 16) +ℤ field }
 {
     (register & !u12::new(15)) | u12::from_(field)
 }
 
-#[tactic(auto, using(arbitrary_laws::proofs::Sets::written_fields))]
+#[tactic(auto, using(arbitrary_laws::proofs::Sets::fields))]
 pub fn written_is_under_the_mask(register: u24, mode: u2) -> bool
     ensures { IsTrue result }
 {
@@ -34,7 +34,7 @@ pub fn written_is_under_the_mask(register: u24, mode: u2) -> bool
     written & u24::new(0x30) == u24::from_(mode) << 4
 }
 
-#[tactic(auto, using(arbitrary_laws::proofs::Sets::written_fields))]
+#[tactic(auto, using(arbitrary_laws::proofs::Sets::fields))]
 pub fn others_are_outside_the_mask(register: u24, mode: u2) -> bool
     ensures { IsTrue result }
 {
@@ -42,7 +42,7 @@ pub fn others_are_outside_the_mask(register: u24, mode: u2) -> bool
     written & !u24::new(0x30) == register & !u24::new(0x30)
 }
 
-#[tactic(auto, using(arbitrary_laws::proofs::Sets::written_fields))]
+#[tactic(auto, using(arbitrary_laws::proofs::Sets::fields))]
 pub fn lowest_is_under_the_mask(register: u48, level: u7) -> bool
     ensures { IsTrue result }
 {
@@ -50,7 +50,7 @@ pub fn lowest_is_under_the_mask(register: u48, level: u7) -> bool
     written & u48::new(127) == u48::from_(level)
 }
 
-#[tactic(auto, using(arbitrary_laws::proofs::Sets::other_bits))]
+#[tactic(auto, using(arbitrary_laws::proofs::Sets::masks))]
 pub fn other_bits_stay(map: u24, place: u5) -> u24
     requires { place <ℤ pos 24 }
     ensures { (k : ℕ) → k ≢ unsigned_abs place → unsigned_abs result / 2 ^ k % 2 ≡ unsigned_abs map / 2 ^ k % 2 }
@@ -58,7 +58,7 @@ pub fn other_bits_stay(map: u24, place: u5) -> u24
     map | (u24::new(1) << place.value())
 }
 
-#[tactic(auto, using(arbitrary_laws::proofs::BitVector::bit_tests))]
+#[tactic(auto, using(arbitrary_laws::proofs::Sets::masks))]
 pub fn another_bit_is_tested_as_before(map: u24, place: u8, other: u8) -> bool
     requires place { place < 24 }
     requires other { other < 24 }
@@ -69,7 +69,7 @@ pub fn another_bit_is_tested_as_before(map: u24, place: u8, other: u8) -> bool
     ((set >> place) & u24::new(1) == u24::new(1)) == ((map >> place) & u24::new(1) == u24::new(1))
 }
 
-#[tactic(auto, using(arbitrary_laws::proofs::BitVector::bit_tests))]
+#[tactic(auto, using(arbitrary_laws::proofs::Sets::masks))]
 pub fn complement_is_tested(map: u24, place: u8) -> bool
     requires { place < 24 }
     ensures { IsTrue result }

@@ -1,6 +1,6 @@
 //! Words of any number of fields, put together by `|` and read back: one set for every spelling and either order.
 //! None has a proof of its own: the file names one set of laws, and some functions that with tests by `==`.
-#![tactic(auto, using(arbitrary_laws::proofs::fields::JoinedWords::joined_words))]
+#![tactic(auto, using(arbitrary_laws::proofs::Sets::fields))]
 
 ghost use Rattle.std.specs.Prelude.{◌≡◌, ◌+◌, ◌*◌, ◌/◌, ◌%◌, ◌+ℤ◌, ◌*ℤ◌, pos, IsTrue, false, if◌then◌else◌};
 ghost use Rattle.arbitrary_int.specs.Field.{field};
@@ -12,12 +12,6 @@ pub fn three_above_a_number(second: u5, first: u5, target: u5) -> u32
     ensures { pos result ≡ pos 1048576 *ℤ second +ℤ pos 32768 *ℤ first +ℤ pos 128 *ℤ target +ℤ pos 51 }
 {
     (second.as_u32() << 20) | (first.as_u32() << 15) | (target.as_u32() << 7) | 0x33
-}
-
-pub fn three_above_a_gap(second: u5, first: u5, target: u5) -> u32
-    ensures { pos result ≡ pos 1048576 *ℤ second +ℤ pos 32768 *ℤ first +ℤ pos 128 *ℤ target }
-{
-    (u32::from_(second) << 20) | (u32::from_(first) << 15) | (u32::from_(target) << 7)
 }
 
 pub fn three_by_a_cast(a: u3, b: u12, c: u5) -> u32
@@ -76,22 +70,10 @@ pub fn six_low_first(a: u6, b: u5, c: u5, d: u5, e: u5, f: u6) -> u32
         | (f.as_u32() << 26)
 }
 
-pub fn above_a_number(b: u5, c: u5, d: u5) -> u32
-    ensures { pos result ≡ pos 65536 *ℤ d +ℤ pos 2048 *ℤ c +ℤ pos 64 *ℤ b +ℤ pos 19 }
-{
-    0x13 | (b.as_u32() << 6) | (c.as_u32() << 11) | (d.as_u32() << 16)
-}
-
 pub fn numbers_at_two_places(a: u6, b: u5, c: u3, d: u5) -> u32
     ensures { pos result ≡ pos 2147483648 +ℤ pos 16777216 *ℤ d +ℤ pos 2097152 *ℤ c +ℤ pos 65536 *ℤ b +ℤ pos 8192 +ℤ a }
 {
     0x8000_0000 | (d.as_u32() << 24) | (c.as_u32() << 21) | (b.as_u32() << 16) | 0x2000 | a.as_u32()
-}
-
-pub fn numbers_at_two_places_low_first(a: u6, b: u5, c: u3, d: u5) -> u32
-    ensures { pos result ≡ pos 2147483648 +ℤ pos 16777216 *ℤ d +ℤ pos 2097152 *ℤ c +ℤ pos 65536 *ℤ b +ℤ pos 8192 +ℤ a }
-{
-    a.as_u32() | 0x2000 | (b.as_u32() << 16) | (c.as_u32() << 21) | (d.as_u32() << 24) | 0x8000_0000
 }
 
 pub fn parts_of_a_byte(target: u4, number: u8) -> u16
@@ -110,12 +92,6 @@ pub fn four_of_a_type(a: u7, b: u5, c: u5, d: u7) -> u24
     ensures { result ≡ pos 131072 *ℤ d +ℤ pos 4096 *ℤ c +ℤ pos 128 *ℤ b +ℤ a }
 {
     (u24::from_(d) << 17) | (u24::from_(c) << 12) | (u24::from_(b) << 7) | u24::from_(a)
-}
-
-pub fn four_of_a_type_low_first(a: u7, b: u5, c: u5, d: u7) -> u24
-    ensures { result ≡ pos 131072 *ℤ d +ℤ pos 4096 *ℤ c +ℤ pos 128 *ℤ b +ℤ a }
-{
-    u24::from_(a) | (u24::from_(b) << 7) | (u24::from_(c) << 12) | (u24::from_(d) << 17)
 }
 
 /// A transfer from memory.
@@ -231,7 +207,6 @@ pub fn one_of_five_under_a_mask(a: u3, b: u5, c: u8, d: u6, e: u10) -> u32
     (word >> 10) & 0x3F
 }
 
-#[tactic(auto, using(arbitrary_laws::proofs::fields::JoinedWords::words_read_back))]
 pub fn each_read_back(version: u4, kind: u4, size: u24) -> bool
     ensures { IsTrue result }
 {
@@ -241,7 +216,6 @@ pub fn each_read_back(version: u4, kind: u4, size: u24) -> bool
         && u24::extract_u32(word, 0) == size
 }
 
-#[tactic(auto, using(arbitrary_laws::proofs::fields::JoinedWords::words_read_back))]
 pub fn read_back_beside_numbers(mode: u3, source: u5) -> bool
     ensures { IsTrue result }
 {
@@ -249,7 +223,6 @@ pub fn read_back_beside_numbers(mode: u3, source: u5) -> bool
     u3::extract_u16(word, 8) == mode && word.as_::<u5>() == source && word >> 15 == 1
 }
 
-#[tactic(auto, using(arbitrary_laws::proofs::fields::JoinedWords::words_read_back))]
 pub fn read_back_below_a_mask(word: u32, low: u5, high: u3) -> bool
     ensures { IsTrue result }
 {

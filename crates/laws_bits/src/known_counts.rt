@@ -1,15 +1,9 @@
 //! Laws of the counts of a number that is written out.
-#![tactic(auto, using(arbitrary_laws::proofs::BitVector::known_counts))]
+#![tactic(auto, using(arbitrary_laws::proofs::Sets::counts))]
 
 ghost use Rattle.std.specs.Prelude.{IsTrue};
 
 use arbitrary_int::prelude::*;
-
-pub fn ones_of_a_number() -> bool
-    ensures { IsTrue result }
-{
-    u24::new(0xA5).count_ones() == 4 && u24::new(0xA5).count_zeros() == 20
-}
 
 pub fn ones_below_zero() -> bool
     ensures { IsTrue result }
@@ -21,12 +15,6 @@ pub fn zeros_at_the_low_end() -> bool
     ensures { IsTrue result }
 {
     u12::new(40).trailing_zeros() == 3 && i12::new(-40).trailing_zeros() == 3
-}
-
-pub fn ones_at_the_low_end() -> bool
-    ensures { IsTrue result }
-{
-    u12::new(0xF7).trailing_ones() == 3 && i12::new(-9).trailing_ones() == 3
 }
 
 pub fn zeros_at_the_high_end() -> bool

@@ -1,20 +1,33 @@
-//! Laws of `&`, `|`, `^` and `!`, of masks, of bits at their places and of their counts, most at `u12` and `i12`: each function tells whether
-//! the two sides are equal, and ensures that they are. None has a proof of its own: each file or function names one set of laws.
+//! Laws of `&`, `|`, `^` and `!`, of masks, of bits at their places and of their counts, most at `u12` and `i12`: each function compares the
+//! two sides, and ensures that they are equal. None has a proof of its own: each file or function names one set of laws.
 #![tactic(auto)]
 
+pub mod at_most_one_bit;
 pub mod bit_by_bit;
 pub mod bit_places;
 pub mod bits;
+pub mod converted_counts;
+pub mod count_bounds;
 pub mod counts;
 pub mod distribution;
 pub mod fields;
 pub mod joined_words;
 pub mod known_counts;
+pub mod leading_zeros;
+pub mod lowest_bit_counts;
+pub mod lowest_bits;
 pub mod lowest_masks;
 pub mod lowest_place;
 pub mod mask_digits;
 pub mod mask_tests;
 pub mod masked_results;
 pub mod masks;
+pub mod normal_shifts;
 pub mod one_bits;
+pub mod operations;
+pub mod parities;
+pub mod population;
+pub mod runs_of_two;
+pub mod signed;
+pub mod trailing_zeros;
 pub mod written_masks;

@@ -1,5 +1,5 @@
 //! Laws of the lowest bit of a sum, a difference and a product.
-#![tactic(auto, using(arbitrary_laws::proofs::places::LowestPlace::lowest_place))]
+#![tactic(auto, using(arbitrary_laws::proofs::Sets::masks))]
 
 ghost use Rattle.std.specs.Prelude.{IsTrue};
 
@@ -9,12 +9,6 @@ pub fn of_a_sum(x: u12, y: u12) -> bool
     ensures { IsTrue result }
 {
     x.wrapping_add(y) & u12::new(1) == (x ^ y) & u12::new(1)
-}
-
-pub fn of_a_difference(x: i24, y: i24) -> bool
-    ensures { IsTrue result }
-{
-    x.wrapping_sub(y) & i24::new(1) == (x ^ y) & i24::new(1)
 }
 
 pub fn of_a_product(x: u12, y: u12) -> bool

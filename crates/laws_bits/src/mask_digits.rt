@@ -12,12 +12,6 @@ pub fn both_set(flags: u9) -> bool
     flags & u9::new(0x12) == u9::new(0x12)
 }
 
-pub fn one_alone(flags: u9) -> bool
-    ensures { IsTrue result ↔ ((unsigned_abs flags / 2 % 2 ≡ 1) × (unsigned_abs flags / 16 % 2 ≡ 0)) }
-{
-    flags & u9::new(0x12) == u9::new(2)
-}
-
 pub fn neither_set(flags: u24) -> bool
     ensures { IsTrue result ↔ ((unsigned_abs flags / 128 % 2 ≡ 0) × (unsigned_abs flags / 65536 % 2 ≡ 0)) }
 {
@@ -40,12 +34,6 @@ pub fn any_of_two(status: u8) -> bool
     ensures { IsTrue result ↔ (0 < status / 2 % 2 + status / 64 % 2) }
 {
     status & 0x42 != 0
-}
-
-pub fn digits_left(status: u8) -> u8
-    ensures { result ≡ status / 2 % 2 * 2 + status / 8 % 2 * 8 + status / 64 % 2 * 64 }
-{
-    status & 0x4A
 }
 
 pub fn digits_left_of_a_type(flags: u12) -> u12

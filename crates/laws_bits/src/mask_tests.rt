@@ -1,5 +1,5 @@
 //! Two tests of bits that tell the same, each by the set `mask_tests` alone.
-#![tactic(auto, using(arbitrary_laws::proofs::BitVector::mask_tests))]
+#![tactic(auto, using(arbitrary_laws::proofs::Sets::bits))]
 
 ghost use Rattle.std.specs.Prelude.{◌≡◌, ◌↔◌, pos, IsTrue};
 
@@ -17,22 +17,10 @@ pub fn within_by_or(a: UInt<u8, 8>, b: UInt<u8, 8>) -> bool
     (a & b == a) == (a | b == b)
 }
 
-pub fn within_each_other(x: i48, y: i48) -> bool
-    ensures { IsTrue result }
-{
-    (x & !y == i48::zero() && y & !x == i48::zero()) == (x == y)
-}
-
 pub fn changes_nothing(x: u12, y: u12) -> bool
     ensures { IsTrue result }
 {
     (x ^ y == x) == (y == u12::zero())
-}
-
-pub fn no_difference(a: u80, b: u80) -> bool
-    ensures { IsTrue result }
-{
-    (a ^ b == u80::zero()) == (a == b)
 }
 
 pub fn no_bit_in_common(a: i12, b: i12) -> bool
@@ -51,12 +39,6 @@ pub fn nothing_joined(x: i33, y: i33) -> bool
     ensures { IsTrue result ↔ ((x ≡ pos 0) × (y ≡ pos 0)) }
 {
     x | y == i33::zero()
-}
-
-pub fn no_flag_in_either(x: u100, y: u100) -> bool
-    ensures { IsTrue result }
-{
-    (x | y == u100::zero()) == (x == u100::zero() && y == u100::zero())
 }
 
 pub fn every_bit_in_both(x: i24, y: i24) -> bool

@@ -1,5 +1,5 @@
 //! Laws of numbers under a mask, at types of both signs.
-#![tactic(auto, using(arbitrary_laws::proofs::BitVector::masks))]
+#![tactic(auto, using(arbitrary_laws::proofs::Sets::bits))]
 
 ghost use Rattle.std.specs.Prelude.{IsTrue};
 
@@ -18,12 +18,6 @@ pub fn sum_of_parts(x: u24, m: u24) -> bool
 }
 
 pub fn choice(x: i5, y: i5, m: i5) -> bool
-    ensures { IsTrue result }
-{
-    ((x & m) | (y & !m)) == (y ^ ((x ^ y) & m))
-}
-
-pub fn choice_unsigned(x: u24, y: u24, m: u24) -> bool
     ensures { IsTrue result }
 {
     ((x & m) | (y & !m)) == (y ^ ((x ^ y) & m))
@@ -51,12 +45,6 @@ pub fn and_not_as_xor(x: i5, y: i5) -> bool
     ensures { IsTrue result }
 {
     (x & !y) == (x ^ (x & y))
-}
-
-pub fn or_as_xor(x: u24, y: u24) -> bool
-    ensures { IsTrue result }
-{
-    (x | y) == ((x ^ y) ^ (x & y))
 }
 
 pub fn majority(x: u24, y: u24, z: u24) -> bool

@@ -1,5 +1,5 @@
 //! Written numbers that follow each other under `&`, `|` and `^`, and the parts of a number under written masks.
-#![tactic(auto, using(arbitrary_laws::proofs::BitVector::written_masks))]
+#![tactic(auto, using(arbitrary_laws::proofs::Sets::masks))]
 
 ghost use Rattle.std.specs.Prelude.{IsTrue};
 
@@ -21,19 +21,6 @@ pub fn turned_twice(x: i12) -> bool
     ensures { IsTrue result }
 {
     x ^ i12::new(0x0F) ^ i12::new(0xF0) == x ^ i12::new(0xFF)
-}
-
-pub fn turned_back(x: u12) -> bool
-    ensures { IsTrue result }
-{
-    x ^ u12::new(0x55) ^ u12::new(0x55) == x
-}
-
-/// A number is the `|` of its parts under masks that cover it.
-pub fn two_parts(x: u12) -> bool
-    ensures { IsTrue result }
-{
-    (x & u12::new(0xF0F)) | (x & u12::new(0x0F0)) == x
 }
 
 pub fn three_parts(x: u24) -> bool

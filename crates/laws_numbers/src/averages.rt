@@ -1,5 +1,5 @@
 //! The mean of two numbers by their bits, which no sum on the way overflows: rounded down and up, without a sign and with one.
-#![tactic(auto, using(arbitrary_laws::proofs::sums::Averages::averages))]
+#![tactic(auto, using(arbitrary_laws::proofs::Sets::sums))]
 
 ghost use Rattle.std.specs.Prelude.{◌*ℤ◌, ◌+ℤ◌, ◌≡◌, ◌≤ℤ◌, IsTrue, int_div, pos};
 
@@ -11,24 +11,11 @@ pub fn down(x: u31, y: u31) -> u31
     (x & y) + ((x ^ y) >> 1)
 }
 
-pub fn down_wrapped(x: u12, y: u12) -> u12
-    ensures { result ≡ int_div (x +ℤ y) (pos 2) }
-{
-    (x & y).wrapping_add((x ^ y) >> 1)
-}
-
 pub fn down_with_a_sign(x: i24, y: i24) -> i24
     ensures low { (pos 2 *ℤ result) ≤ℤ (x +ℤ y) }
     ensures high { (x +ℤ y) ≤ℤ (pos 2 *ℤ result +ℤ pos 1) }
 {
     (x & y) + ((x ^ y) >> 1)
-}
-
-pub fn down_wrapped_with_a_sign(x: i12, y: i12) -> i12
-    ensures low { (pos 2 *ℤ result) ≤ℤ (x +ℤ y) }
-    ensures high { (x +ℤ y) ≤ℤ (pos 2 *ℤ result +ℤ pos 1) }
-{
-    (x & y).wrapping_add((x ^ y) >> 1)
 }
 
 pub fn up(x: u24, y: u24) -> u24

@@ -1,7 +1,7 @@
 //! Steps that wrap, one after another, and conversions between them: what comes out up to a multiple of the numbers of the type.
 #![tactic(auto, using(arbitrary_laws::proofs::numbers::Conversions::congruences))]
 
-ghost use Rattle.std.specs.Prelude.{◌+ℤ◌, ◌-ℤ◌, ◌*ℤ◌, pos};
+ghost use Rattle.std.specs.Prelude.{◌+ℤ◌, ◌*ℤ◌, pos};
 ghost use Rattle.arbitrary_int.specs.Residue.{Congruent};
 
 use arbitrary_int::prelude::*;
@@ -10,12 +10,6 @@ pub fn hash_step(hash: u12) -> u12
     ensures { Congruent 12 result (pos 5 *ℤ hash +ℤ pos 3) }
 {
     hash.wrapping_mul(u12::new(5)).wrapping_add(u12::new(3))
-}
-
-pub fn sum_of_three(a: u13, b: u13, c: u13) -> u13
-    ensures { Congruent 13 result (a +ℤ b +ℤ c) }
-{
-    a.wrapping_add(b).wrapping_add(c)
 }
 
 pub fn moved(position: u14, step: i14) -> u14
@@ -28,12 +22,6 @@ pub fn turn(from: u14, to: u14) -> i14
     ensures { Congruent 14 (from +ℤ result) to }
 {
     to.wrapping_sub(from).as_::<i14>()
-}
-
-pub fn oldest(head: u4, count: u5) -> u4
-    ensures { Congruent 4 result (head -ℤ count) }
-{
-    head.wrapping_sub(count.as_::<u4>())
 }
 
 pub fn halves(x: i12) -> (u7, u5)

@@ -1,5 +1,5 @@
 //! Laws of sums and differences that wrap, of numbers that were converted or wrapped before: in range they are exact.
-#![tactic(auto, using(arbitrary_laws::proofs::sums::ExactSums::exact_sums))]
+#![tactic(auto, using(arbitrary_laws::proofs::Sets::numbers))]
 
 ghost use Rattle.std.specs.Prelude.{◌≡◌, ◌+ℤ◌, ◌-ℤ◌, ◌≤ℤ◌, pos, IsTrue};
 
@@ -11,14 +11,6 @@ pub fn moved_by_a_signed_offset(base: u12, offset: i12) -> u12
     ensures { result ≡ base +ℤ offset }
 {
     base.wrapping_add(offset.to_unsigned())
-}
-
-pub fn moved_by_an_extended_offset(base: u24, offset: i12) -> u24
-    requires low { pos 0 ≤ℤ (base +ℤ offset) }
-    requires high { (base +ℤ offset) ≤ℤ pos 16777215 }
-    ensures { result ≡ base +ℤ offset }
-{
-    base.wrapping_add(offset.as_::<u24>())
 }
 
 pub fn moved_back_by_a_signed_offset(base: u12, offset: i12) -> u12

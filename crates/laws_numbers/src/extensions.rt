@@ -1,5 +1,5 @@
 //! Laws of bits of numbers that are extended: at the wider type, and at the storage and wider primitives, they are the same.
-#![tactic(auto, using(arbitrary_laws::proofs::signs::Extensions::extensions))]
+#![tactic(auto, using(arbitrary_laws::proofs::Sets::numbers))]
 
 ghost use Rattle.std.specs.Prelude.{◌<◌, IsTrue};
 
@@ -9,18 +9,6 @@ pub fn and(x: i12, y: i12) -> bool
     ensures { IsTrue result }
 {
     i24::from_(x & y) == i24::from_(x) & i24::from_(y)
-}
-
-pub fn or(x: i12, y: i12) -> bool
-    ensures { IsTrue result }
-{
-    i48::from_(x | y) == i48::from_(x) | i48::from_(y)
-}
-
-pub fn xor(x: u12, y: u12) -> bool
-    ensures { IsTrue result }
-{
-    u100::from_(x ^ y) == u100::from_(x) ^ u100::from_(y)
 }
 
 pub fn right_shift(x: i12) -> bool

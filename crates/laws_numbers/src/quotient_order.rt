@@ -1,5 +1,5 @@
 //! Laws of quotients beside their dividends, beside other quotients, and of a product that is divided again.
-#![tactic(auto, using(arbitrary_laws::proofs::numbers::QuotientOrder::quotient_order))]
+#![tactic(auto, using(arbitrary_laws::proofs::Sets::numbers))]
 
 ghost use Rattle.std.specs.Prelude.{◌≢◌, ◌<ℤ◌, ◌≤ℤ◌, ◌≡◌, pos, IsTrue};
 
@@ -17,13 +17,6 @@ pub fn less_than_the_divisor(x: u24, y: u24) -> u24
     ensures { result ≡ pos 0 }
 {
     x / y
-}
-
-pub fn keeps_order(x: u24, y: u24) -> bool
-    requires { x ≤ℤ y }
-    ensures { IsTrue result }
-{
-    x / u24::new(7) <= y / u24::new(7)
 }
 
 pub fn keeps_order_with_a_sign(x: i48, y: i48) -> bool

@@ -1,7 +1,7 @@
 //! Laws of quotients whose dividend is a sum, a product, a quotient or a negated number, of those that are 0, and of two in order.
-#![tactic(auto, using(arbitrary_laws::proofs::numbers::QuotientParts::quotient_parts))]
+#![tactic(auto, using(arbitrary_laws::proofs::Sets::numbers))]
 
-ghost use Rattle.std.specs.Prelude.{◌+ℤ◌, ◌-ℤ◌, ◌<ℤ◌, ◌≡◌, ◌≢◌, ◌≤ℤ◌, IsTrue, pos};
+ghost use Rattle.std.specs.Prelude.{◌+ℤ◌, ◌-ℤ◌, ◌<ℤ◌, ◌≤ℤ◌, IsTrue, pos};
 
 use arbitrary_int::prelude::*;
 
@@ -54,16 +54,6 @@ pub fn of_a_negated_number(x: i12, y: i12) -> bool
     (-x) / y == -(x / y)
 }
 
-#[tactic(auto, using(arbitrary_laws::proofs::numbers::QuotientParts::quotient_pairs))]
-pub fn in_order(x: u24, y: u24, z: u24) -> bool
-    requires order { x ≤ℤ y }
-    requires some { z ≢ pos 0 }
-    ensures { IsTrue result }
-{
-    x / z <= y / z
-}
-
-#[tactic(auto, using(arbitrary_laws::proofs::numbers::QuotientParts::quotient_pairs))]
 pub fn in_order_by_less(x: u63, y: u63, a: u63, b: u63) -> bool
     requires dividends { x ≤ℤ y }
     requires some { pos 0 <ℤ a }

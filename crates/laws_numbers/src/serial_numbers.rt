@@ -1,5 +1,5 @@
 //! Serial numbers, which are counted round: one is ahead of another by the difference that wraps, and never both of each other.
-#![tactic(auto, using(arbitrary_laws::proofs::sums::SerialNumbers::serial_numbers))]
+#![tactic(auto, using(arbitrary_laws::proofs::Sets::numbers))]
 
 ghost use Rattle.std.specs.Prelude.{◌<ℤ◌, pos, IsTrue};
 
@@ -33,13 +33,4 @@ pub fn ahead_after_a_step(number: u12, step: u12) -> bool
 {
     let next = number.wrapping_add(step);
     next.wrapping_sub(number) < u12::new(2048)
-}
-
-pub fn ahead_after_a_step_by_the_sign(number: u12, step: u12) -> bool
-    requires some { pos 0 <ℤ step }
-    requires small { step <ℤ pos 2048 }
-    ensures { IsTrue result }
-{
-    let next = number.wrapping_add(step);
-    next.wrapping_sub(number).as_::<i12>() > i12::new(0)
 }

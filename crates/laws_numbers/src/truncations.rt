@@ -1,5 +1,5 @@
 //! Laws of a result that is converted to a narrower type: the operation may come before the conversion or behind it.
-#![tactic(auto, using(arbitrary_laws::proofs::shifts::Truncations::truncations))]
+#![tactic(auto, using(arbitrary_laws::proofs::Sets::numbers))]
 
 ghost use Rattle.std.specs.Prelude.{IsTrue};
 
@@ -9,12 +9,6 @@ pub fn sum(x: u24, y: u24) -> bool
     ensures { IsTrue result }
 {
     x.wrapping_add(y).as_::<u9>() == x.as_::<u9>().wrapping_add(y.as_::<u9>())
-}
-
-pub fn difference(x: i24, y: i24) -> bool
-    ensures { IsTrue result }
-{
-    x.wrapping_sub(y).as_::<i9>() == x.as_::<i9>().wrapping_sub(y.as_::<i9>())
 }
 
 pub fn product(x: u48, y: u48) -> bool
@@ -27,18 +21,6 @@ pub fn and(x: u24, y: u24) -> bool
     ensures { IsTrue result }
 {
     (x & y).as_::<u9>() == x.as_::<u9>() & y.as_::<u9>()
-}
-
-pub fn or(x: i48, y: i48) -> bool
-    ensures { IsTrue result }
-{
-    (x | y).as_::<i12>() == x.as_::<i12>() | y.as_::<i12>()
-}
-
-pub fn xor(x: u120, y: u120) -> bool
-    ensures { IsTrue result }
-{
-    (x ^ y).as_::<u9>() == x.as_::<u9>() ^ y.as_::<u9>()
 }
 
 pub fn not(x: i24) -> bool

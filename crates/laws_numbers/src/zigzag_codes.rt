@@ -1,5 +1,5 @@
 //! Laws of a number coded with its sign in the lowest bit (zigzag): small numbers of either sign have small codes.
-#![tactic(auto, using(arbitrary_laws::proofs::signs::ZigZag::zigzag))]
+#![tactic(auto, using(arbitrary_laws::proofs::Sets::signs))]
 
 ghost use Rattle.std.specs.Prelude.{◌≡◌, ◌-ℤ◌, ◌*ℤ◌, ◌≤ℤ◌, ◌<ℤ◌, pos, neg_ℤ};
 
@@ -10,13 +10,6 @@ pub fn code(x: i12) -> u12
     ensures below { x <ℤ pos 0 → result ≡ neg_ℤ (pos 2 *ℤ x) -ℤ pos 1 }
 {
     ((x << 1) ^ (x >> 11)).to_unsigned()
-}
-
-pub fn code_by_conversion(x: i24) -> u24
-    ensures above { pos 0 ≤ℤ x → result ≡ x *ℤ pos 2 }
-    ensures below { x <ℤ pos 0 → result ≡ neg_ℤ (x *ℤ pos 2) -ℤ pos 1 }
-{
-    ((x << 1) ^ (x >> 23)).as_::<u24>()
 }
 
 pub fn code_by_a_call(x: i12) -> u12

@@ -1,20 +1,11 @@
 //! A number under `^` with itself shifted: Gray codes there and back, and steps of generators that undo themselves.
-#![tactic(auto, using(arbitrary_laws::proofs::BitVector::shifted_xors))]
+#![tactic(auto, using(arbitrary_laws::proofs::Sets::shifts))]
 
 ghost use Rattle.std.specs.Prelude.{IsTrue};
 
 use arbitrary_int::prelude::*;
 
-/// A Gray code of three bits, back by two shifts of it.
-pub fn gray_of_three_bits(x: u3) -> bool
-    ensures { IsTrue result }
-{
-    let gray = x ^ (x >> 1);
-    gray ^ (gray >> 1) ^ (gray >> 2) == x
-}
-
 /// Of four bits, back by doubled shifts.
-#[tactic(auto, using(arbitrary_laws::proofs::BitVector::folds))]
 pub fn gray_of_four_bits(x: u4) -> bool
     ensures { IsTrue result }
 {
@@ -24,7 +15,6 @@ pub fn gray_of_four_bits(x: u4) -> bool
 }
 
 /// Of four bits, where the code is shifted by two places first.
-#[tactic(auto, using(arbitrary_laws::proofs::shifts::FoldingOrder::folding_orders))]
 pub fn gray_by_two_places_first(x: u4) -> bool
     ensures { IsTrue result }
 {
@@ -34,7 +24,6 @@ pub fn gray_by_two_places_first(x: u4) -> bool
 }
 
 /// Of twelve bits.
-#[tactic(auto, using(arbitrary_laws::proofs::BitVector::folds))]
 pub fn gray_of_twelve_bits(x: u12) -> bool
     ensures { IsTrue result }
 {
@@ -66,12 +55,4 @@ pub fn left_again(x: u12) -> bool
 {
     let y = x ^ (x << 7);
     y ^ (y << 7) == x
-}
-
-/// A shift by less, undone by two.
-pub fn right_by_two(x: u12) -> bool
-    ensures { IsTrue result }
-{
-    let y = x ^ (x >> 5);
-    y ^ (y >> 5) ^ (y >> 10) == x
 }

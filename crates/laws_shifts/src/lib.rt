@@ -9,7 +9,6 @@ pub mod reversals;
 pub mod right_rotations;
 pub mod rotations;
 pub mod shifts;
-pub mod variable_amounts;
 pub mod variable_masks;
 pub mod variable_parts;
 pub mod variable_places;

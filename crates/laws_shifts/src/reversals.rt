@@ -1,5 +1,5 @@
 //! Laws of the reversal, and a rotation as two shifts.
-#![tactic(auto, using(arbitrary_laws::proofs::BitVector::reversals))]
+#![tactic(auto, using(arbitrary_laws::proofs::Sets::shifts))]
 
 ghost use Rattle.std.specs.Prelude.{IsTrue, ◌<◌};
 
@@ -9,18 +9,6 @@ pub fn rotl_is_shifts(x: u12) -> bool
     ensures { IsTrue result }
 {
     x.rotate_left(3) == (x.wrapping_shl(3) | x.wrapping_shr(12 - 3))
-}
-
-pub fn rev_zero() -> bool
-    ensures { IsTrue result }
-{
-    u12::zero().reverse_bits() == u12::zero()
-}
-
-pub fn rev_ones() -> bool
-    ensures { IsTrue result }
-{
-    u12::max_value().reverse_bits() == u12::max_value()
 }
 
 pub fn rev_not(x: u12) -> bool
@@ -63,12 +51,6 @@ pub fn rotl_by_sum(x: u12) -> bool
     ensures { IsTrue result }
 {
     (x << 4).wrapping_add(x >> 8) == x.rotate_left(4)
-}
-
-pub fn rotr_by_xor(x: u24) -> bool
-    ensures { IsTrue result }
-{
-    (x >> 4) ^ (x << 20) == x.rotate_right(4)
 }
 
 pub fn one_reversed() -> bool

@@ -1,5 +1,5 @@
 //! Laws of rotations to the right, and of any two rotations in either order, by amounts that may vary.
-#![tactic(auto, using(arbitrary_laws::proofs::rotations::RightRotations::right_rotations))]
+#![tactic(auto, using(arbitrary_laws::proofs::Sets::shifts))]
 
 ghost use Rattle.std.specs.Prelude.{IsTrue};
 
@@ -11,40 +11,16 @@ pub fn and_turned(x: u12, y: u12, k: u32) -> bool
     (x & y).rotate_right(k) == x.rotate_right(k) & y.rotate_right(k)
 }
 
-pub fn and_turned_by_seven(x: i24, y: i24) -> bool
-    ensures { IsTrue result }
-{
-    (x & y).rotate_right(7) == x.rotate_right(7) & y.rotate_right(7)
-}
-
-pub fn or_turned(x: u24, y: u24) -> bool
-    ensures { IsTrue result }
-{
-    (x | y).rotate_right(9) == x.rotate_right(9) | y.rotate_right(9)
-}
-
 pub fn xor_turned(x: i12, y: i12, k: u32) -> bool
     ensures { IsTrue result }
 {
     (x ^ y).rotate_right(k) == x.rotate_right(k) ^ y.rotate_right(k)
 }
 
-pub fn complement_turned(x: i40, k: u32) -> bool
-    ensures { IsTrue result }
-{
-    (!x).rotate_right(k) == !x.rotate_right(k)
-}
-
 pub fn ones_turned(k: u32) -> bool
     ensures { IsTrue result }
 {
     u24::max_value().rotate_right(k) == u24::max_value()
-}
-
-pub fn minus_one_turned(k: u32) -> bool
-    ensures { IsTrue result }
-{
-    i24::new(-1).rotate_right(k) == i24::new(-1)
 }
 
 pub fn ones_counted(x: u24, k: u32) -> bool

@@ -1,5 +1,5 @@
 //! Laws of rotations.
-#![tactic(auto, using(arbitrary_laws::proofs::BitVector::rotations))]
+#![tactic(auto, using(arbitrary_laws::proofs::Sets::shifts))]
 
 ghost use Rattle.std.specs.Prelude.{IsTrue};
 
@@ -39,12 +39,6 @@ pub fn rotl_not(x: u12) -> bool
     ensures { IsTrue result }
 {
     (!x).rotate_left(3) == !x.rotate_left(3)
-}
-
-pub fn rotl_zero_value() -> bool
-    ensures { IsTrue result }
-{
-    u12::zero().rotate_left(3) == u12::zero()
 }
 
 pub fn rotl_ones_value() -> bool

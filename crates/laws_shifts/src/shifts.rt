@@ -1,5 +1,5 @@
 //! Laws of shifts, alone and over bits and sums.
-#![tactic(auto, using(arbitrary_laws::proofs::BitVector::shifts))]
+#![tactic(auto, using(arbitrary_laws::proofs::Sets::shifts))]
 
 ghost use Rattle.std.specs.Prelude.{IsTrue, ◌≤ℤ◌, ◌<ℤ◌, negsuc, pos};
 
@@ -9,18 +9,6 @@ pub fn shl_and(x: u12, y: u12) -> bool
     ensures { IsTrue result }
 {
     ((x & y).wrapping_shl(2)) == (x.wrapping_shl(2) & y.wrapping_shl(2))
-}
-
-pub fn shl_or(x: u12, y: u12) -> bool
-    ensures { IsTrue result }
-{
-    ((x | y).wrapping_shl(2)) == (x.wrapping_shl(2) | y.wrapping_shl(2))
-}
-
-pub fn shr_and(x: u12, y: u12) -> bool
-    ensures { IsTrue result }
-{
-    ((x & y).wrapping_shr(2)) == (x.wrapping_shr(2) & y.wrapping_shr(2))
 }
 
 pub fn shr_xor(x: u12, y: u12) -> bool
@@ -35,22 +23,10 @@ pub fn shr_shl_is_mask(x: u12) -> bool
     x.wrapping_shr(2).wrapping_shl(2) == (x & u12::max_value().wrapping_shl(2))
 }
 
-pub fn shl_shr_is_mask(x: u12) -> bool
-    ensures { IsTrue result }
-{
-    x.wrapping_shl(2).wrapping_shr(2) == (x & u12::max_value().wrapping_shr(2))
-}
-
 pub fn shl_add(x: u12, y: u12) -> bool
     ensures { IsTrue result }
 {
     x.wrapping_add(y).wrapping_shl(2) == x.wrapping_shl(2).wrapping_add(y.wrapping_shl(2))
-}
-
-pub fn shr_shl_is_numeral(x: u12) -> bool
-    ensures { IsTrue result }
-{
-    x.wrapping_shr(2).wrapping_shl(2) == (x & u12::new(0xFFC))
 }
 
 pub fn shr_shl_is_numeral_signed(x: i12) -> bool
@@ -69,12 +45,6 @@ pub fn shr_not(x: i12) -> bool
     ensures { IsTrue result }
 {
     (!x).wrapping_shr(2) == !x.wrapping_shr(2)
-}
-
-pub fn shr_xor_signed(x: i12, y: i12) -> bool
-    ensures { IsTrue result }
-{
-    ((x ^ y).wrapping_shr(2)) == (x.wrapping_shr(2) ^ y.wrapping_shr(2))
 }
 
 pub fn small_shl_shr(x: i12) -> bool

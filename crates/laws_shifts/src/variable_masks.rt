@@ -1,5 +1,5 @@
 //! Laws of the mask of the k lowest bits, where k varies, and of what it leaves of a number and clears.
-#![tactic(auto, using(arbitrary_laws::proofs::masks::VariableMasks::variable_masks))]
+#![tactic(auto, using(arbitrary_laws::proofs::Sets::shifts))]
 
 ghost use Rattle.std.specs.Prelude.{◌<◌, IsTrue};
 
@@ -18,13 +18,6 @@ pub fn mask_is_shifted_down(k: u32) -> bool
     ensures { IsTrue result }
 {
     (u12::new(1) << k) - u12::new(1) == u12::max_value() >> (12 - k)
-}
-
-pub fn mask_is_a_complement_with_a_sign(k: u32) -> bool
-    requires { k < 12 }
-    ensures { IsTrue result }
-{
-    (i12::new(1) << k).wrapping_sub(i12::new(1)) == !(i12::new(-1) << k)
 }
 
 pub fn low_bits_cleared(x: u24, k: u32) -> bool
@@ -48,25 +41,11 @@ pub fn joined_by_or(x: i24, k: u32) -> bool
     (x & !(i24::new(-1) << k)) | ((x >> k) << k) == x
 }
 
-pub fn joined_by_xor(x: u24, k: u32) -> bool
-    requires { k < 24 }
-    ensures { IsTrue result }
-{
-    (x & !(!u24::zero() << k)) ^ ((x >> k) << k) == x
-}
-
 pub fn cleared_then_shifted_out(x: u24, k: u32) -> bool
     requires { k < 24 }
     ensures { IsTrue result }
 {
     (x & (u24::max_value() << k)) >> k == x >> k
-}
-
-pub fn cleared_then_shifted_out_with_a_sign(x: i24, k: u32) -> bool
-    requires { k < 24 }
-    ensures { IsTrue result }
-{
-    (x & (i24::new(-1) << k)) >> k == x >> k
 }
 
 pub fn back_and_again(x: i12, k: u32) -> bool
@@ -117,18 +96,4 @@ pub fn high_bits_alone(x: u24, k: u32) -> bool
     ensures { IsTrue result }
 {
     x & (u24::max_value() << k) == (x >> k) << k
-}
-
-pub fn masked_twice(x: i12, k: u32) -> bool
-    requires { k < 12 }
-    ensures { IsTrue result }
-{
-    (x & !(i12::new(-1) << k)) & !(i12::new(-1) << k) == x & !(i12::new(-1) << k)
-}
-
-pub fn low_bits_turned_off(x: u12, k: u32) -> bool
-    requires { k < 12 }
-    ensures { IsTrue result }
-{
-    x ^ (x & ((u12::new(1) << k) - u12::new(1))) == (x >> k) << k
 }

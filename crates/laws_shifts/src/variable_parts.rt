@@ -1,5 +1,5 @@
 //! Laws of the k lowest bits of a number, where k varies, and of the bits above them: as exact sums and differences, and in order.
-#![tactic(auto, using(arbitrary_laws::proofs::masks::VariableMasks::variable_parts))]
+#![tactic(auto, using(arbitrary_laws::proofs::Sets::shifts))]
 
 ghost use Rattle.std.specs.Prelude.{◌<◌, IsTrue};
 
@@ -10,13 +10,6 @@ pub fn low_bits_by_a_difference(x: u24, k: u32) -> bool
     ensures { IsTrue result }
 {
     x & ((u24::new(1) << k).wrapping_sub(u24::new(1))) == x - ((x >> k) << k)
-}
-
-pub fn low_bits_by_a_difference_with_a_sign(x: i12, k: u32) -> bool
-    requires { k < 12 }
-    ensures { IsTrue result }
-{
-    x & ((i12::new(1) << k).wrapping_sub(i12::new(1))) == x - ((x >> k) << k)
 }
 
 pub fn parts_added(x: u24, k: u32) -> bool
@@ -31,13 +24,6 @@ pub fn less_than_one_bit_more(x: u12, k: u32) -> bool
     ensures { IsTrue result }
 {
     x & ((u12::new(1) << k) - u12::new(1)) < u12::new(1) << k
-}
-
-pub fn low_bits_are_at_most_the_number(x: u24, k: u32) -> bool
-    requires { k < 24 }
-    ensures { IsTrue result }
-{
-    x & ((u24::new(1) << k) - u24::new(1)) <= x
 }
 
 pub fn low_bits_taken_away(x: u24, k: u32) -> bool

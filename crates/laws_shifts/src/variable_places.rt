@@ -1,5 +1,5 @@
 //! Laws of left shifts by an amount that varies, beside products and negation, and of bits at places that vary.
-#![tactic(auto, using(arbitrary_laws::proofs::shifts::MovedProducts::moved_products))]
+#![tactic(auto, using(arbitrary_laws::proofs::Sets::shifts))]
 
 ghost use Rattle.std.specs.Prelude.{◌<◌, ◌≢◌, IsTrue};
 
@@ -20,25 +20,11 @@ pub fn negated_then_shifted(x: i24, k: u32) -> bool
     x.wrapping_neg() << k == (x << k).wrapping_neg()
 }
 
-pub fn negated_then_shifted_with_no_sign(x: u12, k: u32) -> bool
-    requires { k < 12 }
-    ensures { IsTrue result }
-{
-    x.wrapping_neg() << k == (x << k).wrapping_neg()
-}
-
 pub fn shift_is_a_product(x: i24, k: u32) -> bool
     requires { k < 24 }
     ensures { IsTrue result }
 {
     x << k == x.wrapping_mul(i24::new(1) << k)
-}
-
-pub fn shift_is_a_product_with_no_sign(x: u40, k: u32) -> bool
-    requires { k < 40 }
-    ensures { IsTrue result }
-{
-    x << k == x.wrapping_mul(u40::new(1) << k)
 }
 
 pub fn shifted_factor(x: u24, y: u24, k: u32) -> bool
@@ -48,14 +34,6 @@ pub fn shifted_factor(x: u24, y: u24, k: u32) -> bool
     (x << k).wrapping_mul(y) == x.wrapping_mul(y) << k
 }
 
-pub fn shift_goes_to_the_other_factor(x: i12, y: i12, k: u32) -> bool
-    requires { k < 12 }
-    ensures { IsTrue result }
-{
-    (x << k).wrapping_mul(y) == x.wrapping_mul(y << k)
-}
-
-#[tactic(auto, using(arbitrary_laws::proofs::places::VariablePlaces::variable_places))]
 pub fn set_beside_cleared(x: u24, i: u32, j: u32) -> bool
     requires one { i < 24 }
     requires other { j < 24 }
@@ -65,7 +43,6 @@ pub fn set_beside_cleared(x: u24, i: u32, j: u32) -> bool
     (x | u24::new(1) << i) & !(u24::new(1) << j) == (x & !(u24::new(1) << j)) | u24::new(1) << i
 }
 
-#[tactic(auto, using(arbitrary_laws::proofs::places::VariablePlaces::variable_places))]
 pub fn turned_beside_cleared(x: i12, i: u32, j: u32) -> bool
     requires one { i < 12 }
     requires other { j < 12 }
@@ -75,7 +52,6 @@ pub fn turned_beside_cleared(x: i12, i: u32, j: u32) -> bool
     (x ^ i12::new(1) << i) & !(i12::new(1) << j) == (x & !(i12::new(1) << j)) ^ i12::new(1) << i
 }
 
-#[tactic(auto, using(arbitrary_laws::proofs::places::VariablePlaces::variable_places))]
 pub fn lowest_bit_of_a_rotation(x: i24, place: u32) -> bool
     requires { place < 24 }
     ensures { IsTrue result }
@@ -83,18 +59,9 @@ pub fn lowest_bit_of_a_rotation(x: i24, place: u32) -> bool
     x.rotate_right(place) & i24::new(1) == (x >> place) & i24::new(1)
 }
 
-#[tactic(auto, using(arbitrary_laws::proofs::places::VariablePlaces::variable_places))]
 pub fn shifted_then_reversed(x: i24, k: u32) -> bool
     requires { k < 24 }
     ensures { IsTrue result }
 {
     (x << k).reverse_bits().to_unsigned() == x.reverse_bits().to_unsigned() >> k
-}
-
-pub fn right_shifts_in_either_order(x: i24, j: u32, k: u32) -> bool
-    requires one { j < 24 }
-    requires other { k < 24 }
-    ensures { IsTrue result }
-{
-    (x >> j) >> k == (x >> k) >> j
 }

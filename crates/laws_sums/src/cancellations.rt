@@ -1,6 +1,6 @@
 //! Laws of an operand that both sides of a test have, and that may be left out: each by the set `cancellations` alone. `order`
 //! has the laws of `<=` and its kin.
-#![tactic(auto, using(arbitrary_laws::proofs::BitVector::cancellations))]
+#![tactic(auto, using(arbitrary_laws::proofs::Sets::orders))]
 
 ghost use Rattle.std.specs.Prelude.{IsTrue};
 
@@ -10,12 +10,6 @@ pub fn sums(x: i12, y: i12, z: i12) -> bool
     ensures { IsTrue result }
 {
     (z.wrapping_add(x) == z.wrapping_add(y)) == (x == y)
-}
-
-pub fn differences(x: u24, y: u24, z: u24) -> bool
-    ensures { IsTrue result }
-{
-    (x.wrapping_sub(z) == y.wrapping_sub(z)) == (x == y)
 }
 
 pub fn differences_from(x: u5, y: u5, z: u5) -> bool
@@ -30,22 +24,10 @@ pub fn xors(x: i48, y: i48, z: i48) -> bool
     (z ^ x == z ^ y) == (x == y)
 }
 
-pub fn nots(x: i48, y: i48) -> bool
-    ensures { IsTrue result }
-{
-    (!x == !y) == (x == y)
-}
-
 pub fn reversals(x: u24, y: u24) -> bool
     ensures { IsTrue result }
 {
     (x.reverse_bits() == y.reverse_bits()) == (x == y)
-}
-
-pub fn left_rotations(x: u24, y: u24) -> bool
-    ensures { IsTrue result }
-{
-    (x.rotate_left(2) == y.rotate_left(2)) == (x == y)
 }
 
 pub fn right_rotations(x: i5, y: i5) -> bool

@@ -1,5 +1,5 @@
 //! Laws of carries and borrows.
-#![tactic(auto, using(arbitrary_laws::proofs::BitVector::carries))]
+#![tactic(auto, using(arbitrary_laws::proofs::Sets::sums))]
 
 ghost use Rattle.std.specs.Prelude.{IsTrue};
 
@@ -9,12 +9,6 @@ pub fn sum_by_carries(x: i12, y: i12) -> bool
     ensures { IsTrue result }
 {
     x.wrapping_add(y) == (x ^ y).wrapping_add((x & y).wrapping_shl(1))
-}
-
-pub fn sum_by_doubled_carries(x: u12, y: u12) -> bool
-    ensures { IsTrue result }
-{
-    x.wrapping_add(y) == (x ^ y).wrapping_add((x & y).wrapping_mul(u12::new(2)))
 }
 
 pub fn sum_by_or(x: i12, y: i12) -> bool
@@ -29,12 +23,6 @@ pub fn difference_by_borrows(x: u12, y: u12) -> bool
     x.wrapping_sub(y) == (x ^ y).wrapping_sub((!x & y).wrapping_shl(1))
 }
 
-pub fn difference_by_own_bits(x: u12, y: u12) -> bool
-    ensures { IsTrue result }
-{
-    x.wrapping_sub(y) == (x & !y).wrapping_shl(1).wrapping_sub(x ^ y)
-}
-
 pub fn difference_of_parts(x: i48, y: i48) -> bool
     ensures { IsTrue result }
 {
@@ -47,28 +35,10 @@ pub fn and_by_sum(x: i12, y: i12) -> bool
     x & y == x.wrapping_add(y).wrapping_sub(x | y)
 }
 
-pub fn or_by_sum(x: u24, y: u24) -> bool
-    ensures { IsTrue result }
-{
-    x | y == x.wrapping_add(y).wrapping_sub(x & y)
-}
-
-pub fn and_by_difference(x: u24, y: u24) -> bool
-    ensures { IsTrue result }
-{
-    x & y == (x | y).wrapping_sub(x ^ y)
-}
-
 pub fn or_of_parts(x: u24, y: u24) -> bool
     ensures { IsTrue result }
 {
     x | y == (x & !y).wrapping_add(y)
-}
-
-pub fn xor_of_parts(x: i5, y: i5) -> bool
-    ensures { IsTrue result }
-{
-    x ^ y == (x & !y).wrapping_add(!x & y)
 }
 
 pub fn highest_bit_added(x: u4) -> bool

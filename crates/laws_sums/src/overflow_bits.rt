@@ -1,5 +1,5 @@
 //! Laws of signs: an overflow told by those of the operands and of what wraps.
-#![tactic(auto, using(arbitrary_laws::proofs::signs::OverflowBits::overflow_bits))]
+#![tactic(auto, using(arbitrary_laws::proofs::Sets::signs))]
 
 ghost use Rattle.std.specs.Prelude.{◌↔◌, ◌⊎◌, ◌<ℤ◌, ◌+ℤ◌, ◌-ℤ◌, pos, neg_ℤ, IsTrue};
 
@@ -18,13 +18,6 @@ pub fn difference_overflows(x: i12, y: i12) -> bool
     (x ^ y) & (difference ^ x) < i12::zero()
 }
 
-pub fn sum_overflow_as_told(x: i24, y: i24) -> bool
-    ensures { IsTrue result }
-{
-    let sum = x.wrapping_add(y);
-    ((x ^ sum) & (y ^ sum) < i24::zero()) == x.overflowing_add(y).1
-}
-
 pub fn sum_and_flag(x: i12, y: i12) -> bool
     ensures { IsTrue result }
 {
@@ -32,14 +25,6 @@ pub fn sum_and_flag(x: i12, y: i12) -> bool
     overflow == ((x ^ sum) & (y ^ sum) < i12::zero())
 }
 
-pub fn difference_and_flag(x: i12, y: i12) -> bool
-    ensures { IsTrue result }
-{
-    let (difference, overflow) = x.overflowing_sub(y);
-    ((x ^ y) & (x ^ difference) < i12::zero()) == overflow
-}
-
-#[tactic(auto, using(arbitrary_laws::proofs::signs::OverflowBits::sign_of_xor))]
 pub fn signs_differ(x: i48, y: i48) -> bool
     ensures { IsTrue result }
 {

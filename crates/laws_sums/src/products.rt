@@ -1,5 +1,5 @@
 //! Laws of products that wrap.
-#![tactic(auto, using(arbitrary_laws::proofs::BitVector::products))]
+#![tactic(auto, using(arbitrary_laws::proofs::Sets::sums))]
 
 ghost use Rattle.std.specs.Prelude.{IsTrue};
 
@@ -17,28 +17,10 @@ pub fn distributes(x: u12, y: u12, z: u12) -> bool
     x.wrapping_mul(y.wrapping_add(z)) == x.wrapping_mul(y).wrapping_add(x.wrapping_mul(z))
 }
 
-pub fn distributes_from_the_right(x: u24, y: u24, z: u24) -> bool
-    ensures { IsTrue result }
-{
-    x.wrapping_add(y).wrapping_mul(z) == x.wrapping_mul(z).wrapping_add(y.wrapping_mul(z))
-}
-
 pub fn product_of_difference(x: u5, y: u5, z: u5) -> bool
     ensures { IsTrue result }
 {
     x.wrapping_sub(y).wrapping_mul(z) == x.wrapping_mul(z).wrapping_sub(y.wrapping_mul(z))
-}
-
-pub fn negated_on_the_left(x: u24, y: u24) -> bool
-    ensures { IsTrue result }
-{
-    u24::zero().wrapping_sub(x).wrapping_mul(y) == u24::zero().wrapping_sub(x.wrapping_mul(y))
-}
-
-pub fn distributes_signed(x: i12, y: i12, z: i12) -> bool
-    ensures { IsTrue result }
-{
-    x.wrapping_mul(y.wrapping_add(z)) == x.wrapping_mul(y).wrapping_add(x.wrapping_mul(z))
 }
 
 pub fn both_negated(x: i12, y: i12) -> bool
@@ -68,13 +50,6 @@ pub fn times_highest(x: u12) -> bool
     ensures { IsTrue result }
 {
     x.wrapping_mul(u12::max_value()) == x.wrapping_neg()
-}
-
-/// From the left.
-pub fn highest_times(x: u12) -> bool
-    ensures { IsTrue result }
-{
-    u12::max_value().wrapping_mul(x) == x.wrapping_neg()
 }
 
 pub fn product_beside_its_flag(x: i12, y: i12, z: i12) -> bool

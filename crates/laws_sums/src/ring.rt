@@ -1,5 +1,5 @@
 //! Laws of sums and differences that wrap.
-#![tactic(auto, using(arbitrary_laws::proofs::BitVector::ring))]
+#![tactic(auto, using(arbitrary_laws::proofs::Sets::sums))]
 
 ghost use Rattle.std.specs.Prelude.{IsTrue};
 
@@ -15,18 +15,6 @@ pub fn add_sub_cancel_left(x: u12, y: u12) -> bool
     ensures { IsTrue result }
 {
     x.wrapping_add(y).wrapping_sub(x) == y
-}
-
-pub fn add_of_difference(x: u12, y: u12) -> bool
-    ensures { IsTrue result }
-{
-    x.wrapping_add(y.wrapping_sub(x)) == y
-}
-
-pub fn sub_is_add_neg(x: u12, y: u12) -> bool
-    ensures { IsTrue result }
-{
-    x.wrapping_sub(y) == x.wrapping_add(u12::zero().wrapping_sub(y))
 }
 
 pub fn sub_sub_self_signed(x: i12, y: i12) -> bool

@@ -1,5 +1,5 @@
 //! Laws of a number under a spread sign, `x >> (BITS - 1)`, and of what it gives: the absolute, the lesser and the greater of two, one of 0 and -1.
-#![tactic(auto, using(arbitrary_laws::proofs::signs::SignMasks::sign_masks))]
+#![tactic(auto, using(arbitrary_laws::proofs::Sets::signs))]
 
 ghost use Rattle.std.specs.Prelude.{IsTrue};
 
@@ -17,12 +17,6 @@ pub fn at_least_minus_one(x: i120) -> bool
     x | (x >> 119) == x.max(i120::new(-1))
 }
 
-pub fn at_most_minus_one(x: i100) -> bool
-    ensures { IsTrue result }
-{
-    x | !(x >> 99) == x.min(i100::new(-1))
-}
-
 pub fn absolute_by_difference(x: i12) -> bool
     ensures { IsTrue result }
 {
@@ -35,12 +29,6 @@ pub fn absolute_by_sum(x: i24) -> bool
 {
     let sign = x >> 23;
     x.wrapping_add(sign) ^ sign == if x < i24::zero() { x.wrapping_neg() } else { x }
-}
-
-pub fn absolute_by_double(x: i12) -> bool
-    ensures { IsTrue result }
-{
-    x.wrapping_sub((x << 1) & (x >> 11)) == if x < i12::zero() { x.wrapping_neg() } else { x }
 }
 
 pub fn negated_absolute(x: i63) -> bool
@@ -79,11 +67,4 @@ pub fn negative_part(x: i7) -> bool
     ensures { IsTrue result }
 {
     (x & (x >> 6) == x) == (x <= i7::zero())
-}
-
-pub fn turned_below_zero(x: i100) -> bool
-    ensures { IsTrue result }
-{
-    let sign = x >> 99;
-    !(x ^ sign) == if x < i100::zero() { x } else { !x }
 }

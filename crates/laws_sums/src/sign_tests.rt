@@ -1,5 +1,5 @@
 //! Laws of signs: the order of two numbers, whether they are equal, and an overflow, told by the sign of what bits make of them.
-#![tactic(auto, using(arbitrary_laws::proofs::signs::SignTests::sign_tests))]
+#![tactic(auto, using(arbitrary_laws::proofs::Sets::signs))]
 
 ghost use Rattle.std.specs.Prelude.{◌≡◌, ◌≤ℤ◌, ◌<ℤ◌, ◌+ℤ◌, pos, IsTrue};
 
@@ -32,22 +32,10 @@ pub fn below_by_overflow(x: i24, y: i24) -> bool
     (difference ^ ((x ^ y) & (difference ^ x)) < i24::zero()) == (x < y)
 }
 
-pub fn at_most_by_bits(x: i24, y: i24) -> bool
-    ensures { IsTrue result }
-{
-    ((x | !y) & ((x ^ y) | !y.wrapping_sub(x)) < i24::zero()) == (x <= y)
-}
-
 pub fn differ(x: i100, y: i100) -> bool
     ensures { IsTrue result }
 {
     (x.wrapping_sub(y) | y.wrapping_sub(x) < i100::zero()) == (x != y)
-}
-
-pub fn equal(x: i12, y: i12) -> bool
-    ensures { IsTrue result }
-{
-    (x.wrapping_sub(y) | y.wrapping_sub(x) >= i12::zero()) == (x == y)
 }
 
 pub fn not_zero(x: i12) -> bool
@@ -68,7 +56,6 @@ pub fn positive(x: i63) -> bool
     (x.wrapping_neg() & !x < i63::zero()) == x.is_positive()
 }
 
-#[tactic(auto, using(arbitrary_laws::proofs::signs::SignTests::overflow_tests))]
 pub fn overflow_of_like_signs(x: i7, y: i7) -> bool
     ensures { IsTrue result }
 {
@@ -76,14 +63,6 @@ pub fn overflow_of_like_signs(x: i7, y: i7) -> bool
     (!(x ^ y) & (x ^ sum) < i7::zero()) == x.checked_add(y).is_none()
 }
 
-pub fn overflow_flag(x: i48, y: i48) -> bool
-    ensures { IsTrue result }
-{
-    let (sum, overflow) = x.overflowing_add(y);
-    (!(x ^ y) & (x ^ sum) < i48::zero()) == overflow
-}
-
-#[tactic(auto, using(arbitrary_laws::proofs::signs::TurnedSigns::turned_signs))]
 pub fn order_with_the_sign_turned(x: i12, y: i12) -> bool
     ensures { IsTrue result }
 {
@@ -91,7 +70,6 @@ pub fn order_with_the_sign_turned(x: i12, y: i12) -> bool
     (x < y) == ((x ^ sign).to_unsigned() < (y ^ sign).to_unsigned())
 }
 
-#[tactic(auto, using(arbitrary_laws::proofs::signs::TurnedSigns::turned_signs))]
 pub fn at_most_with_the_sign_turned(x: i63, y: i63) -> bool
     ensures { IsTrue result }
 {
@@ -99,15 +77,8 @@ pub fn at_most_with_the_sign_turned(x: i63, y: i63) -> bool
     ((x ^ sign).to_unsigned() <= (y ^ sign).to_unsigned()) == (x <= y)
 }
 
-#[tactic(auto, using(arbitrary_laws::proofs::signs::TurnedSigns::turned_signs))]
 pub fn number_with_the_sign_turned(x: i12) -> u12
     ensures { result ≡ x +ℤ pos 2048 }
 {
     (x ^ i12::min_value()).to_unsigned()
-}
-
-pub fn equal_by_sign_of_complement(x: i12, y: i12) -> bool
-    ensures { IsTrue result }
-{
-    (x == y) == (!(x.wrapping_sub(y) | y.wrapping_sub(x)) < i12::new(0))
 }

@@ -1,7 +1,7 @@
 //! Laws of the order of a signed number and its `&` or `|` with another.
-#![tactic(auto, using(arbitrary_laws::proofs::BitVector::signed_order))]
+#![tactic(auto, using(arbitrary_laws::proofs::Sets::orders))]
 
-ghost use Rattle.std.specs.Prelude.{◌<ℤ◌, pos, IsTrue};
+ghost use Rattle.std.specs.Prelude.{IsTrue};
 
 use arbitrary_int::prelude::*;
 
@@ -21,11 +21,4 @@ pub fn and_raises_nothing_from_zero_on(x: i12, y: i12) -> bool
     ensures { IsTrue result }
 {
     x < i12::zero() || x & y <= x
-}
-
-pub fn negative_number_is_below_its_or(x: i48, y: i48) -> bool
-    requires { x <ℤ pos 0 }
-    ensures { IsTrue result }
-{
-    x | y >= x
 }

@@ -1,16 +1,9 @@
 //! Laws of the sign spread over all bits, `x >> (BITS - 1)`, and of a number under it.
-#![tactic(auto, using(arbitrary_laws::proofs::signs::SignWord::signs))]
+#![tactic(auto, using(arbitrary_laws::proofs::Sets::signs))]
 
 ghost use Rattle.std.specs.Prelude.{IsTrue};
 
 use arbitrary_int::prelude::*;
-
-pub fn absolute(x: i12) -> bool
-    ensures { IsTrue result }
-{
-    let sign = x >> 11;
-    (x ^ sign).wrapping_sub(sign) == if x < i12::new(0) { x.wrapping_neg() } else { x }
-}
 
 pub fn turned_by_the_sign(x: i48) -> bool
     ensures { IsTrue result }

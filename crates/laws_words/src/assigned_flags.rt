@@ -1,5 +1,5 @@
 //! Flags of a word of 24 bits that are set and cleared by `|=` and `&=` behind `&mut self`: under a written mask, and by their place.
-#![tactic(auto, using(arbitrary_laws::proofs::BitVector::flags))]
+#![tactic(auto, using(arbitrary_laws::proofs::masks::Rulesets::flags))]
 
 ghost use Rattle.std.specs.Prelude.{◌≡◌, ◌/◌, ◌%◌, ◌^◌, ◌<ℤ◌, pos, unsigned_abs};
 
@@ -32,7 +32,7 @@ pub struct Lines {
 }
 
 impl Lines {
-    #[tactic(auto, using(arbitrary_laws::proofs::Sets::other_bits))]
+    #[tactic(auto, using(arbitrary_laws::proofs::places::Rulesets::other_bits))]
     pub fn insert(&mut self, line: u5)
         requires { line <ℤ pos 24 }
         ensures { unsigned_abs self.new.enabled / 2 ^ unsigned_abs line % 2 ≡ 1 }
@@ -40,7 +40,7 @@ impl Lines {
         self.enabled |= u24::new(1) << line.value();
     }
 
-    #[tactic(auto, using(arbitrary_laws::proofs::Sets::other_bits))]
+    #[tactic(auto, using(arbitrary_laws::proofs::places::Rulesets::other_bits))]
     pub fn remove(&mut self, line: u5)
         requires { line <ℤ pos 24 }
         ensures { unsigned_abs self.new.enabled / 2 ^ unsigned_abs line % 2 ≡ 0 }

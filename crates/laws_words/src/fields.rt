@@ -116,7 +116,7 @@ pub fn apart() -> bool
     disjoint(0, 8, 8, 8)
 }
 
-#[tactic(auto, using(arbitrary_laws::proofs::Sets::empty_word))]
+#[tactic(auto, using(arbitrary_laws::proofs::fields::Rulesets::empty_word))]
 pub fn of_nothing(x: u5) -> u128
     ensures { pos result ≡ x }
 {

@@ -1,6 +1,6 @@
 //! Flags that are set and cleared by a mask that is written out.
 //! None has a proof of its own: the file names one set of laws.
-#![tactic(auto, using(arbitrary_laws::proofs::BitVector::flags))]
+#![tactic(auto, using(arbitrary_laws::proofs::masks::Rulesets::flags))]
 
 ghost use Rattle.std.specs.Prelude.{◌≡◌, ◌/◌, ◌%◌, ◌+ℤ◌, ◌-ℤ◌, pos, unsigned_abs, IsTrue};
 

@@ -1,6 +1,6 @@
 //! Numbers that are moved up, also past the end of their type, and what comes in below: shift registers, writers of bits.
 //! None has a proof of its own: the file names one set of laws.
-#![tactic(auto, using(arbitrary_laws::proofs::Sets::moved_in))]
+#![tactic(auto, using(arbitrary_laws::proofs::fields::Rulesets::moved_in))]
 
 ghost use Rattle.std.specs.Prelude.{◌≡◌, ◌/◌, ◌%◌, ◌+ℤ◌, ◌*ℤ◌, pos, unsigned_abs, IsTrue, if◌then◌else◌};
 

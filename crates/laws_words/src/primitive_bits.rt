@@ -1,6 +1,6 @@
 //! One bit of a primitive by its place: the pins of a port, the bits of a word.
 //! None has a proof of its own: the file names one set of laws.
-#![tactic(auto, using(arbitrary_laws::proofs::Sets::primitive_bits))]
+#![tactic(auto, using(arbitrary_laws::proofs::places::Rulesets::primitive_bits))]
 
 ghost use Rattle.std.specs.Prelude.{◌≡◌, ◌≢◌, ◌↔◌, ◌/◌, ◌%◌, ◌^◌, ◌-◌, ◌<◌, ℕ, unsigned_abs, IsTrue};
 
@@ -48,7 +48,7 @@ pub fn set_then_cleared(word: u16, place: u4) -> bool
     (word | mask) & !mask == word & !mask
 }
 
-#[tactic(auto, using(arbitrary_laws::proofs::Sets::several_bits))]
+#[tactic(auto, using(arbitrary_laws::proofs::places::Rulesets::several_bits))]
 pub fn two_set(word: u16, first: u4, second: u4) -> bool
     ensures { IsTrue result }
 {

@@ -1,6 +1,6 @@
 //! Flags of a primitive under a written mask: set, cleared, turned over and tested. The fields beside them stay.
 //! None has a proof of its own: the file names one set of laws.
-#![tactic(auto, using(arbitrary_laws::proofs::Sets::primitive_flags))]
+#![tactic(auto, using(arbitrary_laws::proofs::fields::Rulesets::primitive_flags))]
 
 ghost use Rattle.std.specs.Prelude.{◌≡◌, ◌↔◌, ◌/◌, ◌%◌, ◌+◌, IsTrue};
 

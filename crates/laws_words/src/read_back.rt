@@ -1,5 +1,5 @@
 //! One of three fields that were put together by `|`, read back in the same function.
-#![tactic(auto, using(arbitrary_laws::proofs::Sets::read_back))]
+#![tactic(auto, using(arbitrary_laws::proofs::fields::Rulesets::read_back))]
 
 ghost use Rattle.std.specs.Prelude.{IsTrue};
 

@@ -1,6 +1,6 @@
 //! Words of registers: fields that are put together, written in place, moved and read back, and flags among them.
 //! None has a proof of its own: the file names one set of laws.
-#![tactic(auto, using(arbitrary_laws::proofs::Sets::registers))]
+#![tactic(auto, using(arbitrary_laws::proofs::fields::Rulesets::registers))]
 
 ghost use Rattle.std.specs.Prelude.{◌≡◌, ◌/◌, ◌%◌, ◌*◌, ◌+◌, pos, unsigned_abs, IsTrue};
 

@@ -1,6 +1,6 @@
 //! Fields that are written into a word in place. The other bits stay.
 //! None has a proof of its own: the file names one set of laws.
-#![tactic(auto, using(arbitrary_laws::proofs::Sets::replaced_fields))]
+#![tactic(auto, using(arbitrary_laws::proofs::fields::Rulesets::replaced_fields))]
 
 ghost use Rattle.std.specs.Prelude.{◌≡◌, ◌/◌, ◌%◌, ◌*◌, ◌+◌, ◌+ℤ◌, ◌*ℤ◌, pos, if◌then◌else◌};
 ghost use Rattle.arbitrary_int.specs.Field.{field};

@@ -47,7 +47,7 @@ pub fn low_part(number: i32) -> i12
 
 // ---- differences of two moments, read with a sign
 
-#[tactic(auto, using(arbitrary_laws::proofs::AllSets::words))]
+#[tactic(auto, using(arbitrary_laws::proofs::Sets::fields))]
 pub fn ticks_apart(now: u16, then: u16) -> i16
     ensures { Congruent 16 result (pos now -ℤ pos then) }
 {
@@ -61,21 +61,21 @@ pub fn milliseconds_apart(after: u32, before: u32) -> i32
     after.wrapping_sub(before).as_i32()
 }
 
-#[tactic(auto, using(arbitrary_laws::proofs::AllSets::words))]
+#[tactic(auto, using(arbitrary_laws::proofs::Sets::fields))]
 pub fn delta(after: u8, before: u8) -> i8
     ensures { Congruent 8 result (pos after -ℤ pos before) }
 {
     after.wrapping_sub(before).as_i8()
 }
 
-#[tactic(auto, using(arbitrary_laws::proofs::AllSets::words))]
+#[tactic(auto, using(arbitrary_laws::proofs::Sets::fields))]
 pub fn delta_as(after: u8, before: u8) -> i8
     ensures { Congruent 8 result (pos after -ℤ pos before) }
 {
     after.wrapping_sub(before).as_::<i8>()
 }
 
-#[tactic(auto, using(arbitrary_laws::proofs::AllSets::words))]
+#[tactic(auto, using(arbitrary_laws::proofs::Sets::fields))]
 pub fn sequence_apart(after: u12, before: u12) -> i16
     ensures { Congruent 12 result (after -ℤ before) }
 {

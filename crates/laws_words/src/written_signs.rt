@@ -1,6 +1,6 @@
 //! Fields with a sign, written into a register whose other bits stay, and read back.
 //! None has a proof of its own: the file names the sets on words as one.
-#![tactic(auto, using(arbitrary_laws::proofs::AllSets::words))]
+#![tactic(auto, using(arbitrary_laws::proofs::Sets::fields))]
 
 ghost use Rattle.std.specs.Prelude.{◌≡◌, ◌/◌, ◌%◌, pos, IsTrue};
 ghost use Rattle.arbitrary_int.specs.Residue.{Congruent};

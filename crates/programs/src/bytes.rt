@@ -126,14 +126,14 @@ pub fn network_order_and_back(x: u80) -> bool
     u80::from_be(x.to_be()) == x
 }
 
-#[tactic(auto, using(arbitrary_laws::proofs::Sets::byte_orders))]
+#[tactic(auto, using(arbitrary_laws::proofs::bytes::Rulesets::byte_orders))]
 pub fn bytes_of_the_other_sign(x: i24) -> bool
     ensures { IsTrue result }
 {
     x.to_be_bytes() == x.to_unsigned().to_be_bytes()
 }
 
-#[tactic(auto, using(arbitrary_laws::proofs::Sets::byte_orders))]
+#[tactic(auto, using(arbitrary_laws::proofs::bytes::Rulesets::byte_orders))]
 pub fn big_end_of_swapped(x: u24) -> bool
     ensures { IsTrue result }
 {

@@ -82,14 +82,14 @@ pub fn generic_sum<V: FixedWidth>(list: &[V]) -> V
     sum
 }
 
-#[tactic(auto, using(arbitrary_laws::proofs::Sets::signed_lists))]
+#[tactic(auto, using(arbitrary_laws::proofs::steps::Rulesets::signed_lists))]
 pub fn equal_lists(a: &[u12], b: &[u12]) -> bool
     ensures { IsTrue result ↔ (a.now ≡ b.now) }
 {
     a == b
 }
 
-#[tactic(auto, using(arbitrary_laws::proofs::Sets::signed_lists))]
+#[tactic(auto, using(arbitrary_laws::proofs::steps::Rulesets::signed_lists))]
 pub fn equal_arrays(a: &[i5; 3], b: &[i5; 3]) -> bool
     ensures { IsTrue result ↔ (a.now ≡ b.now) }
 {

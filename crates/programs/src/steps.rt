@@ -1,6 +1,6 @@
 //! Lists of steps that are written out.
 //! None has a proof of its own: the file names one set of laws.
-#![tactic(auto, using(arbitrary_laws::proofs::Sets::steps))]
+#![tactic(auto, using(arbitrary_laws::proofs::steps::Rulesets::steps))]
 
 ghost use Rattle.std.specs.Prelude.{◌≡◌, ◌+ℤ◌, ◌≤ℤ◌, pos, IsTrue, Ok};
 
@@ -138,7 +138,7 @@ pub fn halves_what_differs() -> bool
 }
 
 /// With a set of laws beside that of steps.
-#[tactic(auto, using(arbitrary_laws::proofs::Sets::steps, arbitrary_laws::proofs::BitVector::bits))]
+#[tactic(auto, using(arbitrary_laws::proofs::steps::Rulesets::steps, arbitrary_laws::proofs::bits::Rulesets::bits))]
 pub fn exchanged(a: u12, b: u12) -> bool
     ensures { IsTrue result }
 {

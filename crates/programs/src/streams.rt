@@ -1,6 +1,6 @@
 //! Values in a stream, and read back.
 //! None has a proof of its own: the file names one set of laws.
-#![tactic(auto, using(arbitrary_laws::proofs::Sets::streams))]
+#![tactic(auto, using(arbitrary_laws::proofs::bytes::Rulesets::streams))]
 
 ghost use Rattle.std.specs.Prelude.{◌≡◌, IsTrue, IfOk, Some};
 

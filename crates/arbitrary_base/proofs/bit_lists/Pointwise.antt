@@ -1,7 +1,7 @@
 -- Bit lists taken together item by item, whatever is done to two items, and the laws of `and`, `or`, `xor` and `not` on them.
 use Rattle.std.specs.Bool.{beq}
 use Rattle.std.specs.List.{slice_rotate_right, zip}
-use Rattle.std.specs.Prelude.{Bool, List, [], drop, false, length, map, not, replicate, reverse, suc, take, true, zero, ℕ, ◌&&◌, ◌++◌, ◌-◌, ◌||◌, ◌∷◌, ◌≡◌}
+use Rattle.std.specs.Prelude.{Bool, List, [], drop, false, get_or, length, map, not, replicate, reverse, suc, take, true, zero, ℕ, ◌&&◌, ◌++◌, ◌-◌, ◌||◌, ◌∷◌, ◌≡◌}
 use Rattle.std.proofs.Common.{ap, ap₂, arith, length-drop, refl, sym, ◌∙◌}
 use Rattle.std.proofs.lemmas.List.{drop-map, length-reverse, map-append, take-map}
 use Rattle.arbitrary_base.specs.BitList.{bits_and, bits_or, bits_xor, shl, shr}
@@ -16,6 +16,15 @@ pub length-pointwise : (f : Bool → Bool → Bool) (l m : List Bool) → length
 length-pointwise f [] m e = refl
 length-pointwise f (a ∷ l) [] e = absurd (omega arith)
 length-pointwise f (a ∷ l) (b ∷ m) e = ap suc (length-pointwise f l m (omega arith))
+
+-- the item at a place, also past the end
+pub get_or-pointwise : (f : Bool → Bool → Bool) (i : ℕ) (l m : List Bool) → f false false ≡ false → length l ≡ length m
+    → get_or (pointwise f l m) i false ≡ f (get_or l i false) (get_or m i false)
+get_or-pointwise f i [] [] z e = sym z
+get_or-pointwise f i [] (b ∷ m) z e = absurd (omega arith)
+get_or-pointwise f i (a ∷ l) [] z e = absurd (omega arith)
+get_or-pointwise f zero (a ∷ l) (b ∷ m) z e = refl
+get_or-pointwise f (suc i) (a ∷ l) (b ∷ m) z e = get_or-pointwise f i l m z (omega arith)
 
 -- ---- parts
 
@@ -106,36 +115,19 @@ not-reverse (a ∷ l) =
 pub cons : {a b : Bool} {l m : List Bool} → a ≡ b → l ≡ m → a ∷ l ≡ b ∷ m
 cons e f = ap₂ (λ (x : Bool) (y : List Bool). x ∷ y) e f
 
-swapped : (f : Bool → Bool → Bool) (l m : List Bool) → ((a b : Bool) → f a b ≡ f b a) → pointwise f l m ≡ pointwise f m l
-swapped f [] [] h = refl
-swapped f [] (b ∷ m) h = refl
-swapped f (a ∷ l) [] h = refl
-swapped f (a ∷ l) (b ∷ m) h = cons (h a b) (swapped f l m h)
-
 pub and-comm : (l m : List Bool) → bits_and l m ≡ bits_and m l
-and-comm l m = swapped (λ a b. a && b) l m (λ a b. grind arith)
-
-pub or-comm : (l m : List Bool) → bits_or l m ≡ bits_or m l
-or-comm l m = swapped (λ a b. a || b) l m (λ a b. grind arith)
-
--- a list and one whose items are alike
-beside : (f : Bool → Bool → Bool) (g : Bool → Bool) (c : Bool) (l : List Bool) → ((a : Bool) → f a c ≡ g a) → pointwise f l (replicate (length l) c) ≡ map g l
-beside f g c [] h = refl
-beside f g c (a ∷ l) h = cons (h a) (beside f g c l h)
-
-same-items : (g : Bool → Bool) (l : List Bool) → ((a : Bool) → g a ≡ a) → map g l ≡ l
-same-items g [] h = refl
-same-items g (a ∷ l) h = cons (h a) (same-items g l h)
-
-alike-items : (c : Bool) (l : List Bool) → map (λ (a : Bool). c) l ≡ replicate (length l) c
-alike-items c [] = refl
-alike-items c (a ∷ l) = cons refl (alike-items c l)
+and-comm [] [] = refl
+and-comm [] (b ∷ m) = refl
+and-comm (a ∷ l) [] = refl
+and-comm (a ∷ l) (b ∷ m) = cons (grind arith) (and-comm l m)
 
 pub and-zeros : (l : List Bool) → bits_and l (replicate (length l) false) ≡ replicate (length l) false
-and-zeros l = beside (λ a b. a && b) (λ a. false) false l (λ a. grind arith) ∙ alike-items false l
+and-zeros [] = refl
+and-zeros (a ∷ l) = cons (grind arith) (and-zeros l)
 
 pub and-ones : (l : List Bool) → bits_and l (replicate (length l) true) ≡ l
-and-ones l = beside (λ a b. a && b) (λ a. a) true l (λ a. grind arith) ∙ same-items (λ a. a) l (λ a. refl)
+and-ones [] = refl
+and-ones (a ∷ l) = cons (grind arith) (and-ones l)
 
 pub not-not : (l : List Bool) → map not (map not l) ≡ l
 not-not [] = refl

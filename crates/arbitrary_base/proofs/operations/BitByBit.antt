@@ -8,10 +8,14 @@ use Rattle.std.proofs.lemmas.Bool.Decides.{Decides-int_eq}
 use Rattle.std.proofs.lemmas.List.{get_or-map, get_or-replicate}
 use Rattle.arbitrary_base.specs.BitList.{bits, bits_xor, val}
 use Rattle.arbitrary_base.specs.Operation.{bitwise_and, bitwise_not, bitwise_or, bitwise_xor}
-use Rattle.arbitrary_base.proofs.bit_lists.Pointwise.{pointwise}
+use Rattle.arbitrary_base.proofs.bit_lists.Pointwise.{get_or-pointwise, pointwise}
 use Rattle.arbitrary_base.proofs.bit_lists.UnsignedNumber.{length-bits}
 use Rattle.arbitrary_base.proofs.operations.Expression.{Expression, both, apart, complement, first, second, none, same}
 use Rattle.arbitrary_base.proofs.operations.Definition.{and-is, bits-and, bits-not, bits-or, bits-xor, bits-zero, not-is, of-bits, or-is, xor-is, zero-in_range}
+
+-- the bit of x at place k of B
+unfoldable pub bit : ℕ → ℤ → ℕ → Bool
+bit B x k = get_or (bits B x) k false
 
 -- one of B places. The type is shut, so that the search leaves a place whole
 pub Place : ℕ → Type 0
@@ -20,7 +24,7 @@ Place B = (i : ℕ) × (i < B)
 -- the bit of x at a place
 pub bit_at : (B : ℕ) → ℤ → Place B → Bool
 unfolding Place
-bit_at B x i = get_or (bits B x) i.0 false
+bit_at B x i = bit B x i.0
 
 -- whether x is the number of its own bits, as each number of the type is
 pub is_own_bits : Bool → ℕ → ℤ → Bool
@@ -56,7 +60,7 @@ differ (false ∷ l) (false ∷ m) e = elim (differ l m (omega arith)) [
 
 pub equal-or_differ : (s : Bool) (B : ℕ) (x y : ℤ) → is_own_bits s B x ≡ true → is_own_bits s B y ≡ true
     → (int_eq x y ≡ true) ⊎ ((i : Place B) × (bit_at B x i ≡ not (bit_at B y i)))
-unfolding Place bit_at
+unfolding Place bit bit_at
 equal-or_differ s B x y h g = elim (differ (bits B x) (bits B y) (length-bits B x ∙ sym (length-bits B y))) [
   | inl e ↦ inl ((Decides-int_eq x y).1 (sym (own s B x h) ∙ ap (val s) e ∙ own s B y g))
   | inr w ↦ inr ((w.0, omega (arith, w.1, length-bits B x)), w.2)
@@ -64,36 +68,52 @@ equal-or_differ s B x y h g = elim (differ (bits B x) (bits B y) (length-bits B 
 
 -- ---- the bits of a result
 
-bit-of_two : (f : Bool → Bool → Bool) (l m : List Bool) (i : ℕ) → length l ≡ length m → i < length l
-    → get_or (pointwise f l m) i false ≡ f (get_or l i false) (get_or m i false)
-bit-of_two f [] m i e h = absurd (omega arith)
-bit-of_two f (a ∷ l) [] i e h = absurd (omega arith)
-bit-of_two f (a ∷ l) (b ∷ m) zero e h = refl
-bit-of_two f (a ∷ l) (b ∷ m) (suc i) e h = bit-of_two f l m i (omega arith) (omega arith)
+bit-of_operands : (f : Bool → Bool → Bool) (B k : ℕ) (x y r : ℤ) → f false false ≡ false → bits B r ≡ pointwise f (bits B x) (bits B y)
+    → bit B r k ≡ f (bit B x k) (bit B y k)
+unfolding bit
+bit-of_operands f B k x y r z e =
+    ap (λ (l : List Bool). get_or l k false) e ∙ get_or-pointwise f k (bits B x) (bits B y) z (length-bits B x ∙ sym (length-bits B y))
 
-bit-of_operands : (f : Bool → Bool → Bool) (B : ℕ) (x y r : ℤ) (i : Place B) → bits B r ≡ pointwise f (bits B x) (bits B y)
-    → bit_at B r i ≡ f (bit_at B x i) (bit_at B y i)
-unfolding Place bit_at
-bit-of_operands f B x y r i e = ap (λ (l : List Bool). get_or l i.0 false) e
-    ∙ bit-of_two f (bits B x) (bits B y) i.0 (length-bits B x ∙ sym (length-bits B y)) (omega (arith, i.1, length-bits B x))
+module _ (s : Bool) (B k : ℕ) (x y : ℤ) where
+  pub bit-and : bit B (bitwise_and s B x y) k ≡ (bit B x k && bit B y k)
+  bit-and = bit-of_operands (λ a b. a && b) B k x y _ refl (bits-and s B x y)
 
+  pub bit-or : bit B (bitwise_or s B x y) k ≡ (bit B x k || bit B y k)
+  bit-or = bit-of_operands (λ a b. a || b) B k x y _ refl (bits-or s B x y)
+
+  pub bit-xor : bit B (bitwise_xor s B x y) k ≡ not (beq (bit B x k) (bit B y k))
+  bit-xor = bit-of_operands (λ a b. not (beq a b)) B k x y _ refl (bits-xor s B x y)
+
+pub bit-not : (s : Bool) (B k : ℕ) (x : ℤ) → k < B → bit B (bitwise_not s B x) k ≡ not (bit B x k)
+unfolding bit
+bit-not s B k x h =
+    ap (λ (l : List Bool). get_or l k false) (bits-not s B x) ∙ get_or-map not (bits B x) k false false (omega (arith, length-bits B x))
+
+pub bit-zero : (B k : ℕ) → k < B → bit B (pos 0) k ≡ false
+unfolding bit
+bit-zero B k h = ap (λ (l : List Bool). get_or l k false) (bits-zero B) ∙ get_or-replicate B k false false h
+
+-- the same at a shut place
 pub bit_at-zero : (B : ℕ) (i : Place B) → bit_at B (pos 0) i ≡ false
 unfolding Place bit_at
-bit_at-zero B i = ap (λ (l : List Bool). get_or l i.0 false) (bits-zero B) ∙ get_or-replicate B i.0 false false i.1
+bit_at-zero B i = bit-zero B i.0 i.1
 
-pub bit_at-and : (s : Bool) (B : ℕ) (x y : ℤ) (i : Place B) → bit_at B (bitwise_and s B x y) i ≡ (bit_at B x i && bit_at B y i)
-bit_at-and s B x y i = bit-of_operands (λ a b. a && b) B x y _ i (bits-and s B x y)
+module _ (s : Bool) (B : ℕ) (x y : ℤ) (i : Place B) where
+  pub bit_at-and : bit_at B (bitwise_and s B x y) i ≡ (bit_at B x i && bit_at B y i)
+  unfolding Place bit_at
+  bit_at-and = bit-and s B i.0 x y
 
-pub bit_at-or : (s : Bool) (B : ℕ) (x y : ℤ) (i : Place B) → bit_at B (bitwise_or s B x y) i ≡ (bit_at B x i || bit_at B y i)
-bit_at-or s B x y i = bit-of_operands (λ a b. a || b) B x y _ i (bits-or s B x y)
+  pub bit_at-or : bit_at B (bitwise_or s B x y) i ≡ (bit_at B x i || bit_at B y i)
+  unfolding Place bit_at
+  bit_at-or = bit-or s B i.0 x y
 
-pub bit_at-xor : (s : Bool) (B : ℕ) (x y : ℤ) (i : Place B) → bit_at B (bitwise_xor s B x y) i ≡ not (beq (bit_at B x i) (bit_at B y i))
-bit_at-xor s B x y i = bit-of_operands (λ a b. not (beq a b)) B x y _ i (bits-xor s B x y)
+  pub bit_at-xor : bit_at B (bitwise_xor s B x y) i ≡ not (beq (bit_at B x i) (bit_at B y i))
+  unfolding Place bit_at
+  bit_at-xor = bit-xor s B i.0 x y
 
 pub bit_at-not : (s : Bool) (B : ℕ) (x : ℤ) (i : Place B) → bit_at B (bitwise_not s B x) i ≡ not (bit_at B x i)
 unfolding Place bit_at
-bit_at-not s B x i = ap (λ (l : List Bool). get_or l i.0 false) (bits-not s B x)
-    ∙ get_or-map not (bits B x) i.0 false false (omega (arith, i.1, length-bits B x))
+bit_at-not s B x i = bit-not s B i.0 x i.1
 
 pub own_bits-and : (s : Bool) (B : ℕ) (x y : ℤ) → is_own_bits s B (bitwise_and s B x y) ≡ true
 own_bits-and s B x y = own_bits s B _ (ap (val s) (bits-and s B x y) ∙ sym (and-is s B x y))

@@ -1,6 +1,4 @@
--- The laws of bits beside sums, differences and order.
--- Callers have them by the set `mixed` of `arbitrary_int::proofs::BitVector`: a new law goes there too. Complement.antt, Carry.antt and Order.antt
--- use the lemmas on `num` here. Laws of `!` beside sums go to the first of these, and those of carries to the second.
+-- The numbers of two lists of bits beside those of their `&`, `|` and `^`, and what follows for sums and differences.
 use Rattle.std.specs.Bool.{beq}
 use Rattle.std.specs.Prelude.{Bool, List, [], false, length, map, not, pos, true, ℕ, ℤ, ◌&&◌, ◌+◌, ◌||◌, ◌∷◌, ◌≡◌, ◌≤ℤ◌, ◌≤◌}
 use Rattle.std.proofs.Common.{ap, arith, refl, subst, sym, ◌∙◌}

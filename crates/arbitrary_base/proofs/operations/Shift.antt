@@ -10,7 +10,7 @@ use Rattle.arbitrary_base.specs.BitList.{bits, bits_and, bits_or, bits_xor, fill
 use Rattle.arbitrary_base.specs.Operation.{bitwise_and, bitwise_not, bitwise_or, bitwise_xor, shifted_left, shifted_right, wrapped_difference, wrapped_product, wrapped_sum}
 use Rattle.arbitrary_base.specs.Range.{InRange}
 use Rattle.arbitrary_base.specs.Residue.{residue}
-use Rattle.arbitrary_base.proofs.bit_lists.Pointwise.{length-pointwise, pointwise, shl-pointwise, shr-pointwise}
+use Rattle.arbitrary_base.proofs.bit_lists.Pointwise.{get_or-pointwise, length-pointwise, pointwise, shl-pointwise, shr-pointwise}
 use Rattle.arbitrary_base.proofs.bit_lists.Rotation.{shl-none, shl-shr, shr-none, shr-shl}
 use Rattle.arbitrary_base.proofs.bit_lists.SignBit.{InRange-int_shr, val-shl, val-shr}
 use Rattle.arbitrary_base.proofs.bit_lists.StdBitwise.{not-signed}
@@ -106,14 +106,6 @@ shifted_left-xor s B x y k h =
     by-bits _ _ _ _ _ (left-is s B _ k) (xor-is s B _ _)
     (ap (λ (l : List Bool). shl l k) (bits-xor s B x y) ∙ shl-pointwise (λ a b. not (beq a b)) k (bits B x) (bits B y) refl (same_length B x y)
     ∙ sym (ap₂ bits_xor (bits-left s B x k h) (bits-left s B y k h)))
-
-get_or-pointwise : (f : Bool → Bool → Bool) (i : ℕ) (l m : List Bool) → f false false ≡ false → length l ≡ length m
-    → get_or (pointwise f l m) i false ≡ f (get_or l i false) (get_or m i false)
-get_or-pointwise f i [] [] z e = sym z
-get_or-pointwise f i [] (b ∷ m) z e = absurd (omega arith)
-get_or-pointwise f i (a ∷ l) [] z e = absurd (omega arith)
-get_or-pointwise f zero (a ∷ l) (b ∷ m) z e = refl
-get_or-pointwise f (suc i) (a ∷ l) (b ∷ m) z e = get_or-pointwise f i l m z (omega arith)
 
 pub fill-pointwise : (f : Bool → Bool → Bool) (s : Bool) (B : ℕ) (x y : ℤ) → f false false ≡ false
     → fill s (pointwise f (bits B x) (bits B y)) ≡ f (fill s (bits B x)) (fill s (bits B y))

@@ -12,7 +12,7 @@ use Rattle.arbitrary_base.specs.Range.{InRange}
 use Rattle.arbitrary_base.specs.BitList.{bits, val}
 use Rattle.arbitrary_base.specs.Operation.{bitwise_and, bitwise_not, bitwise_or, bitwise_xor}
 use Rattle.arbitrary_base.proofs.bit_lists.UnsignedNumber.{length-bits}
-use Rattle.arbitrary_base.proofs.bit_lists.Pointwise.{pointwise}
+use Rattle.arbitrary_base.proofs.bit_lists.Pointwise.{get_or-pointwise, pointwise}
 use Rattle.arbitrary_base.proofs.operations.BitsAndSums.{and-in_range, or-in_range, xor-in_range}
 use Rattle.arbitrary_base.proofs.operations.Definition.{bits-and, bits-highest, bits-minus_one, bits-not, bits-or, bits-xor, bits-zero, not-in_range, of-bits}
 
@@ -74,15 +74,15 @@ unfolding Spot lowest index
 index-lowest = refl
 
 -- the bit of x that is u places above a place, and then v below
-pub bit : ℤ → Spot → ℕ → ℕ → Bool
-bit x p u v = at x (index p + u - v)
+pub bit_near : ℤ → Spot → ℕ → ℕ → Bool
+bit_near x p u v = at x (index p + u - v)
 
-pub bit-is : (x : ℤ) (p : Spot) (u v : ℕ) → bit x p u v ≡ at x (index p + u - v)
-unfolding bit
-bit-is x p u v = refl
+pub bit_near-is : (x : ℤ) (p : Spot) (u v : ℕ) → bit_near x p u v ≡ at x (index p + u - v)
+unfolding bit_near
+bit_near-is x p u v = refl
 
-pub bit-listed : (B : ℕ) (x : ℤ) (p : Spot) (u v i : ℕ) → index p + u - v ≡ i → i < B → bit x p u v ≡ get_or (bits B x) i false
-bit-listed B x p u v i e h = bit-is x p u v ∙ ap (at x) e ∙ sym (width-free B i x h)
+pub bit_near-listed : (B : ℕ) (x : ℤ) (p : Spot) (u v i : ℕ) → index p + u - v ≡ i → i < B → bit_near x p u v ≡ get_or (bits B x) i false
+bit_near-listed B x p u v i e h = bit_near-is x p u v ∙ ap (at x) e ∙ sym (width-free B i x h)
 
 beq-same : (b : Bool) → beq b b ≡ true
 beq-same true = refl
@@ -93,30 +93,30 @@ beq-other a true e = ap (λ (c : Bool). beq c true) e
 beq-other a false e = ap (λ (c : Bool). beq c false) e
 
 abbrev pub Compared : ℕ → ℤ → ℤ → Type 0
-Compared B x y = (int_eq x y ≡ beq (bit x (spot B x y) 0 0) (bit y (spot B x y) 0 0)) × (index (spot B x y) < B)
+Compared B x y = (int_eq x y ≡ beq (bit_near x (spot B x y) 0 0) (bit_near y (spot B x y) 0 0)) × (index (spot B x y) < B)
 
 module _ (s : Bool) (B : ℕ) (x y : ℤ) (some : 1 ≤ B) (f : InRange s B x) (g : InRange s B y) where
-  at-spot : (z : ℤ) → bit z (spot B x y) 0 0 ≡ get_or (bits B z) (first (bits B x) (bits B y) % B) false
+  at-spot : (z : ℤ) → bit_near z (spot B x y) 0 0 ≡ get_or (bits B z) (first (bits B x) (bits B y) % B) false
   unfolding Spot spot index
   at-spot z =
       let m = mod-lt (first (bits B x) (bits B y)) some in
-      bit-listed B z (spot B x y) 0 0 (first (bits B x) (bits B y) % B) (omega arith) m
+      bit_near-listed B z (spot B x y) 0 0 (first (bits B x) (bits B y) % B) (omega arith) m
 
-  apart : beq (bit x (spot B x y) 0 0) (bit y (spot B x y) 0 0) ≡ true → x ≡ y
+  apart : beq (bit_near x (spot B x y) 0 0) (bit_near y (spot B x y) 0 0) ≡ true → x ≡ y
   apart t = elim (equal-or_apart (bits B x) (bits B y) (length-bits B x ∙ sym (length-bits B y))) [
     | inl e ↦ of-bits s B x some f ∙ ap (val s) e ∙ sym (of-bits s B y some g)
     | inr w ↦
         let k = first (bits B x) (bits B y) in
         let r : k % B ≡ k = mod-eq_of_lt (omega (arith, w.0, length-bits B x)) in
-        let a : bit x (spot B x y) 0 0 ≡ get_or (bits B x) k false = at-spot x ∙ ap (λ (i : ℕ). get_or (bits B x) i false) r in
-        let b : bit y (spot B x y) 0 0 ≡ get_or (bits B y) k false = at-spot y ∙ ap (λ (i : ℕ). get_or (bits B y) i false) r in
+        let a : bit_near x (spot B x y) 0 0 ≡ get_or (bits B x) k false = at-spot x ∙ ap (λ (i : ℕ). get_or (bits B x) i false) r in
+        let b : bit_near y (spot B x y) 0 0 ≡ get_or (bits B y) k false = at-spot y ∙ ap (λ (i : ℕ). get_or (bits B y) i false) r in
         absurd (true≢false (sym t ∙ beq-other _ _ (a ∙ w.1 ∙ ap not (sym b))))
   ]
 
   pub same : Compared B x y
   unfolding Spot spot index
   same = (
-    sym (same_from_decides _ _ (apart, λ (e : x ≡ y). ap (λ (z : ℤ). beq (bit x (spot B x y) 0 0) (bit z (spot B x y) 0 0)) (sym e) ∙ beq-same _) (Decides-int_eq x y)),
+    sym (same_from_decides _ _ (apart, λ (e : x ≡ y). ap (λ (z : ℤ). beq (bit_near x (spot B x y) 0 0) (bit_near z (spot B x y) 0 0)) (sym e) ∙ beq-same _) (Decides-int_eq x y)),
     mod-lt (first (bits B x) (bits B y)) some,
   )
 
@@ -149,14 +149,6 @@ module _ (s : Bool) (B : ℕ) (x z : ℤ) (some : 1 ≤ B) (f : InRange s B z) w
 
 -- ---- the bits of a result
 
-bit-of_two : (f : Bool → Bool → Bool) (l m : List Bool) (i : ℕ) → f false false ≡ false → length l ≡ length m
-    → get_or (pointwise f l m) i false ≡ f (get_or l i false) (get_or m i false)
-bit-of_two f [] [] i z e = sym z
-bit-of_two f [] (b ∷ m) i z e = absurd (omega arith)
-bit-of_two f (a ∷ l) [] i z e = absurd (omega arith)
-bit-of_two f (a ∷ l) (b ∷ m) zero z e = refl
-bit-of_two f (a ∷ l) (b ∷ m) (suc i) z e = bit-of_two f l m i z (omega arith)
-
 -- each law is a sum, by the first operand's bit: the search splits sums before all else
 pub by_bit : (f : Bool → Bool → Bool) (a b r : Bool) → r ≡ f a b → ((r ≡ f true b) × (a ≡ true)) ⊎ ((r ≡ f false b) × (a ≡ false))
 by_bit f true b r e = inl (e, refl)
@@ -166,45 +158,45 @@ module _ (B : ℕ) (p : Spot) (u v : ℕ) (l : v ≤ index p + u) (h : index p +
   within : index p + u - v < B
   within = omega arith
 
-  listed : (x : ℤ) → bit x p u v ≡ get_or (bits B x) (index p + u - v) false
-  listed x = bit-listed B x p u v _ refl within
+  listed : (x : ℤ) → bit_near x p u v ≡ get_or (bits B x) (index p + u - v) false
+  listed x = bit_near-listed B x p u v _ refl within
 
   module _ (s : Bool) (x y : ℤ) where
-    of-operands : (f : Bool → Bool → Bool) (r : ℤ) → f false false ≡ false → bits B r ≡ pointwise f (bits B x) (bits B y) → bit r p u v ≡ f (bit x p u v) (bit y p u v)
+    of-operands : (f : Bool → Bool → Bool) (r : ℤ) → f false false ≡ false → bits B r ≡ pointwise f (bits B x) (bits B y) → bit_near r p u v ≡ f (bit_near x p u v) (bit_near y p u v)
     of-operands f r z e =
         listed r ∙ ap (λ (m : List Bool). get_or m (index p + u - v) false) e
-        ∙ bit-of_two f (bits B x) (bits B y) _ z (length-bits B x ∙ sym (length-bits B y))
+        ∙ get_or-pointwise f _ (bits B x) (bits B y) z (length-bits B x ∙ sym (length-bits B y))
         ∙ (λ i. f (sym (listed x) i) (sym (listed y) i))
 
-    pub bit-and : ((bit (bitwise_and s B x y) p u v ≡ bit y p u v) × (bit x p u v ≡ true)) ⊎ ((bit (bitwise_and s B x y) p u v ≡ false) × (bit x p u v ≡ false))
-    bit-and = by_bit (λ a b. a && b) _ _ _ (of-operands (λ a b. a && b) _ refl (bits-and s B x y))
+    pub bit_near-and : ((bit_near (bitwise_and s B x y) p u v ≡ bit_near y p u v) × (bit_near x p u v ≡ true)) ⊎ ((bit_near (bitwise_and s B x y) p u v ≡ false) × (bit_near x p u v ≡ false))
+    bit_near-and = by_bit (λ a b. a && b) _ _ _ (of-operands (λ a b. a && b) _ refl (bits-and s B x y))
 
-    pub bit-or : ((bit (bitwise_or s B x y) p u v ≡ true) × (bit x p u v ≡ true)) ⊎ ((bit (bitwise_or s B x y) p u v ≡ bit y p u v) × (bit x p u v ≡ false))
-    bit-or = by_bit (λ a b. a || b) _ _ _ (of-operands (λ a b. a || b) _ refl (bits-or s B x y))
+    pub bit_near-or : ((bit_near (bitwise_or s B x y) p u v ≡ true) × (bit_near x p u v ≡ true)) ⊎ ((bit_near (bitwise_or s B x y) p u v ≡ bit_near y p u v) × (bit_near x p u v ≡ false))
+    bit_near-or = by_bit (λ a b. a || b) _ _ _ (of-operands (λ a b. a || b) _ refl (bits-or s B x y))
 
-    pub bit-xor : ((bit (bitwise_xor s B x y) p u v ≡ not (beq true (bit y p u v))) × (bit x p u v ≡ true))
-        ⊎ ((bit (bitwise_xor s B x y) p u v ≡ not (beq false (bit y p u v))) × (bit x p u v ≡ false))
-    bit-xor = by_bit (λ a b. not (beq a b)) _ _ _ (of-operands (λ a b. not (beq a b)) _ refl (bits-xor s B x y))
+    pub bit_near-xor : ((bit_near (bitwise_xor s B x y) p u v ≡ not (beq true (bit_near y p u v))) × (bit_near x p u v ≡ true))
+        ⊎ ((bit_near (bitwise_xor s B x y) p u v ≡ not (beq false (bit_near y p u v))) × (bit_near x p u v ≡ false))
+    bit_near-xor = by_bit (λ a b. not (beq a b)) _ _ _ (of-operands (λ a b. not (beq a b)) _ refl (bits-xor s B x y))
 
-  pub bit-not : (s : Bool) (x : ℤ) → ((bit (bitwise_not s B x) p u v ≡ false) × (bit x p u v ≡ true)) ⊎ ((bit (bitwise_not s B x) p u v ≡ true) × (bit x p u v ≡ false))
-  bit-not s x = by_bit (λ a b. not a) _ true _ (listed _ ∙ ap (λ (m : List Bool). get_or m (index p + u - v) false) (bits-not s B x)
+  pub bit_near-not : (s : Bool) (x : ℤ) → ((bit_near (bitwise_not s B x) p u v ≡ false) × (bit_near x p u v ≡ true)) ⊎ ((bit_near (bitwise_not s B x) p u v ≡ true) × (bit_near x p u v ≡ false))
+  bit_near-not s x = by_bit (λ a b. not a) _ true _ (listed _ ∙ ap (λ (m : List Bool). get_or m (index p + u - v) false) (bits-not s B x)
       ∙ get_or-map not (bits B x) _ false false (let n = length-bits B x in omega (arith, within)) ∙ ap not (sym (listed x)))
 
 -- ---- the bits of 0, and of the numbers whose bits are all one
 
 module _ (p : Spot) (u v : ℕ) where
-  pub bit-zero : bit (pos 0) p u v ≡ false
-  bit-zero =
+  pub bit_near-zero : bit_near (pos 0) p u v ≡ false
+  bit_near-zero =
       let i = index p + u - v in
-      bit-listed (suc i) (pos 0) p u v i refl (omega arith) ∙ ap (λ (l : List Bool). get_or l i false) (bits-zero (suc i)) ∙ get_or-replicate (suc i) i false false (omega arith)
+      bit_near-listed (suc i) (pos 0) p u v i refl (omega arith) ∙ ap (λ (l : List Bool). get_or l i false) (bits-zero (suc i)) ∙ get_or-replicate (suc i) i false false (omega arith)
 
-  pub bit-minus_one : bit (negsuc 0) p u v ≡ true
-  bit-minus_one =
+  pub bit_near-minus_one : bit_near (negsuc 0) p u v ≡ true
+  bit_near-minus_one =
       let i = index p + u - v in
-      bit-listed (suc i) (negsuc 0) p u v i refl (omega arith) ∙ ap (λ (l : List Bool). get_or l i false) (bits-minus_one (suc i)) ∙ get_or-replicate (suc i) i true false (omega arith)
+      bit_near-listed (suc i) (negsuc 0) p u v i refl (omega arith) ∙ ap (λ (l : List Bool). get_or l i false) (bits-minus_one (suc i)) ∙ get_or-replicate (suc i) i true false (omega arith)
 
-pub bit-highest : (B : ℕ) (x y z : ℤ) (u v : ℕ) → x ≡ pos (2 ^ B) -ℤ pos 1 → index (spot B y z) + u < B + v → v ≤ index (spot B y z) + u → bit x (spot B y z) u v ≡ true
-bit-highest B x y z u v e h l =
+pub bit_near-highest : (B : ℕ) (x y z : ℤ) (u v : ℕ) → x ≡ pos (2 ^ B) -ℤ pos 1 → index (spot B y z) + u < B + v → v ≤ index (spot B y z) + u → bit_near x (spot B y z) u v ≡ true
+bit_near-highest B x y z u v e h l =
     let i = index (spot B y z) + u - v in
-    bit-listed B x (spot B y z) u v i refl (omega arith) ∙ ap (λ (w : ℤ). get_or (bits B w) i false) e ∙ ap (λ (m : List Bool). get_or m i false) (bits-highest B)
+    bit_near-listed B x (spot B y z) u v i refl (omega arith) ∙ ap (λ (w : ℤ). get_or (bits B w) i false) e ∙ ap (λ (m : List Bool). get_or m i false) (bits-highest B)
     ∙ get_or-replicate B i true false (omega arith)

@@ -20,7 +20,8 @@ use Rattle.arbitrary_base.proofs.operations.KnownMask.{and-within}
 use Rattle.arbitrary_base.proofs.operations.ShiftAsProduct.{shl-stays}
 use Rattle.arbitrary_laws.proofs.bits.Identities.{and-distributes_or, bitwise_and-associates, bitwise_and-zero}
 use Rattle.arbitrary_laws.proofs.masks.NumberUnderMask.{or-by_and}
-use Rattle.arbitrary_laws.proofs.places.BitPlaces.{bit, bit-and, bit-not, bit-or, bit-written, bit-xor, clear-by_mask, clear-by_shift, set-by_mask, set-by_shift}
+use Rattle.arbitrary_base.proofs.operations.BitByBit.{bit, bit-and, bit-not, bit-or, bit-xor}
+use Rattle.arbitrary_laws.proofs.places.BitPlaces.{bit-written, clear-by_mask, clear-by_shift, set-by_mask, set-by_shift}
 
 and-none : (m : ℕ) → bit_and m 0 ≡ 0
 and-none m = omega (arith, and_le_r m 0)

@@ -1,6 +1,5 @@
 -- For callers: a conversion before a sum, a difference or a product, of which the low bits are what counts.
 -- You name the set at the end by `#[tactic(auto, using(arbitrary_laws::proofs::numbers::Conversions::conversions))]`; only a lemma that is in it is found.
--- Beside it stand the sets of Everyday.antt, on words of clauses, and of BitVector.antt, on bits.
 use Rattle.std.specs.Prelude.{◌≡◌, ℕ, ℤ, zero, suc, Bool, false, pos, negsuc, unsigned_abs, ◌+ℤ◌, ◌-ℤ◌, ◌*ℤ◌, ◌+◌, ◌*◌, ◌/◌, ◌%◌, ◌^◌, ◌≤◌, ◌<◌}
 use Rattle.std.specs.Int.{Width, cast_signed, cast_unsigned}
 use Rattle.std.proofs.Common.{arith, refl, ap, sym, subst, ◌∙◌, div-add-mod', to_z-of_z}

@@ -94,6 +94,19 @@ and-below_or B x y h =
 
 -- ---- where it has one: which results are below 0
 
+-- the last bit tells whether a number with a sign is below 0
+pub fill-is_negative : (B : ℕ) (x : ℤ) → 1 ≤ B → InRange true B x → fill true (bits B x) ≡ int_lt x (pos 0)
+fill-is_negative B (pos n) h r =
+    let t = r.high in
+    let p = pow_pos (B - 1) in
+    let e : int_lt (pos n) (pos 0) ≡ false = grind (arith, ints) in
+    last-natural B n h (omega (arith, ints)) ∙ sym e
+fill-is_negative B (negsuc n) h r =
+    let t = r.low in
+    let p = pow_pos (B - 1) in
+    let small : n < 2 ^ (B - 1) = omega (arith, ints) in
+    rw (bits-negsuc B n, last-not (bits B (pos n)) (omega (arith, length-bits B (pos n))), last-natural B n h small) refl
+
 pub sign-pointwise : (f : Bool → Bool → Bool) (B : ℕ) (x y z : ℤ) → f false false ≡ false → 1 ≤ B → InRange true B x → InRange true B y → InRange true B z
     → bits B z ≡ pointwise f (bits B x) (bits B y) → int_lt z (pos 0) ≡ f (int_lt x (pos 0)) (int_lt y (pos 0))
 sign-pointwise f B x y z n h i j k e =
@@ -132,16 +145,3 @@ shifted_right-keeps_order s B x y k h g e f l =
     rw (shifted_right-is_shr s B x k h g e, shifted_right-is_shr s B y k h g f) (int_shr-keeps_order k x y l)
 
 -- ---- the last bit
-
--- the last bit tells whether a number with a sign is below 0
-pub fill-is_negative : (B : ℕ) (x : ℤ) → 1 ≤ B → InRange true B x → fill true (bits B x) ≡ int_lt x (pos 0)
-fill-is_negative B (pos n) h r =
-    let t = r.high in
-    let p = pow_pos (B - 1) in
-    let e : int_lt (pos n) (pos 0) ≡ false = grind (arith, ints) in
-    last-natural B n h (omega (arith, ints)) ∙ sym e
-fill-is_negative B (negsuc n) h r =
-    let t = r.low in
-    let p = pow_pos (B - 1) in
-    let small : n < 2 ^ (B - 1) = omega (arith, ints) in
-    rw (bits-negsuc B n, last-not (bits B (pos n)) (omega (arith, length-bits B (pos n))), last-natural B n h small) refl

@@ -1,4 +1,4 @@
--- TODO arbitrary_laws.proofs.orders.SignedOrder
+-- Which of a signed number and its `&` or `|` with another is the greater: that depends on the two signs alone. Order.antt has numbers with no sign.
 use Rattle.std.specs.Prelude.{pos, true, ℕ, ℤ, ◌<ℤ◌, ◌↔◌, ◌≤ℤ◌, ◌≤◌, ◌⊎◌}
 use Rattle.std.proofs.Common.{arith, refl}
 use Rattle.std.proofs.lemmas.Int.{ints}

@@ -14,17 +14,12 @@ use Rattle.std.proofs.Math.Pow.{pow_mono}
 use Rattle.arbitrary_base.specs.Range.{InRange}
 use Rattle.arbitrary_base.specs.BitList.{bits, bits_and, fill, val}
 use Rattle.arbitrary_base.specs.Operation.{bitwise_and, bitwise_not, bitwise_or, bitwise_xor, shifted_left, shifted_right}
-use Rattle.arbitrary_base.proofs.bit_lists.Pointwise.{pointwise}
 use Rattle.arbitrary_base.proofs.bit_lists.UnsignedNumber.{digit, length-bits, same_length}
+use Rattle.arbitrary_base.proofs.operations.BitByBit.{bit, bit-and, bit-not, bit-or, bit-xor}
 use Rattle.arbitrary_base.proofs.operations.Definition.{and-is, bits-and, bits-left, bits-not, bits-or, bits-right, bits-xor, bits-zero, by-bits, left-is, zero-is}
 use Rattle.arbitrary_base.proofs.operations.KnownMask.{and-by_one}
 use Rattle.arbitrary_laws.proofs.counts.CountBounds.{bits-one_bit}
 use Rattle.arbitrary_laws.proofs.written.KnownCount.{digit-of}
-
--- ---- the bit at a place
-
-pub bit : ℕ → ℤ → ℕ → Bool
-bit B x k = get_or (bits B x) k false
 
 lowest : (B : ℕ) (y : ℤ) → 1 ≤ B → unsigned_abs y % 2 ≡ digit (bit B y 0)
 unfolding bits bit
@@ -40,14 +35,6 @@ low-is_bit s B k x h =
     ∙ ap (λ (l : List Bool). digit (get_or l 0 false)) (bits-right s B x k (omega arith))
     ∙ ap digit (get_or_append_left (drop k (bits B x)) (replicate k (fill s (bits B x))) false 0 some ∙ get_or-drop k (bits B x) 0 false)
     ∙ ap (λ (i : ℕ). digit (get_or (bits B x) i false)) (omega arith)
-
-bit-of_two : (f : Bool → Bool → Bool) (l m : List Bool) (i : ℕ) → f false false ≡ false → length l ≡ length m
-    → get_or (pointwise f l m) i false ≡ f (get_or l i false) (get_or m i false)
-bit-of_two f [] [] i z e = sym z
-bit-of_two f [] (b ∷ m) i z e = absurd (omega arith)
-bit-of_two f (a ∷ l) [] i z e = absurd (omega arith)
-bit-of_two f (a ∷ l) (b ∷ m) zero z e = refl
-bit-of_two f (a ∷ l) (b ∷ m) (suc i) z e = bit-of_two f l m i z (omega arith)
 
 -- ---- the bits of `1 << k`
 
@@ -92,24 +79,6 @@ low-told s B x h = and-by_one s B x (pos 1) _ (omega arith) (fits s) refl refl
     fits true = let g : 1 ≤ B - 1 = omega arith in let p = pow_mono g in record { low = omega (arith, ints); high = omega (arith, ints) }
 
 -- ---- the bits of a result
-
-module _ (s : Bool) (B k : ℕ) (x y : ℤ) where
-  pub bit-or : bit B (bitwise_or s B x y) k ≡ (bit B x k || bit B y k)
-  unfolding bit
-  bit-or = ap (λ (l : List Bool). get_or l k false) (bits-or s B x y) ∙ bit-of_two (λ a b. a || b) (bits B x) (bits B y) k refl (same_length B x y)
-
-  pub bit-and : bit B (bitwise_and s B x y) k ≡ (bit B x k && bit B y k)
-  unfolding bit
-  bit-and = ap (λ (l : List Bool). get_or l k false) (bits-and s B x y) ∙ bit-of_two (λ a b. a && b) (bits B x) (bits B y) k refl (same_length B x y)
-
-  pub bit-xor : bit B (bitwise_xor s B x y) k ≡ not (beq (bit B x k) (bit B y k))
-  unfolding bit
-  bit-xor = ap (λ (l : List Bool). get_or l k false) (bits-xor s B x y) ∙ bit-of_two (λ a b. not (beq a b)) (bits B x) (bits B y) k refl (same_length B x y)
-
-pub bit-not : (s : Bool) (B k : ℕ) (x : ℤ) → k < B → bit B (bitwise_not s B x) k ≡ not (bit B x k)
-unfolding bit
-bit-not s B k x h =
-    ap (λ (l : List Bool). get_or l k false) (bits-not s B x) ∙ get_or-map not (bits B x) k false false (omega (arith, length-bits B x))
 
 pub bit-written : (B k n : ℕ) → k < B → bit B (pos n) k ≡ (n / 2 ^ k % 2 == 1)
 unfolding bits bit

@@ -11,7 +11,7 @@ use Rattle.arbitrary_base.proofs.modular.Congruence.{Congruent-refl, Congruent-s
 use Rattle.arbitrary_base.proofs.operations.BitsAndSums.{and-in_range}
 use Rattle.arbitrary_base.proofs.operations.Bitwise.{bitwise_and-commutes}
 use Rattle.arbitrary_base.proofs.operations.WrappedRing.{by-congruence, difference-congruent, difference-in_range}
-use Rattle.arbitrary_laws.proofs.bits.BitByBit.{and-compared, bit-and, bit-highest, bit-minus_one, bit-not, bit-or, bit-xor, bit-zero, compared-and, compared-not, compared-or, compared-xor, not-compared, or-compared, xor-compared}
+use Rattle.arbitrary_laws.proofs.bits.BitByBit.{and-compared, bit_near-and, bit_near-highest, bit_near-minus_one, bit_near-not, bit_near-or, bit_near-xor, bit_near-zero, compared-and, compared-not, compared-or, compared-xor, not-compared, or-compared, xor-compared}
 use Rattle.arbitrary_laws.proofs.bits.Identities.{bitwise_not-twice}
 use Rattle.arbitrary_laws.proofs.masks.NumberUnderMask.{and-by_complement}
 use Rattle.arbitrary_laws.proofs.sums.BitsBesideSums.{difference-of_and}
@@ -44,7 +44,7 @@ module _ (s : Bool) (B : ℕ) (x : ℤ) (h : 1 ≤ B) (f : InRange s B x) where
       (omega (arith, ints))
 
 -- under `&`, `|`, `^` and `!`
-pub ruleset lowest_masks = (Decides-int_eq, negated-is_not_before, and-compared, or-compared, xor-compared, not-compared, compared-and, compared-or, compared-xor, compared-not, bit-and, bit-or, bit-xor, bit-not, bit-zero, bit-highest, bit-minus_one)
+pub ruleset lowest_masks = (Decides-int_eq, negated-is_not_before, and-compared, or-compared, xor-compared, not-compared, compared-and, compared-or, compared-xor, compared-not, bit_near-and, bit_near-or, bit_near-xor, bit_near-not, bit_near-zero, bit_near-highest, bit_near-minus_one)
 
 -- beside differences
 pub ruleset lowest_parts = (Decides-int_eq, lowest-taken, below-lowest, bitwise_and-commutes)

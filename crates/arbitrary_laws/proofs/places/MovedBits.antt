@@ -19,7 +19,7 @@ use Rattle.arbitrary_base.proofs.bit_lists.TwosComplement.{bits-negsuc, bits-wra
 use Rattle.arbitrary_base.proofs.bit_lists.UnsignedNumber.{length-bits}
 use Rattle.arbitrary_base.proofs.modular.Residue.{wrap-in_range}
 use Rattle.arbitrary_base.proofs.operations.Definition.{bits-left, bits-right, bits-rotl, left-is, right-is, rotl-is, rotr-is}
-use Rattle.arbitrary_laws.proofs.bits.BitByBit.{Compared, Spot, and-compared, at, bit, bit-and, bit-is, bit-listed, bit-not, bit-or, bit-xor, bit-zero, by_bit, compared-and, compared-not, compared-or, compared-xor, index, index-lowest, lowest, not-compared, or-compared, same, width-free, xor-compared}
+use Rattle.arbitrary_laws.proofs.bits.BitByBit.{Compared, Spot, and-compared, at, bit_near, bit_near-and, bit_near-is, bit_near-listed, bit_near-not, bit_near-or, bit_near-xor, bit_near-zero, by_bit, compared-and, compared-not, compared-or, compared-xor, index, index-lowest, lowest, not-compared, or-compared, same, width-free, xor-compared}
 use Rattle.arbitrary_laws.proofs.rotations.RotatedLists.{bits-rotr}
 
 -- ---- two numbers of which one is moved
@@ -109,67 +109,67 @@ module _ (B : ℕ) (p : Spot) (u v : ℕ) (l : v ≤ index p + u) (h : index p +
   unfolding place
   inside = omega arith
 
-  listed_here : (z : ℤ) → bit z p u v ≡ get_or (bits B z) place false
+  listed_here : (z : ℤ) → bit_near z p u v ≡ get_or (bits B z) place false
   unfolding place
-  listed_here z = bit-listed B z p u v _ refl (omega arith)
+  listed_here z = bit_near-listed B z p u v _ refl (omega arith)
 
-  pub bit-left : (s : Bool) → ((bit (shifted_left s B x k) p u v ≡ false) × (index p + u < k + v))
-      ⊎ ((bit (shifted_left s B x k) p u v ≡ bit x p (u - k) (v + (k - u))) × (k + v ≤ index p + u))
+  pub bit-left : (s : Bool) → ((bit_near (shifted_left s B x k) p u v ≡ false) × (index p + u < k + v))
+      ⊎ ((bit_near (shifted_left s B x k) p u v ≡ bit_near x p (u - k) (v + (k - u))) × (k + v ≤ index p + u))
   bit-left s =
       let n = length-bits B x in
       let e = placed in
       let w = inside in
-      let m : bit (shifted_left s B x k) p u v ≡ get_or (shl (bits B x) k) place false = listed_here _ ∙ ap (λ (q : List Bool). get_or q place false) (bits-left s B x k g) in
+      let m : bit_near (shifted_left s B x k) p u v ≡ get_or (shl (bits B x) k) place false = listed_here _ ∙ ap (λ (q : List Bool). get_or q place false) (bits-left s B x k g) in
       elim (split place k) [
         | inl b ↦ inl (m ∙ left-below (bits B x) k place (omega arith) (omega arith) b, omega (arith, b))
         | inr b ↦ inr (
-          m ∙ left-above (bits B x) k place (omega arith) (omega arith) b ∙ sym (bit-listed B x p (u - k) (v + (k - u)) (place - k) (omega (arith, b)) (omega (arith, b))),
+          m ∙ left-above (bits B x) k place (omega arith) (omega arith) b ∙ sym (bit_near-listed B x p (u - k) (v + (k - u)) (place - k) (omega (arith, b)) (omega (arith, b))),
           omega (arith, b),
         )
       ]
 
-  pub bit-right : ((bit (shifted_right false B x k) p u v ≡ bit x p (u + (k - v)) (v - k)) × (index p + u + k < B + v))
-      ⊎ ((bit (shifted_right false B x k) p u v ≡ false) × (B + v ≤ index p + u + k))
+  pub bit-right : ((bit_near (shifted_right false B x k) p u v ≡ bit_near x p (u + (k - v)) (v - k)) × (index p + u + k < B + v))
+      ⊎ ((bit_near (shifted_right false B x k) p u v ≡ false) × (B + v ≤ index p + u + k))
   bit-right =
       let n = length-bits B x in
       let e = placed in
       let w = inside in
-      let m : bit (shifted_right false B x k) p u v ≡ get_or (shr (bits B x) k false) place false = listed_here _ ∙ ap (λ (q : List Bool). get_or q place false) (bits-right false B x k g) in
+      let m : bit_near (shifted_right false B x k) p u v ≡ get_or (shr (bits B x) k false) place false = listed_here _ ∙ ap (λ (q : List Bool). get_or q place false) (bits-right false B x k g) in
       elim (split (place + k) B) [
         | inl b ↦ inl (
-          m ∙ right-below (bits B x) k place (omega arith) (omega arith) false (omega (arith, b)) ∙ sym (bit-listed B x p (u + (k - v)) (v - k) (place + k) (omega arith) b),
+          m ∙ right-below (bits B x) k place (omega arith) (omega arith) false (omega (arith, b)) ∙ sym (bit_near-listed B x p (u + (k - v)) (v - k) (place + k) (omega arith) b),
           omega (arith, b),
         )
         | inr b ↦ inr (m ∙ right-above (bits B x) k place (omega arith) (omega arith) false (omega (arith, b)), omega (arith, b))
       ]
 
-  pub bit-right_signed : ((bit (shifted_right true B x k) p u v ≡ bit x p (u + (k - v)) (v - k)) × (index p + u + k < B + v))
-      ⊎ ((bit (shifted_right true B x k) p u v ≡ bit x lowest (B - 1) 0) × (B + v ≤ index p + u + k))
+  pub bit-right_signed : ((bit_near (shifted_right true B x k) p u v ≡ bit_near x p (u + (k - v)) (v - k)) × (index p + u + k < B + v))
+      ⊎ ((bit_near (shifted_right true B x k) p u v ≡ bit_near x lowest (B - 1) 0) × (B + v ≤ index p + u + k))
   bit-right_signed =
       let z = index-lowest in
       let n = length-bits B x in
       let e = placed in
       let w = inside in
-      let m : bit (shifted_right true B x k) p u v ≡ get_or (shr (bits B x) k (fill true (bits B x))) place false = listed_here _ ∙ ap (λ (q : List Bool). get_or q place false) (bits-right true B x k g) in
+      let m : bit_near (shifted_right true B x k) p u v ≡ get_or (shr (bits B x) k (fill true (bits B x))) place false = listed_here _ ∙ ap (λ (q : List Bool). get_or q place false) (bits-right true B x k g) in
       elim (split (place + k) B) [
         | inl b ↦ inl (
-          m ∙ right-below (bits B x) k place (omega arith) (omega arith) _ (omega (arith, b)) ∙ sym (bit-listed B x p (u + (k - v)) (v - k) (place + k) (omega arith) b),
+          m ∙ right-below (bits B x) k place (omega arith) (omega arith) _ (omega (arith, b)) ∙ sym (bit_near-listed B x p (u + (k - v)) (v - k) (place + k) (omega arith) b),
           omega (arith, b),
         )
         | inr b ↦ inr (
           m ∙ right-above (bits B x) k place (omega arith) (omega arith) _ (omega (arith, b)) ∙ ap (λ (j : ℕ). get_or (bits B x) (j - 1) false) n
-              ∙ sym (bit-listed B x lowest (B - 1) 0 (B - 1) (omega arith) (omega arith)),
+              ∙ sym (bit_near-listed B x lowest (B - 1) 0 (B - 1) (omega arith) (omega arith)),
           omega (arith, b),
         )
       ]
 
-  turned-left : (s : Bool) → bit (rotated_left s B x k) p u v ≡ get_or (rotr (bits B x) (B - k)) place false
+  turned-left : (s : Bool) → bit_near (rotated_left s B x k) p u v ≡ get_or (rotr (bits B x) (B - k)) place false
   turned-left s =
       listed_here _ ∙ ap (λ (q : List Bool). get_or q place false) (bits-rotl s B x k)
       ∙ ap (λ (j : ℕ). get_or (rotr (bits B x) (j - k)) place false) (length-bits B x)
 
-  pub bit-rotl : (s : Bool) → ((bit (rotated_left s B x k) p u v ≡ bit x p (u + (B - k - v)) (v - (B - k))) × (index p + u < k + v))
-      ⊎ ((bit (rotated_left s B x k) p u v ≡ bit x p (u - k) (v + (k - u))) × (k + v ≤ index p + u))
+  pub bit-rotl : (s : Bool) → ((bit_near (rotated_left s B x k) p u v ≡ bit_near x p (u + (B - k - v)) (v - (B - k))) × (index p + u < k + v))
+      ⊎ ((bit_near (rotated_left s B x k) p u v ≡ bit_near x p (u - k) (v + (k - u))) × (k + v ≤ index p + u))
   bit-rotl s =
       let n = length-bits B x in
       let e = placed in
@@ -177,33 +177,33 @@ module _ (B : ℕ) (p : Spot) (u v : ℕ) (l : v ≤ index p + u) (h : index p +
       elim (split place k) [
         | inl b ↦ inl (
           turned-left s ∙ turned-below (bits B x) (B - k) place (omega arith) (omega arith) (omega (arith, b))
-              ∙ sym (bit-listed B x p (u + (B - k - v)) (v - (B - k)) (place + (B - k)) (omega arith) (omega (arith, b))),
+              ∙ sym (bit_near-listed B x p (u + (B - k - v)) (v - (B - k)) (place + (B - k)) (omega arith) (omega (arith, b))),
           omega (arith, b),
         )
         | inr b ↦ inr (
           turned-left s ∙ turned-above (bits B x) (B - k) place (omega arith) (omega arith) (omega (arith, b))
               ∙ ap (λ (j : ℕ). get_or (bits B x) j false) (let i : place + (B - k) - length (bits B x) ≡ place - k = omega (arith, b) in i)
-              ∙ sym (bit-listed B x p (u - k) (v + (k - u)) (place - k) (omega (arith, b)) (omega (arith, b))),
+              ∙ sym (bit_near-listed B x p (u - k) (v + (k - u)) (place - k) (omega (arith, b)) (omega (arith, b))),
           omega (arith, b),
         )
       ]
 
-  pub bit-rotr : (s : Bool) → ((bit (rotated_right s B x k) p u v ≡ bit x p (u + (k - v)) (v - k)) × (index p + u + k < B + v))
-      ⊎ ((bit (rotated_right s B x k) p u v ≡ bit x p (u - (B - k)) (v + (B - k - u))) × (B + v ≤ index p + u + k))
+  pub bit-rotr : (s : Bool) → ((bit_near (rotated_right s B x k) p u v ≡ bit_near x p (u + (k - v)) (v - k)) × (index p + u + k < B + v))
+      ⊎ ((bit_near (rotated_right s B x k) p u v ≡ bit_near x p (u - (B - k)) (v + (B - k - u))) × (B + v ≤ index p + u + k))
   bit-rotr s =
       let n = length-bits B x in
       let e = placed in
       let w = inside in
-      let m : bit (rotated_right s B x k) p u v ≡ get_or (rotr (bits B x) k) place false = listed_here _ ∙ ap (λ (q : List Bool). get_or q place false) (bits-rotr s B x k) in
+      let m : bit_near (rotated_right s B x k) p u v ≡ get_or (rotr (bits B x) k) place false = listed_here _ ∙ ap (λ (q : List Bool). get_or q place false) (bits-rotr s B x k) in
       elim (split (place + k) B) [
         | inl b ↦ inl (
-          m ∙ turned-below (bits B x) k place (omega arith) (omega arith) (omega (arith, b)) ∙ sym (bit-listed B x p (u + (k - v)) (v - k) (place + k) (omega arith) b),
+          m ∙ turned-below (bits B x) k place (omega arith) (omega arith) (omega (arith, b)) ∙ sym (bit_near-listed B x p (u + (k - v)) (v - k) (place + k) (omega arith) b),
           omega (arith, b),
         )
         | inr b ↦ inr (
           m ∙ turned-above (bits B x) k place (omega arith) (omega arith) (omega (arith, b))
               ∙ ap (λ (j : ℕ). get_or (bits B x) j false) (let i : place + k - length (bits B x) ≡ place + k - B = omega arith in i)
-              ∙ sym (bit-listed B x p (u - (B - k)) (v + (B - k - u)) (place + k - B) (omega (arith, b)) (omega (arith, b))),
+              ∙ sym (bit_near-listed B x p (u - (B - k)) (v + (B - k - u)) (place + k - B) (omega (arith, b)) (omega (arith, b))),
           omega (arith, b),
         )
       ]
@@ -222,8 +222,8 @@ complemented i n = ap (λ (l : List Bool). get_or l i false) (bits-negsuc (suc i
     ∙ get_or-map not (bits (suc i) (pos n)) i false false (omega (arith, length-bits (suc i) (pos n)))
 
 pub bit-negative : (n : ℕ) (p : Spot) (u v : ℕ)
-    → ((bit (negsuc n) p u v ≡ false) × (bit (pos n) p u v ≡ true)) ⊎ ((bit (negsuc n) p u v ≡ true) × (bit (pos n) p u v ≡ false))
-bit-negative n p u v = by_bit (λ a b. not a) _ true _ (bit-is (negsuc n) p u v ∙ complemented _ n ∙ ap not (sym (bit-is (pos n) p u v)))
+    → ((bit_near (negsuc n) p u v ≡ false) × (bit_near (pos n) p u v ≡ true)) ⊎ ((bit_near (negsuc n) p u v ≡ true) × (bit_near (pos n) p u v ≡ false))
+bit-negative n p u v = by_bit (λ a b. not a) _ true _ (bit_near-is (negsuc n) p u v ∙ complemented _ n ∙ ap not (sym (bit_near-is (pos n) p u v)))
 
 power : (i j : ℕ) → i ≤ j → 2 ^ j ≡ 2 ^ (j - i) * 2 ^ i
 power i j h = ap (λ (k : ℕ). 2 ^ k) (let e : j ≡ (j - i) + i = omega arith in e) ∙ pow-add 2 (j - i) i
@@ -280,26 +280,26 @@ module _ (n : ℕ) (p : Spot) (u v : ℕ) (l : v ≤ index p + u) (e : suc n % 2
   abbrev to : ℕ
   to = low_zeros 128 (suc n) + low_zeros 128 (suc n / 2 ^ low_zeros 128 (suc n) + 1)
 
-  pub bit-written : ((bit (pos (suc n)) p u v ≡ false) × (index p + u < from + v))
-      ⊎ (((bit (pos (suc n)) p u v ≡ true) × (from + v ≤ index p + u) × (index p + u < to + v))
-      ⊎ ((bit (pos (suc n)) p u v ≡ bit (pos (suc n / 2 ^ to * 2 ^ to)) p u v) × (to + v ≤ index p + u)))
+  pub bit-written : ((bit_near (pos (suc n)) p u v ≡ false) × (index p + u < from + v))
+      ⊎ (((bit_near (pos (suc n)) p u v ≡ true) × (from + v ≤ index p + u) × (index p + u < to + v))
+      ⊎ ((bit_near (pos (suc n)) p u v ≡ bit_near (pos (suc n / 2 ^ to * 2 ^ to)) p u v) × (to + v ≤ index p + u)))
   bit-written =
       let i = index p + u - v in
       let a = low_zeros 128 (suc n) in
       let r = low_zeros 128 (suc n / 2 ^ a + 1) in
       elim (cases_lt i a) [
-        | inl b ↦ inl (bit-is _ p u v ∙ written i (suc n) ∙ ap (λ (m : ℕ). m == 1) (even (suc n) i a b e), omega (arith, b))
+        | inl b ↦ inl (bit_near-is _ p u v ∙ written i (suc n) ∙ ap (λ (m : ℕ). m == 1) (even (suc n) i a b e), omega (arith, b))
         | inr b ↦ elim (cases_lt i (a + r)) [
           | inl c ↦ inr (inl (
-            bit-is _ p u v ∙ written i (suc n)
+            bit_near-is _ p u v ∙ written i (suc n)
                 ∙ ap (λ (m : ℕ). m % 2 == 1) (ap (λ (m : ℕ). suc n / m) (power a i b ∙ turn (2 ^ (i - a)) (2 ^ a)) ∙ sym (div-div-eq-div-mul (suc n) (2 ^ a) (2 ^ (i - a))))
                 ∙ ap (λ (m : ℕ). m == 1) (odd (suc n / 2 ^ a) (i - a) r (omega (arith, b, c)) f),
             omega (arith, b),
             omega (arith, c),
           ))
           | inr c ↦ inr (inr (
-            bit-is _ p u v ∙ written i (suc n) ∙ ap (λ (m : ℕ). m % 2 == 1) (sym (high-kept (suc n) i (a + r) c))
-                ∙ sym (bit-is _ p u v ∙ written i (suc n / 2 ^ (a + r) * 2 ^ (a + r))),
+            bit_near-is _ p u v ∙ written i (suc n) ∙ ap (λ (m : ℕ). m % 2 == 1) (sym (high-kept (suc n) i (a + r) c))
+                ∙ sym (bit_near-is _ p u v ∙ written i (suc n / 2 ^ (a + r) * 2 ^ (a + r))),
             omega (arith, c),
           ))
         ]
@@ -342,23 +342,23 @@ module _ (A : ℕ) (x : ℤ) (p : Spot) (u v : ℕ) (some : 1 ≤ A) (l : v ≤ 
   kept-below : (s : Bool) (i : ℕ) → i < A → at (wrap s A x) i ≡ at x i
   kept-below s i h = sym (width-free A i (wrap s A x) h) ∙ ap (λ (m : List Bool). get_or m i false) (bits-wrap s A x) ∙ width-free A i x h
 
-  pub bit-wrap : ((bit (wrap false A x) p u v ≡ bit x p u v) × (index p + u < A + v)) ⊎ ((bit (wrap false A x) p u v ≡ false) × (A + v ≤ index p + u))
+  pub bit-wrap : ((bit_near (wrap false A x) p u v ≡ bit_near x p u v) × (index p + u < A + v)) ⊎ ((bit_near (wrap false A x) p u v ≡ false) × (A + v ≤ index p + u))
   bit-wrap =
       let i = index p + u - v in
       elim (cases_lt i A) [
-        | inl b ↦ inl (bit-is _ p u v ∙ kept-below false i b ∙ sym (bit-is x p u v), omega (arith, b))
-        | inr b ↦ inr (bit-is _ p u v ∙ none-above A i _ (wrap-in_range false A x some) b, omega (arith, b))
+        | inl b ↦ inl (bit_near-is _ p u v ∙ kept-below false i b ∙ sym (bit_near-is x p u v), omega (arith, b))
+        | inr b ↦ inr (bit_near-is _ p u v ∙ none-above A i _ (wrap-in_range false A x some) b, omega (arith, b))
       ]
 
-  pub bit-wrap_signed : ((bit (wrap true A x) p u v ≡ bit x p u v) × (index p + u < A + v))
-      ⊎ ((bit (wrap true A x) p u v ≡ bit x lowest (A - 1) 0) × (A + v ≤ index p + u))
+  pub bit-wrap_signed : ((bit_near (wrap true A x) p u v ≡ bit_near x p u v) × (index p + u < A + v))
+      ⊎ ((bit_near (wrap true A x) p u v ≡ bit_near x lowest (A - 1) 0) × (A + v ≤ index p + u))
   bit-wrap_signed =
       let i = index p + u - v in
       elim (cases_lt i A) [
-        | inl b ↦ inl (bit-is _ p u v ∙ kept-below true i b ∙ sym (bit-is x p u v), omega (arith, b))
+        | inl b ↦ inl (bit_near-is _ p u v ∙ kept-below true i b ∙ sym (bit_near-is x p u v), omega (arith, b))
         | inr b ↦ inr (
-          bit-is _ p u v ∙ sign-above A i (A - 1) _ (wrap-in_range true A x some) (omega (arith, b)) (omega arith)
-              ∙ kept-below true (A - 1) (omega arith) ∙ ap (at x) (let z = index-lowest in let e : A - 1 ≡ index lowest + (A - 1) - 0 = omega arith in e) ∙ sym (bit-is x lowest (A - 1) 0),
+          bit_near-is _ p u v ∙ sign-above A i (A - 1) _ (wrap-in_range true A x some) (omega (arith, b)) (omega arith)
+              ∙ kept-below true (A - 1) (omega arith) ∙ ap (at x) (let z = index-lowest in let e : A - 1 ≡ index lowest + (A - 1) - 0 = omega arith in e) ∙ sym (bit_near-is x lowest (A - 1) 0),
           omega (arith, b),
         )
       ]
@@ -366,32 +366,32 @@ module _ (A : ℕ) (x : ℤ) (p : Spot) (u v : ℕ) (some : 1 ≤ A) (l : v ≤ 
 -- ---- two fields side by side, and what stands below them
 
 module _ (B : ℕ) (x y : ℤ) (k : ℕ) (p : Spot) (u v : ℕ) (l : v ≤ index p + u) (h : index p + u < B + v) (within : k ≤ B) (low : pos 0 ≤ℤ y) (high : y <ℤ pos (2 ^ k)) where
-  none-there : k + v ≤ index p + u → bit y p u v ≡ false
+  none-there : k + v ≤ index p + u → bit_near y p u v ≡ false
   none-there g =
       let w : InRange false k y = record { low = low; high = omega (arith, ints) } in
-      bit-is y p u v ∙ none-above k (index p + u - v) y w (omega arith)
+      bit_near-is y p u v ∙ none-above k (index p + u - v) y w (omega arith)
 
-  pub bit-beside : ((bit (bitwise_or false B (shifted_left false B x k) y) p u v ≡ bit y p u v) × (index p + u < k + v))
-      ⊎ ((bit (bitwise_or false B (shifted_left false B x k) y) p u v ≡ bit x p (u - k) (v + (k - u))) × (k + v ≤ index p + u))
+  pub bit-beside : ((bit_near (bitwise_or false B (shifted_left false B x k) y) p u v ≡ bit_near y p u v) × (index p + u < k + v))
+      ⊎ ((bit_near (bitwise_or false B (shifted_left false B x k) y) p u v ≡ bit_near x p (u - k) (v + (k - u))) × (k + v ≤ index p + u))
   bit-beside = elim (bit-left B p u v l h x k within false) [
-    | inl d ↦ elim (bit-or B p u v l h false (shifted_left false B x k) y) [
+    | inl d ↦ elim (bit_near-or B p u v l h false (shifted_left false B x k) y) [
       | inl e ↦ absurd (true≢false (sym e.1 ∙ d.0))
       | inr e ↦ inl (e.0, d.1)
     ]
-    | inr d ↦ elim (bit-or B p u v l h false (shifted_left false B x k) y) [
+    | inr d ↦ elim (bit_near-or B p u v l h false (shifted_left false B x k) y) [
       | inl e ↦ inr (e.0 ∙ sym e.1 ∙ d.0, d.1)
       | inr e ↦ inr (e.0 ∙ none-there d.1 ∙ sym e.1 ∙ d.0, d.1)
     ]
   ]
 
-  pub bit-below : (z : ℤ) → ((bit (bitwise_or false B (bitwise_or false B z (shifted_left false B x k)) y) p u v ≡ bit (bitwise_or false B z (shifted_left false B x k)) p u v) × (k + v ≤ index p + u))
+  pub bit-below : (z : ℤ) → ((bit_near (bitwise_or false B (bitwise_or false B z (shifted_left false B x k)) y) p u v ≡ bit_near (bitwise_or false B z (shifted_left false B x k)) p u v) × (k + v ≤ index p + u))
       ⊎ (index p + u < k + v)
   bit-below z = elim (cases_lt (index p + u) (k + v)) [
     | inl g ↦ inr g
-    | inr g ↦ elim (bit-or B p u v l h false (bitwise_or false B z (shifted_left false B x k)) y) [
+    | inr g ↦ elim (bit_near-or B p u v l h false (bitwise_or false B z (shifted_left false B x k)) y) [
       | inl e ↦ inl (e.0 ∙ sym e.1, g)
       | inr e ↦ inl (e.0 ∙ none-there g ∙ sym e.1, g)
     ]
   ]
 
-pub ruleset moved_bits = (Decides-int_eq, and-compared, compared-and, or-compared, compared-or, xor-compared, compared-xor, not-compared, compared-not, left-compared, compared-left, right-compared, compared-right, rotl-compared, compared-rotl, rotr-compared, compared-rotr, wrap-compared, compared-wrap, bit-and, bit-or, bit-xor, bit-not, bit-zero, bit-left, bit-right, bit-right_signed, bit-rotl, bit-rotr, bit-written, bit-negative, bit-wrap, bit-wrap_signed, bit-beside, bit-below)
+pub ruleset moved_bits = (Decides-int_eq, and-compared, compared-and, or-compared, compared-or, xor-compared, compared-xor, not-compared, compared-not, left-compared, compared-left, right-compared, compared-right, rotl-compared, compared-rotl, rotr-compared, compared-rotr, wrap-compared, compared-wrap, bit_near-and, bit_near-or, bit_near-xor, bit_near-not, bit_near-zero, bit-left, bit-right, bit-right_signed, bit-rotl, bit-rotr, bit-written, bit-negative, bit-wrap, bit-wrap_signed, bit-beside, bit-below)

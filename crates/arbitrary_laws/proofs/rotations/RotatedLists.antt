@@ -7,11 +7,17 @@ use Rattle.std.proofs.lemmas.List.{append_assoc, drop-append-le, drop-drop, leng
 use Rattle.arbitrary_base.specs.BitList.{bits, bits_or, shl, shr}
 use Rattle.arbitrary_base.specs.Operation.{rotated_right}
 use Rattle.arbitrary_base.proofs.bit_lists.Movement.{length-rotl, length-rotr, length-shl, rotr}
-use Rattle.arbitrary_base.proofs.bit_lists.Pointwise.{append-pointwise, cons, or-comm}
+use Rattle.arbitrary_base.proofs.bit_lists.Pointwise.{append-pointwise, cons}
 use Rattle.arbitrary_base.proofs.bit_lists.Rotation.{reverse-shl, rotr-whole}
 use Rattle.arbitrary_base.proofs.bit_lists.TwosComplement.{bits-val}
 use Rattle.arbitrary_base.proofs.bit_lists.UnsignedNumber.{length-bits}
 use Rattle.arbitrary_base.proofs.operations.Definition.{rotr-is}
+
+or-comm : (l m : List Bool) → bits_or l m ≡ bits_or m l
+or-comm [] [] = refl
+or-comm [] (b ∷ m) = refl
+or-comm (a ∷ l) [] = refl
+or-comm (a ∷ l) (b ∷ m) = cons (grind arith) (or-comm l m)
 
 or-zeros : (l : List Bool) → bits_or l (replicate (length l) false) ≡ l
 or-zeros [] = refl

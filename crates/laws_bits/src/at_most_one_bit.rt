@@ -1,0 +1,12 @@
+//! A law of a number of which one bit is one, told by the bit that is cleared and by the count at once.
+#![tactic(auto, using(arbitrary_laws::proofs::Sets::counts))]
+
+ghost use Rattle.std.specs.Prelude.{IsTrue};
+
+use arbitrary_int::prelude::*;
+
+pub fn one_bit_exactly(x: u24) -> bool
+    ensures { IsTrue result }
+{
+    (x != u24::zero() && x & (x - u24::new(1)) == u24::zero()) == (x.count_ones() == 1)
+}

@@ -1,0 +1,75 @@
+//! Laws of counts beside other counts, of shifted numbers and of one bit. `counts` has those of one number that is turned or complemented.
+#![tactic(auto, using(arbitrary_laws::proofs::Sets::counts))]
+
+ghost use Rattle.std.specs.Prelude.{◌<◌, IsTrue};
+
+use arbitrary_int::prelude::*;
+
+pub fn ones_of_xor(x: u24, y: u24) -> bool
+    ensures { IsTrue result }
+{
+    (x ^ y).count_ones() <= x.count_ones() + y.count_ones()
+}
+
+pub fn ones_of_left_shift(x: u24, amount: u32) -> bool
+    requires { amount < 24 }
+    ensures { IsTrue result }
+{
+    (x << amount).count_ones() <= x.count_ones()
+}
+
+pub fn ones_of_right_shift(x: u24) -> bool
+    ensures { IsTrue result }
+{
+    x.wrapping_shr(3).count_ones() <= x.count_ones()
+}
+
+pub fn zeros_of_left_shift(x: u24) -> bool
+    ensures { IsTrue result }
+{
+    3 <= x.wrapping_shl(3).trailing_zeros()
+}
+
+pub fn ones_of_one_bit(place: u32) -> bool
+    requires { place < 24 }
+    ensures { IsTrue result }
+{
+    (u24::new(1) << place).count_ones() == 1
+}
+
+pub fn place_of_one_bit(place: u32) -> bool
+    requires { place < 24 }
+    ensures { IsTrue result }
+{
+    (u24::new(1) << place).trailing_zeros() == place
+}
+
+pub fn leading_zeros_are_zeros(x: u24) -> bool
+    ensures { IsTrue result }
+{
+    x.leading_zeros() <= x.count_zeros()
+}
+
+pub fn trailing_ones_are_ones(x: u120) -> bool
+    ensures { IsTrue result }
+{
+    x.trailing_ones() <= x.count_ones()
+}
+
+pub fn low_end_is_alike(x: u24) -> bool
+    ensures { IsTrue result }
+{
+    x.trailing_zeros() == 0 || x.trailing_ones() == 0
+}
+
+pub fn ones_of_a_masked_number(x: u24) -> bool
+    ensures { IsTrue result }
+{
+    (x & u24::new(0xFF)).count_ones() <= 8
+}
+
+pub fn leading_zeros_of_right_shift(x: u24) -> bool
+    ensures { IsTrue result }
+{
+    (x >> 4).leading_zeros() >= 4
+}

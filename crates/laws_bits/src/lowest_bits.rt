@@ -1,0 +1,46 @@
+//! Laws of the lowest bit that is one: `x & (x - 1)` clears it, which leaves 0 of a power of two, and `x & -x` leaves it alone.
+#![tactic(auto, using(arbitrary_laws::proofs::Sets::counts))]
+
+ghost use Rattle.std.specs.Prelude.{◌≢◌, ◌<◌, pos, IsTrue};
+
+use arbitrary_int::prelude::*;
+
+pub fn cleared_has_one_less(x: u24) -> bool
+    ensures { IsTrue result }
+{
+    x == u24::zero() || (x & x.wrapping_sub(u24::new(1))).count_ones() + 1 == x.count_ones()
+}
+
+pub fn cleared_is_less(x: u24) -> bool
+    ensures { IsTrue result }
+{
+    x == u24::zero() || x & x.wrapping_sub(u24::new(1)) < x
+}
+
+pub fn left_alone_is_one_shifted(x: u24) -> bool
+    requires { x ≢ pos 0 }
+    ensures { IsTrue result }
+{
+    x & x.wrapping_neg() == u24::new(1) << x.trailing_zeros()
+}
+
+pub fn left_alone_has_as_many_zeros_below(x: u24) -> bool
+    ensures { IsTrue result }
+{
+    (x & x.wrapping_neg()).trailing_zeros() == x.trailing_zeros()
+}
+
+pub fn power_of_two_has_none_left(x: u24) -> bool
+    requires { x ≢ pos 0 }
+    ensures { IsTrue result }
+{
+    (x & (x - u24::new(1)) == u24::zero()) == (x.count_ones() == 1)
+}
+
+pub fn one_shifted_is_a_power_of_two(place: u8) -> bool
+    requires { place < 12 }
+    ensures { IsTrue result }
+{
+    let x = u12::new(1) << place;
+    x == u12::zero() || x & (x - u12::new(1)) == u12::zero()
+}

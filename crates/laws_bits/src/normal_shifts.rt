@@ -1,0 +1,28 @@
+//! Laws of a number shifted by the zeros at its low end: an odd number is left, and shifted back it is the number again.
+#![tactic(auto, using(arbitrary_laws::proofs::Sets::counts))]
+
+ghost use Rattle.std.specs.Prelude.{◌≡◌, ◌≢◌, ◌%◌, pos, unsigned_abs, IsTrue};
+
+use arbitrary_int::prelude::*;
+
+pub fn odd_part(x: i40) -> i40
+    requires { x ≢ pos 0 }
+    ensures { unsigned_abs result % 2 ≡ 1 }
+{
+    x >> x.trailing_zeros()
+}
+
+pub fn lowest_bit_is_one(x: u24) -> bool
+    requires { x ≢ pos 0 }
+    ensures { IsTrue result }
+{
+    (x >> x.trailing_zeros()) & u24::new(1) == u24::new(1)
+}
+
+pub fn shifted_back(x: i12) -> bool
+    requires { x ≢ pos 0 }
+    ensures { IsTrue result }
+{
+    let zeros = x.trailing_zeros();
+    (x >> zeros) << zeros == x
+}

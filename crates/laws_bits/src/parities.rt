@@ -1,0 +1,19 @@
+//! Laws of whether the number of ones is odd.
+#![tactic(auto, using(arbitrary_laws::proofs::Sets::counts))]
+
+ghost use Rattle.std.specs.Prelude.{◌<◌, IsTrue};
+
+use arbitrary_int::prelude::*;
+
+pub fn of_xor(x: u12, y: u12) -> bool
+    ensures { IsTrue result }
+{
+    (x ^ y).count_ones() % 2 == (x.count_ones() + y.count_ones()) % 2
+}
+
+pub fn one_bit_turned_over(x: u24, place: u32) -> bool
+    requires { place < 24 }
+    ensures { IsTrue result }
+{
+    (x ^ (u24::new(1) << place)).count_ones() % 2 != x.count_ones() % 2
+}

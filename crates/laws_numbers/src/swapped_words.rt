@@ -1,0 +1,36 @@
+//! Laws of a number with its bytes in the other order, beside bits, counts and reversals.
+#![tactic(auto, using(arbitrary_laws::proofs::Sets::bytes))]
+
+ghost use Rattle.std.specs.Prelude.{IsTrue};
+
+use arbitrary_int::prelude::*;
+
+pub fn swapped_and(x: u24, y: u24) -> bool
+    ensures { IsTrue result }
+{
+    (x & y).swap_bytes() == x.swap_bytes() & y.swap_bytes()
+}
+
+pub fn swapped_complement(x: i24) -> bool
+    ensures { IsTrue result }
+{
+    (!x).swap_bytes() == !x.swap_bytes()
+}
+
+pub fn ones_of_swapped(x: i40) -> bool
+    ensures { IsTrue result }
+{
+    x.swap_bytes().count_ones() == x.count_ones()
+}
+
+pub fn swapped_reversal(x: u24) -> bool
+    ensures { IsTrue result }
+{
+    x.reverse_bits().swap_bytes() == x.swap_bytes().reverse_bits()
+}
+
+pub fn swapped_equal(x: i24, y: i24) -> bool
+    ensures { IsTrue result }
+{
+    (x.swap_bytes() == y.swap_bytes()) == (x == y)
+}
