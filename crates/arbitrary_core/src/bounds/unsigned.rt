@@ -7,11 +7,11 @@ ghost use Rattle.arbitrary_base.proofs.storages.CheckedSum.{in_range-of_wrap, wr
 ghost use Rattle.arbitrary_base.proofs.storages.RangeEnds.{bounds, low_fits, high_fits, saturates};
 
 use crate::unsigned::UInt;
-use arbitrary_widths::HasWidth;
 use arbitrary_base::ends::{highest, is_zero, lowest};
 use arbitrary_base::saturating;
 use arbitrary_base::storage::UnsignedStorage;
 use arbitrary_base::truncation::from_low_bits;
+use arbitrary_widths::HasWidth;
 use num_traits::{Bounded, SaturatingAdd, SaturatingSub, Zero};
 
 impl<T: UnsignedStorage + HasWidth<BITS>, const BITS: usize> Bounded for UInt<T, BITS> {

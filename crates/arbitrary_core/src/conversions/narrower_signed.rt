@@ -6,8 +6,8 @@ ghost use Rattle.arbitrary_base.specs.Range.{InRange};
 
 use crate::conversions::signed::stored;
 use crate::signed::Int;
-use arbitrary_widths::HasWidth;
 use arbitrary_base::storage::{BuiltinInteger, SignedStorage, UnsignedOf};
+use arbitrary_widths::HasWidth;
 
 /// The number, in another storage that has room for its width.
 fn stored_in<

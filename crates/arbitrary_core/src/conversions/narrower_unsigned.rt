@@ -6,8 +6,8 @@ ghost use Rattle.arbitrary_base.specs.Range.{InRange};
 
 use crate::conversions::unsigned::stored;
 use crate::unsigned::UInt;
-use arbitrary_widths::HasWidth;
 use arbitrary_base::storage::UnsignedStorage;
+use arbitrary_widths::HasWidth;
 
 /// The number, in another storage that has room for its width.
 fn stored_in<S: UnsignedStorage, T: UnsignedStorage + HasWidth<BITS>, const BITS: usize>(

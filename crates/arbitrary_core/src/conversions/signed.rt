@@ -6,9 +6,9 @@ ghost use Rattle.std.specs.Prelude.{◌≡◌, true};
 ghost use Rattle.arbitrary_base.specs.Range.{InRange};
 
 use crate::signed::Int;
-use arbitrary_widths::{FitsIn, HasWidth};
 use arbitrary_base::storage::{BuiltinInteger, SignedStorage, UnsignedOf};
 use arbitrary_base::truncation::cast;
+use arbitrary_widths::{FitsIn, HasWidth};
 
 /// The number, in a storage that has room for it.
 pub(super) fn stored<

@@ -6,9 +6,9 @@ ghost use Rattle.std.specs.Prelude.{◌≡◌, pos, false};
 ghost use Rattle.arbitrary_base.specs.Range.{InRange};
 
 use crate::unsigned::UInt;
-use arbitrary_widths::{FitsIn, HasWidth};
 use arbitrary_base::storage::UnsignedStorage;
 use arbitrary_base::truncation::cast;
+use arbitrary_widths::{FitsIn, HasWidth};
 
 /// The number, in a storage that has room for it.
 pub(super) fn stored<S: UnsignedStorage, T: UnsignedStorage + HasWidth<BITS>, const BITS: usize>(

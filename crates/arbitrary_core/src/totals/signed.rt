@@ -6,9 +6,9 @@ ghost use Rattle.arbitrary_base.specs.Range.{InRange};
 
 use crate::signed::Int;
 use crate::totals::{Total, product_from, sum_from};
-use arbitrary_widths::HasWidth;
 use arbitrary_base::storage::{BuiltinInteger, SignedStorage, UnsignedOf};
 use arbitrary_base::truncation::from_low_bits;
+use arbitrary_widths::HasWidth;
 use std::iter::{Product, Sum};
 
 impl<T: BuiltinInteger + SignedStorage, const BITS: usize> Total for Int<T, BITS>

@@ -6,9 +6,9 @@ ghost use Rattle.arbitrary_base.specs.Range.{InRange};
 
 use crate::totals::{Total, product_from, sum_from};
 use crate::unsigned::UInt;
-use arbitrary_widths::HasWidth;
 use arbitrary_base::storage::UnsignedStorage;
 use arbitrary_base::truncation::from_low_bits;
+use arbitrary_widths::HasWidth;
 use std::iter::{Product, Sum};
 
 impl<T: UnsignedStorage, const BITS: usize> Total for UInt<T, BITS> {

@@ -5,7 +5,6 @@ use Rattle.std.proofs.Common.{ap, arith, sym, ◌∙◌}
 use Rattle.arbitrary_base.specs.Operation.{bitwise_and, bitwise_not, bitwise_or, bitwise_xor, rotated_left, shifted_left, shifted_right, wrapped_difference, wrapped_sum}
 use Rattle.arbitrary_base.proofs.operations.Complement.{negated-is_sum, not-is_difference}
 use Rattle.arbitrary_base.proofs.operations.WrappedRing.{wrapped_difference-is_sum}
-
 use Rattle.arbitrary_laws.proofs.bits.Parts.{and_not-is_xor, or-is_xor, xor-is_or, xor-is_and}
 use Rattle.arbitrary_laws.proofs.rotations.RotationsAndReversals.{rotated_left-as_shifts}
 use Rattle.arbitrary_laws.proofs.shifts.ShiftPairs.{rotated_left-as_sum, rotated_left-as_xor}
