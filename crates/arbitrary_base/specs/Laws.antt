@@ -5,10 +5,10 @@ use Rattle.std.specs.Ordering.{int_eq}
 use Rattle.arbitrary_base.specs.Range.{InRange, in_range, lo, hi}
 use Rattle.arbitrary_base.specs.Residue.{Congruent, residue, wrap}
 use Rattle.arbitrary_base.specs.Field.{field}
-use Rattle.arbitrary_base.specs.Saturation.{clamp}
+use Rattle.arbitrary_base.specs.Saturating.{clamp}
 use Rattle.std.specs.List.{fold, last_or, scan, slice_rotate_right, count_by, prefix_len, suffix_len}
 use Rattle.arbitrary_base.specs.BitList.{bits, val, bits_and, bits_or, bits_xor, shl, num}
-use Rattle.arbitrary_base.specs.Bytes.{bytes, bytes_number, BorshBytes, Canonical}
+use Rattle.arbitrary_base.specs.ByteLists.{bytes, bytes_number, BorshBytes, Canonical}
 
 -- ---- what `wrap` is
 

@@ -1,13 +1,13 @@
 pub mod Range
 pub mod Residue
 pub mod Field
-pub mod Saturation
+pub mod Saturating
 pub mod BitList
 pub mod Operation
 pub mod Power
 pub mod Order
 pub mod Assigned
-pub mod Watching
-pub mod Bytes
-pub mod Stream
+pub mod Watched
+pub mod ByteLists
+pub mod Streams
 pub mod Laws

@@ -15,7 +15,7 @@ pub fn and<T: Storage>(x: T, y: T, bits: usize) -> T
     requires storage { bits ≤ T.WIDTH }
     ensures value { let list = bit_list bits in
         T.number result ≡ val T.SIGNED (bits_and (list (T.number x)) (list (T.number y))) }
-    ensures range { InRange T.SIGNED bits (T.number result) }
+    ensures result_in_range { InRange T.SIGNED bits (T.number result) }
 {
     from_low_bits(
         patterns::and(low_bits(x, bits), low_bits(y, bits), bits),
@@ -30,7 +30,7 @@ pub fn or<T: Storage>(x: T, y: T, bits: usize) -> T
     requires storage { bits ≤ T.WIDTH }
     ensures value { let list = bit_list bits in
         T.number result ≡ val T.SIGNED (bits_or (list (T.number x)) (list (T.number y))) }
-    ensures range { InRange T.SIGNED bits (T.number result) }
+    ensures result_in_range { InRange T.SIGNED bits (T.number result) }
 {
     from_low_bits(
         patterns::or(low_bits(x, bits), low_bits(y, bits), bits),
@@ -45,7 +45,7 @@ pub fn xor<T: Storage>(x: T, y: T, bits: usize) -> T
     requires storage { bits ≤ T.WIDTH }
     ensures value { let list = bit_list bits in
         T.number result ≡ val T.SIGNED (bits_xor (list (T.number x)) (list (T.number y))) }
-    ensures range { InRange T.SIGNED bits (T.number result) }
+    ensures result_in_range { InRange T.SIGNED bits (T.number result) }
 {
     from_low_bits(
         patterns::xor(low_bits(x, bits), low_bits(y, bits), bits),
@@ -59,7 +59,7 @@ pub fn not<T: Storage>(x: T, bits: usize) -> T
     requires width { 1 ≤ bits }
     requires storage { bits ≤ T.WIDTH }
     ensures value { T.number result ≡ val T.SIGNED (map not (bit_list bits (T.number x))) }
-    ensures range { InRange T.SIGNED bits (T.number result) }
+    ensures result_in_range { InRange T.SIGNED bits (T.number result) }
 {
     from_low_bits(patterns::not(low_bits(x, bits), bits), bits)
 }

@@ -1,7 +1,7 @@
 //! Patterns as lists of bytes, the lowest byte first.
 
 ghost use Rattle.std.specs.Prelude.{◌≡◌, ◌≤◌, ◌<◌, ◌*◌, ◌^◌, ℕ, pos, length, take};
-ghost use Rattle.arbitrary_base.specs.Bytes.{bytes, bytes_number};
+ghost use Rattle.arbitrary_base.specs.ByteLists.{bytes, bytes_number};
 
 /// The 16 bytes of a pattern. Its lowest bytes stand at the front.
 #[tactic(auto, using(crate::proofs::bytes::NumberOfBytes::front_bytes))]

@@ -15,8 +15,8 @@ use crate::{raised, small, wrapping};
 pub fn add<T: Storage>(x: T, y: T, bits: usize) -> Option<T>
     requires width { 1 ≤ bits }
     requires storage { bits ≤ T.WIDTH }
-    requires x_in { InRange T.SIGNED bits (T.number x) }
-    requires y_in { InRange T.SIGNED bits (T.number y) }
+    requires x_in_range { InRange T.SIGNED bits (T.number x) }
+    requires y_in_range { InRange T.SIGNED bits (T.number y) }
     ensures { SomeIff (option_map T.number result)
         (InRange T.SIGNED bits (T.number x +ℤ T.number y)) (T.number x +ℤ T.number y) }
 {
@@ -38,8 +38,8 @@ pub fn add<T: Storage>(x: T, y: T, bits: usize) -> Option<T>
 pub(crate) fn add_by_order<T: Storage>(x: T, y: T, bits: usize) -> Option<T>
     requires width { 1 ≤ bits }
     requires storage { bits ≤ T.WIDTH }
-    requires x_in { InRange T.SIGNED bits (T.number x) }
-    requires y_in { InRange T.SIGNED bits (T.number y) }
+    requires x_in_range { InRange T.SIGNED bits (T.number x) }
+    requires y_in_range { InRange T.SIGNED bits (T.number y) }
     ensures { SomeIff (option_map T.number result)
         (InRange T.SIGNED bits (T.number x +ℤ T.number y)) (T.number x +ℤ T.number y) }
 {
@@ -57,8 +57,8 @@ pub(crate) fn add_by_order<T: Storage>(x: T, y: T, bits: usize) -> Option<T>
 pub fn sub<T: Storage>(x: T, y: T, bits: usize) -> Option<T>
     requires width { 1 ≤ bits }
     requires storage { bits ≤ T.WIDTH }
-    requires x_in { InRange T.SIGNED bits (T.number x) }
-    requires y_in { InRange T.SIGNED bits (T.number y) }
+    requires x_in_range { InRange T.SIGNED bits (T.number x) }
+    requires y_in_range { InRange T.SIGNED bits (T.number y) }
     ensures { SomeIff (option_map T.number result)
         (InRange T.SIGNED bits (T.number x -ℤ T.number y)) (T.number x -ℤ T.number y) }
 {
@@ -79,8 +79,8 @@ pub fn sub<T: Storage>(x: T, y: T, bits: usize) -> Option<T>
 pub(crate) fn sub_by_order<T: Storage>(x: T, y: T, bits: usize) -> Option<T>
     requires width { 1 ≤ bits }
     requires storage { bits ≤ T.WIDTH }
-    requires x_in { InRange T.SIGNED bits (T.number x) }
-    requires y_in { InRange T.SIGNED bits (T.number y) }
+    requires x_in_range { InRange T.SIGNED bits (T.number x) }
+    requires y_in_range { InRange T.SIGNED bits (T.number y) }
     ensures { SomeIff (option_map T.number result)
         (InRange T.SIGNED bits (T.number x -ℤ T.number y)) (T.number x -ℤ T.number y) }
 {
@@ -139,8 +139,8 @@ fn is_turned<T: Storage>(x: &T, y: &T, quotient: &T) -> bool
 pub(crate) fn div_by_nonzero<T: Storage>(x: T, y: T, bits: usize) -> Option<T>
     requires width { 1 ≤ bits }
     requires storage { bits ≤ T.WIDTH }
-    requires x_in { InRange T.SIGNED bits (T.number x) }
-    requires y_in { InRange T.SIGNED bits (T.number y) }
+    requires x_in_range { InRange T.SIGNED bits (T.number x) }
+    requires y_in_range { InRange T.SIGNED bits (T.number y) }
     requires divisor { T.number y ≢ pos 0 }
     ensures { SomeIff (option_map T.number result)
         (InRange T.SIGNED bits (int_div (T.number x) (T.number y)))
@@ -158,8 +158,8 @@ pub(crate) fn div_by_nonzero<T: Storage>(x: T, y: T, bits: usize) -> Option<T>
 pub fn div<T: Storage>(x: T, y: T, bits: usize) -> Option<T>
     requires width { 1 ≤ bits }
     requires storage { bits ≤ T.WIDTH }
-    requires x_in { InRange T.SIGNED bits (T.number x) }
-    requires y_in { InRange T.SIGNED bits (T.number y) }
+    requires x_in_range { InRange T.SIGNED bits (T.number x) }
+    requires y_in_range { InRange T.SIGNED bits (T.number y) }
     ensures { SomeIff (option_map T.number result)
         ((T.number y ≢ pos 0) × InRange T.SIGNED bits (int_div (T.number x) (T.number y)))
         (int_div (T.number x) (T.number y)) }
@@ -175,7 +175,7 @@ pub fn div<T: Storage>(x: T, y: T, bits: usize) -> Option<T>
 pub fn neg<T: Storage>(x: T, bits: usize) -> Option<T>
     requires width { 1 ≤ bits }
     requires storage { bits ≤ T.WIDTH }
-    requires x_in { InRange T.SIGNED bits (T.number x) }
+    requires x_in_range { InRange T.SIGNED bits (T.number x) }
     ensures { SomeIff (option_map T.number result)
         (InRange T.SIGNED bits (neg_ℤ (T.number x))) (neg_ℤ (T.number x)) }
 {

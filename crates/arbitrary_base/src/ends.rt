@@ -14,7 +14,7 @@ pub fn lowest<T: Storage>(bits: usize) -> T
     requires width { 1 ≤ bits }
     requires storage { bits ≤ T.WIDTH }
     ensures value { T.number result ≡ lo T.SIGNED bits }
-    ensures range { InRange T.SIGNED bits (T.number result) }
+    ensures result_in_range { InRange T.SIGNED bits (T.number result) }
 {
     from_low_bits(reach_below_zero(T::SIGNED, bits), bits)
 }
@@ -25,7 +25,7 @@ pub fn highest<T: Storage>(bits: usize) -> T
     requires width { 1 ≤ bits }
     requires storage { bits ≤ T.WIDTH }
     ensures value { T.number result ≡ hi T.SIGNED bits }
-    ensures range { InRange T.SIGNED bits (T.number result) }
+    ensures result_in_range { InRange T.SIGNED bits (T.number result) }
 {
     from_low_bits(reach_below_zero(T::SIGNED, bits).wrapping_sub(1), bits)
 }

@@ -15,7 +15,7 @@ pub fn extract<S: Storage, T: Storage>(source: S, start_bit: usize, bits: usize)
     requires within { start_bit + bits ≤ S.WIDTH }
     ensures value { let list = bit_list S.WIDTH (S.number source) in
         T.number result ≡ val T.SIGNED (take bits (drop start_bit list)) }
-    ensures range { InRange T.SIGNED bits (T.number result) }
+    ensures result_in_range { InRange T.SIGNED bits (T.number result) }
 {
     // Shifted in the source, not at 128 bits: only the bits above the wanted ones may differ, and they are masked.
     from_low_bits(source.shr_by(start_bit).pattern(), bits)

@@ -15,10 +15,10 @@ use crate::{checked, raised, small, wrapping};
 pub fn add<T: Storage>(x: T, y: T, bits: usize) -> (T, bool)
     requires width { 1 ≤ bits }
     requires storage { bits ≤ T.WIDTH }
-    requires x_in { InRange T.SIGNED bits (T.number x) }
-    requires y_in { InRange T.SIGNED bits (T.number y) }
+    requires x_in_range { InRange T.SIGNED bits (T.number x) }
+    requires y_in_range { InRange T.SIGNED bits (T.number y) }
     ensures value { T.number result.0 ≡ wrap T.SIGNED bits (T.number x +ℤ T.number y) }
-    ensures range { InRange T.SIGNED bits (T.number result.0) }
+    ensures result_in_range { InRange T.SIGNED bits (T.number result.0) }
     ensures overflow { IsTrue result.1 ↔ ¬ (InRange T.SIGNED bits (T.number x +ℤ T.number y)) }
 {
     if bits < T::WIDTH {
@@ -35,10 +35,10 @@ pub fn add<T: Storage>(x: T, y: T, bits: usize) -> (T, bool)
 pub fn sub<T: Storage>(x: T, y: T, bits: usize) -> (T, bool)
     requires width { 1 ≤ bits }
     requires storage { bits ≤ T.WIDTH }
-    requires x_in { InRange T.SIGNED bits (T.number x) }
-    requires y_in { InRange T.SIGNED bits (T.number y) }
+    requires x_in_range { InRange T.SIGNED bits (T.number x) }
+    requires y_in_range { InRange T.SIGNED bits (T.number y) }
     ensures value { T.number result.0 ≡ wrap T.SIGNED bits (T.number x -ℤ T.number y) }
-    ensures range { InRange T.SIGNED bits (T.number result.0) }
+    ensures result_in_range { InRange T.SIGNED bits (T.number result.0) }
     ensures overflow { IsTrue result.1 ↔ ¬ (InRange T.SIGNED bits (T.number x -ℤ T.number y)) }
 {
     if bits < T::WIDTH {
@@ -57,7 +57,7 @@ pub fn mul<T: Storage>(x: T, y: T, bits: usize) -> (T, bool)
     requires width { 1 ≤ bits }
     requires storage { bits ≤ T.WIDTH }
     ensures value { T.number result.0 ≡ wrap T.SIGNED bits (T.number x *ℤ T.number y) }
-    ensures range { InRange T.SIGNED bits (T.number result.0) }
+    ensures result_in_range { InRange T.SIGNED bits (T.number result.0) }
     ensures overflow { IsTrue result.1 ↔ ¬ (InRange T.SIGNED bits (T.number x *ℤ T.number y)) }
 {
     if T::WIDTH <= 16 {
@@ -82,11 +82,11 @@ pub fn mul<T: Storage>(x: T, y: T, bits: usize) -> (T, bool)
 pub fn div<T: Storage>(x: T, y: T, bits: usize) -> (T, bool)
     requires width { 1 ≤ bits }
     requires storage { bits ≤ T.WIDTH }
-    requires x_in { InRange T.SIGNED bits (T.number x) }
-    requires y_in { InRange T.SIGNED bits (T.number y) }
+    requires x_in_range { InRange T.SIGNED bits (T.number x) }
+    requires y_in_range { InRange T.SIGNED bits (T.number y) }
     requires divisor { T.number y ≢ pos 0 }
     ensures value { T.number result.0 ≡ wrap T.SIGNED bits (int_div (T.number x) (T.number y)) }
-    ensures range { InRange T.SIGNED bits (T.number result.0) }
+    ensures result_in_range { InRange T.SIGNED bits (T.number result.0) }
     ensures overflow { let quotient = int_div (T.number x) (T.number y) in
         IsTrue result.1 ↔ ¬ (InRange T.SIGNED bits quotient) }
 {
@@ -98,9 +98,9 @@ pub fn div<T: Storage>(x: T, y: T, bits: usize) -> (T, bool)
 pub fn neg<T: Storage>(x: T, bits: usize) -> (T, bool)
     requires width { 1 ≤ bits }
     requires storage { bits ≤ T.WIDTH }
-    requires x_in { InRange T.SIGNED bits (T.number x) }
+    requires x_in_range { InRange T.SIGNED bits (T.number x) }
     ensures value { T.number result.0 ≡ wrap T.SIGNED bits (neg_ℤ (T.number x)) }
-    ensures range { InRange T.SIGNED bits (T.number result.0) }
+    ensures result_in_range { InRange T.SIGNED bits (T.number result.0) }
     ensures overflow { IsTrue result.1 ↔ ¬ (InRange T.SIGNED bits (neg_ℤ (T.number x))) }
 {
     sub(zero(), x, bits)

@@ -4,7 +4,7 @@ ghost use Rattle.std.specs.Prelude.{◌≡◌, ◌≤◌, ◌<◌, ◌+◌, ◌*
 ghost use Rattle.std.specs.Int.{int_pow};
 ghost use Rattle.std.specs.Int.Digits.{digits_of};
 ghost use Rattle.arbitrary_base.specs.Range.{InRange, hi};
-ghost use Rattle.arbitrary_base.specs.Saturation.{clamp};
+ghost use Rattle.arbitrary_base.specs.Saturating.{clamp};
 ghost use Rattle.arbitrary_base.specs.Power.{PowersOfSums, PowersOfProducts};
 
 use crate::checked;
@@ -46,7 +46,7 @@ fn tested_bits<T: Storage>(bits: usize) -> usize
 fn multiply<T: Storage>(x: T, y: T, bits: usize, count: &mut u32) -> Option<T>
     requires width { 1 ≤ bits }
     requires storage { bits ≤ T.WIDTH }
-    requires x_in { InRange T.SIGNED bits (T.number x) }
+    requires x_in_range { InRange T.SIGNED bits (T.number x) }
     requires room { count.old < 64 }
     ensures counted { count.new ≡ count.old + 1 }
     ensures product { SomeIff (option_map T.number result)
@@ -68,7 +68,7 @@ fn exact_power<T: Storage>(x: T, exp: u32, bits: usize, count: &mut u32) -> Opti
     requires started { count.old ≡ 0 }
     requires some { 2 ≤ bits }
     requires storage { bits ≤ T.WIDTH }
-    requires range { InRange T.SIGNED bits (T.number x) }
+    requires x_in_range { InRange T.SIGNED bits (T.number x) }
     ensures value { let power = int_pow (T.number x) exp in MatchOption result
         (hi T.SIGNED bits <ℤ pos (unsigned_abs power)) (λ y. T.number y ≡ power) }
     ensures counted { count.new ≤ 2 * length (digits_of 2 exp) }
@@ -137,9 +137,9 @@ fn clamped<T: Storage>(x: T, bits: usize) -> T
 pub fn saturating_pow_counted<T: Storage>(x: T, exp: u32, bits: usize) -> (T, u32)
     requires width { 1 ≤ bits }
     requires storage { bits ≤ T.WIDTH }
-    requires x_in { InRange T.SIGNED bits (T.number x) }
+    requires x_in_range { InRange T.SIGNED bits (T.number x) }
     ensures value { T.number result.0 ≡ clamp T.SIGNED bits (int_pow (T.number x) exp) }
-    ensures range { InRange T.SIGNED bits (T.number result.0) }
+    ensures result_in_range { InRange T.SIGNED bits (T.number result.0) }
     ensures count { result.1 ≤ 2 * length (digits_of 2 exp) }
     ensures bound { result.1 ≤ 64 }
 {
@@ -158,9 +158,9 @@ pub fn saturating_pow_counted<T: Storage>(x: T, exp: u32, bits: usize) -> (T, u3
 pub fn saturating_pow<T: Storage>(x: T, exp: u32, bits: usize) -> T
     requires width { 1 ≤ bits }
     requires storage { bits ≤ T.WIDTH }
-    requires x_in { InRange T.SIGNED bits (T.number x) }
+    requires x_in_range { InRange T.SIGNED bits (T.number x) }
     ensures value { T.number result ≡ clamp T.SIGNED bits (int_pow (T.number x) exp) }
-    ensures range { InRange T.SIGNED bits (T.number result) }
+    ensures result_in_range { InRange T.SIGNED bits (T.number result) }
 {
     saturating_pow_counted(x, exp, bits).0
 }

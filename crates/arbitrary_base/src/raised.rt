@@ -14,7 +14,7 @@ use crate::truncation::equal;
 fn raise<T: Storage>(x: T, bits: usize) -> T
     requires width { 1 ≤ bits }
     requires storage { bits ≤ T.WIDTH }
-    requires x_in { InRange T.SIGNED bits (T.number x) }
+    requires x_in_range { InRange T.SIGNED bits (T.number x) }
     ensures { T.number result ≡ T.number x *ℤ pos (2 ^ (T.WIDTH - bits)) }
 {
     x.shl_by(T::WIDTH - bits)
@@ -24,7 +24,7 @@ fn raise<T: Storage>(x: T, bits: usize) -> T
 fn lower<T: Storage>(x: T, bits: usize) -> T
     requires width { 1 ≤ bits }
     requires storage { bits ≤ T.WIDTH }
-    requires x_in { InRange T.SIGNED T.WIDTH (T.number x) }
+    requires x_in_range { InRange T.SIGNED T.WIDTH (T.number x) }
     ensures { T.number result ≡ int_shr (T.number x) (T.WIDTH - bits) }
 {
     x.shr_by(T::WIDTH - bits)
@@ -33,8 +33,8 @@ fn lower<T: Storage>(x: T, bits: usize) -> T
 /// Whether the product, wrapped, is the exact one of the factors. The first is not -1.
 // Only an exact product gives the other factor back. The compiler makes the flag of the multiplication of it.
 fn is_exact<T: Storage>(product: T, x: T, y: T) -> bool
-    requires x_in { InRange T.SIGNED T.WIDTH (T.number x) }
-    requires y_in { InRange T.SIGNED T.WIDTH (T.number y) }
+    requires x_in_range { InRange T.SIGNED T.WIDTH (T.number x) }
+    requires y_in_range { InRange T.SIGNED T.WIDTH (T.number y) }
     requires factor { T.number x ≢ negsuc 0 }
     requires product { T.number product ≡ wrap T.SIGNED T.WIDTH (T.number x *ℤ T.number y) }
     ensures { IsTrue result ↔ InRange T.SIGNED T.WIDTH (T.number x *ℤ T.number y) }
@@ -47,9 +47,9 @@ fn is_exact<T: Storage>(product: T, x: T, y: T) -> bool
 pub(crate) fn mul<T: Storage>(x: T, y: T, bits: usize) -> (T, bool)
     requires width { 1 ≤ bits }
     requires storage { bits < T.WIDTH }
-    requires x_in { InRange T.SIGNED bits (T.number x) }
+    requires x_in_range { InRange T.SIGNED bits (T.number x) }
     ensures value { T.number result.0 ≡ wrap T.SIGNED bits (T.number x *ℤ T.number y) }
-    ensures range { InRange T.SIGNED bits (T.number result.0) }
+    ensures result_in_range { InRange T.SIGNED bits (T.number result.0) }
     ensures overflow { IsTrue result.1 ↔ ¬ (InRange T.SIGNED bits (T.number x *ℤ T.number y)) }
 {
     // The contract of `pattern` says that the number is in the storage's range; the pattern itself is not needed.

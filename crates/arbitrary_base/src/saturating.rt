@@ -2,7 +2,7 @@
 
 ghost use Rattle.std.specs.Prelude.{◌≡◌, ◌≢◌, ◌≤◌, ◌+ℤ◌, ◌-ℤ◌, ◌*ℤ◌, neg_ℤ, pos, int_div};
 ghost use Rattle.arbitrary_base.specs.Range.{InRange};
-ghost use Rattle.arbitrary_base.specs.Saturation.{clamp};
+ghost use Rattle.arbitrary_base.specs.Saturating.{clamp};
 
 use crate::ends::{end, highest, is_below, is_below_zero, lowest, zero};
 use crate::storage::Storage;
@@ -32,10 +32,10 @@ fn clamped<T: Storage>(x: T, bits: usize) -> T
 pub fn add<T: Storage>(x: T, y: T, bits: usize) -> T
     requires width { 1 ≤ bits }
     requires storage { bits ≤ T.WIDTH }
-    requires x_in { InRange T.SIGNED bits (T.number x) }
-    requires y_in { InRange T.SIGNED bits (T.number y) }
+    requires x_in_range { InRange T.SIGNED bits (T.number x) }
+    requires y_in_range { InRange T.SIGNED bits (T.number y) }
     ensures value { T.number result ≡ clamp T.SIGNED bits (T.number x +ℤ T.number y) }
-    ensures range { InRange T.SIGNED bits (T.number result) }
+    ensures result_in_range { InRange T.SIGNED bits (T.number result) }
 {
     if bits < T::WIDTH {
         clamped(x.wrapping_add(y), bits)
@@ -60,10 +60,10 @@ pub fn add<T: Storage>(x: T, y: T, bits: usize) -> T
 pub fn sub<T: Storage>(x: T, y: T, bits: usize) -> T
     requires width { 1 ≤ bits }
     requires storage { bits ≤ T.WIDTH }
-    requires x_in { InRange T.SIGNED bits (T.number x) }
-    requires y_in { InRange T.SIGNED bits (T.number y) }
+    requires x_in_range { InRange T.SIGNED bits (T.number x) }
+    requires y_in_range { InRange T.SIGNED bits (T.number y) }
     ensures value { T.number result ≡ clamp T.SIGNED bits (T.number x -ℤ T.number y) }
-    ensures range { InRange T.SIGNED bits (T.number result) }
+    ensures result_in_range { InRange T.SIGNED bits (T.number result) }
 {
     if T::SIGNED && bits < T::WIDTH {
         clamped(x.wrapping_sub(y), bits)
@@ -88,7 +88,7 @@ pub fn mul<T: Storage>(x: T, y: T, bits: usize) -> T
     requires width { 1 ≤ bits }
     requires storage { bits ≤ T.WIDTH }
     ensures value { T.number result ≡ clamp T.SIGNED bits (T.number x *ℤ T.number y) }
-    ensures range { InRange T.SIGNED bits (T.number result) }
+    ensures result_in_range { InRange T.SIGNED bits (T.number result) }
 {
     if T::WIDTH <= 16 {
         small::from_i64(small::clamped::<T>(small::product(x, y), bits))
@@ -105,11 +105,11 @@ pub fn mul<T: Storage>(x: T, y: T, bits: usize) -> T
 pub fn div<T: Storage>(x: T, y: T, bits: usize) -> T
     requires width { 1 ≤ bits }
     requires storage { bits ≤ T.WIDTH }
-    requires x_in { InRange T.SIGNED bits (T.number x) }
-    requires y_in { InRange T.SIGNED bits (T.number y) }
+    requires x_in_range { InRange T.SIGNED bits (T.number x) }
+    requires y_in_range { InRange T.SIGNED bits (T.number y) }
     requires divisor { T.number y ≢ pos 0 }
     ensures value { T.number result ≡ clamp T.SIGNED bits (int_div (T.number x) (T.number y)) }
-    ensures range { InRange T.SIGNED bits (T.number result) }
+    ensures result_in_range { InRange T.SIGNED bits (T.number result) }
 {
     match checked::div_by_nonzero(x, y, bits) {
         Some(quotient) => quotient,
@@ -121,9 +121,9 @@ pub fn div<T: Storage>(x: T, y: T, bits: usize) -> T
 pub fn neg<T: Storage>(x: T, bits: usize) -> T
     requires width { 1 ≤ bits }
     requires storage { bits ≤ T.WIDTH }
-    requires x_in { InRange T.SIGNED bits (T.number x) }
+    requires x_in_range { InRange T.SIGNED bits (T.number x) }
     ensures value { T.number result ≡ clamp T.SIGNED bits (neg_ℤ (T.number x)) }
-    ensures range { InRange T.SIGNED bits (T.number result) }
+    ensures result_in_range { InRange T.SIGNED bits (T.number result) }
 {
     sub(zero(), x, bits)
 }

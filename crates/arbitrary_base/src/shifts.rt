@@ -26,7 +26,7 @@ pub fn shl<T: Storage>(x: T, amount: usize, bits: usize) -> T
     requires within { amount < bits }
     ensures value { let list = bit_list bits (T.number x) in
         T.number result ≡ val T.SIGNED (shifted_left list amount) }
-    ensures range { InRange T.SIGNED bits (T.number result) }
+    ensures result_in_range { InRange T.SIGNED bits (T.number result) }
 {
     truncated(x.shl_by(amount), bits)
 }
@@ -40,7 +40,7 @@ pub fn shr<T: Storage>(x: T, amount: usize, bits: usize) -> T
     requires within { amount < bits }
     ensures value { let list = bit_list bits (T.number x) in
         T.number result ≡ val T.SIGNED (shifted_right list amount (fill T.SIGNED list)) }
-    ensures range { InRange T.SIGNED bits (T.number result) }
+    ensures result_in_range { InRange T.SIGNED bits (T.number result) }
 {
     truncated(x, bits).shr_by(amount)
 }

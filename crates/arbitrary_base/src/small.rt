@@ -3,7 +3,7 @@
 
 ghost use Rattle.std.specs.Prelude.{◌≡◌, ◌↔◌, ◌≤◌, ◌*ℤ◌, IsTrue};
 ghost use Rattle.arbitrary_base.specs.Range.{InRange};
-ghost use Rattle.arbitrary_base.specs.Saturation.{clamp};
+ghost use Rattle.arbitrary_base.specs.Saturating.{clamp};
 
 use crate::ends::{highest, lowest};
 use crate::storage::Storage;
@@ -13,7 +13,7 @@ use crate::truncation::cast;
 fn number<T: Storage>(x: T) -> i64
     requires small { T.WIDTH ≤ 16 }
     ensures value { result ≡ T.number x }
-    ensures range { InRange T.SIGNED T.WIDTH (T.number x) }
+    ensures x_in_range { InRange T.SIGNED T.WIDTH (T.number x) }
 {
     // The contract of `pattern` says that the number is in range; the bits themselves are not needed.
     let _pattern = x.pattern();
@@ -43,7 +43,7 @@ pub(crate) fn is_number_of<T: Storage>(x: i64, bits: usize) -> bool
 /// The storage's value of a number that it can keep.
 #[tactic(auto, using(crate::proofs::storages::CheckedSum::fitting))]
 pub(crate) fn from_i64<T: Storage>(x: i64) -> T
-    requires range { InRange T.SIGNED T.WIDTH x }
+    requires x_in_range { InRange T.SIGNED T.WIDTH x }
     ensures { T.number result ≡ x }
 {
     cast(x, T::WIDTH)

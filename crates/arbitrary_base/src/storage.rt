@@ -46,7 +46,7 @@ pub trait Storage: Sealed + Copy + Ord + Hash + Display + Debug + Drop {
     /// The bits of the number: its residue modulo `2 ^ WIDTH`.
     fn pattern(self) -> u128
         ensures value { result ≡ residue WIDTH (number self) }
-        ensures range { InRange SIGNED WIDTH (number self) };
+        ensures self_in_range { InRange SIGNED WIDTH (number self) };
 
     /// The type's number that is congruent to `pattern` modulo `2 ^ WIDTH`.
     fn from_pattern(pattern: u128) -> Self

@@ -4,8 +4,8 @@
 
 ghost use Rattle.std.specs.Prelude.{◌<◌, ◌⊎◌, length, IfSome, OnOk, OnErr};
 ghost use Rattle.std.specs.Io.KnownBytes.{Appends, Consumes};
-ghost use Rattle.arbitrary_base.specs.Watching.{inner_of, NoFailure, Failure};
-ghost use Rattle.arbitrary_base.specs.Stream.{AppendsBeginning};
+ghost use Rattle.arbitrary_base.specs.Watched.{inner_of, NoFailure, Failure};
+ghost use Rattle.arbitrary_base.specs.Streams.{AppendsBeginning};
 
 use crate::watched::Watched;
 use std::io;

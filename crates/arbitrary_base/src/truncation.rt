@@ -62,7 +62,7 @@ pub fn truncated<T: Storage>(x: T, bits: usize) -> T
     requires width { 1 ≤ bits }
     requires storage { bits ≤ T.WIDTH }
     ensures value { T.number result ≡ wrap T.SIGNED bits (T.number x) }
-    ensures range { InRange T.SIGNED bits (T.number result) }
+    ensures result_in_range { InRange T.SIGNED bits (T.number result) }
 {
     if T::SIGNED {
         let places = T::WIDTH - bits;
@@ -87,7 +87,7 @@ pub fn low_bits<T: Storage>(x: T, bits: usize) -> u128
 pub fn low_bits_in_range<T: Storage>(x: T, bits: usize) -> u128
     requires width { 1 ≤ bits }
     requires storage { bits ≤ T.WIDTH }
-    requires x_in { InRange T.SIGNED bits (T.number x) }
+    requires x_in_range { InRange T.SIGNED bits (T.number x) }
     ensures value { result ≡ residue bits (T.number x) }
     ensures fits { result < 2 ^ bits }
 {
@@ -103,7 +103,7 @@ pub fn from_low_bits<T: Storage>(pattern: u128, bits: usize) -> T
     requires width { 1 ≤ bits }
     requires storage { bits ≤ T.WIDTH }
     ensures value { T.number result ≡ wrap T.SIGNED bits (pos pattern) }
-    ensures range { InRange T.SIGNED bits (T.number result) }
+    ensures result_in_range { InRange T.SIGNED bits (T.number result) }
 {
     truncated(T::from_pattern(pattern), bits)
 }
@@ -121,7 +121,7 @@ pub fn cast<S: Storage, T: Storage>(x: S, bits: usize) -> T
     requires width { 1 ≤ bits }
     requires storage { bits ≤ T.WIDTH }
     ensures value { T.number result ≡ wrap T.SIGNED bits (S.number x) }
-    ensures range { InRange T.SIGNED bits (T.number result) }
+    ensures result_in_range { InRange T.SIGNED bits (T.number result) }
 {
     from_low_bits(to_u128_bits(x), bits)
 }

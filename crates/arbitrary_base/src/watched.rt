@@ -3,7 +3,7 @@
 ghost use Rattle.std.specs.Prelude.{◌≡◌, ◌<◌, false, length, IfOk, OnOk, OnErr};
 ghost use Rattle.std.specs.Io.{ReadsAtMost, WritesAtMost};
 ghost use Rattle.std.specs.Io.KnownBytes.{ReadConsumes, WriteAppends};
-ghost use Rattle.arbitrary_base.specs.Watching.{inner_of, has_failed, failures_of, NoFailure, Failure};
+ghost use Rattle.arbitrary_base.specs.Watched.{inner_of, has_failed, failures_of, NoFailure, Failure};
 
 use std::io;
 use std::io::{Read, Write};

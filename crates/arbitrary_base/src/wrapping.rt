@@ -14,7 +14,7 @@ pub fn add<T: Storage>(x: T, y: T, bits: usize) -> T
     requires width { 1 ≤ bits }
     requires storage { bits ≤ T.WIDTH }
     ensures value { T.number result ≡ wrap T.SIGNED bits (T.number x +ℤ T.number y) }
-    ensures range { InRange T.SIGNED bits (T.number result) }
+    ensures result_in_range { InRange T.SIGNED bits (T.number result) }
 {
     truncated(x.wrapping_add(y), bits)
 }
@@ -25,7 +25,7 @@ pub fn sub<T: Storage>(x: T, y: T, bits: usize) -> T
     requires width { 1 ≤ bits }
     requires storage { bits ≤ T.WIDTH }
     ensures value { T.number result ≡ wrap T.SIGNED bits (T.number x -ℤ T.number y) }
-    ensures range { InRange T.SIGNED bits (T.number result) }
+    ensures result_in_range { InRange T.SIGNED bits (T.number result) }
 {
     truncated(x.wrapping_sub(y), bits)
 }
@@ -36,7 +36,7 @@ pub fn mul<T: Storage>(x: T, y: T, bits: usize) -> T
     requires width { 1 ≤ bits }
     requires storage { bits ≤ T.WIDTH }
     ensures value { T.number result ≡ wrap T.SIGNED bits (T.number x *ℤ T.number y) }
-    ensures range { InRange T.SIGNED bits (T.number result) }
+    ensures result_in_range { InRange T.SIGNED bits (T.number result) }
 {
     truncated(x.wrapping_mul(y), bits)
 }
@@ -48,7 +48,7 @@ pub fn div<T: Storage>(x: T, y: T, bits: usize) -> T
     requires storage { bits ≤ T.WIDTH }
     requires divisor { T.number y ≢ pos 0 }
     ensures value { T.number result ≡ wrap T.SIGNED bits (int_div (T.number x) (T.number y)) }
-    ensures range { InRange T.SIGNED bits (T.number result) }
+    ensures result_in_range { InRange T.SIGNED bits (T.number result) }
 {
     truncated(x.wrapping_div(y), bits)
 }
@@ -58,7 +58,7 @@ pub fn neg<T: Storage>(x: T, bits: usize) -> T
     requires width { 1 ≤ bits }
     requires storage { bits ≤ T.WIDTH }
     ensures value { T.number result ≡ wrap T.SIGNED bits (neg_ℤ (T.number x)) }
-    ensures range { InRange T.SIGNED bits (T.number result) }
+    ensures result_in_range { InRange T.SIGNED bits (T.number result) }
 {
     sub(zero(), x, bits)
 }

@@ -17,7 +17,7 @@ pub trait LowBits: Numbered {
     fn low_bits(self) -> u128
         ensures value { result ≡ residue Self.BITS (Self.number self) }
         ensures fits { result < 2 ^ Self.BITS }
-        ensures range { InRange Self.IS_SIGNED Self.BITS (Self.number self) }
+        ensures self_in_range { InRange Self.IS_SIGNED Self.BITS (Self.number self) }
         ensures width { Self.valid }
         ensures some { 1 ≤ Self.BITS }
         ensures high { Self.BITS ≤ 128 };

@@ -18,7 +18,7 @@ pub trait Stored: Numbered {
     /// The number, in its storage.
     fn to_storage(self) -> Self::Representation
         ensures number { Self.Representation.number result ≡ Self.number self }
-        ensures range { InRange Self.Representation.SIGNED Self.BITS (Self.number self) }
+        ensures self_in_range { InRange Self.Representation.SIGNED Self.BITS (Self.number self) }
         ensures some { 1 ≤ Self.BITS }
         ensures storage { Self.BITS ≤ Self.Representation.WIDTH }
         ensures width { Self.valid };
@@ -27,7 +27,7 @@ pub trait Stored: Numbered {
     fn from_storage(value: Self::Representation) -> Self
         requires some { 1 ≤ Self.BITS }
         requires storage { Self.BITS ≤ Self.Representation.WIDTH }
-        requires range { let given = Self.Representation.number value in
+        requires value_in_range { let given = Self.Representation.number value in
             InRange Self.Representation.SIGNED Self.BITS given }
         ensures { Self.number result ≡ Self.Representation.number value };
 

@@ -5,7 +5,7 @@ ghost use Rattle.std.specs.Int.{IsInRange};
 ghost use Rattle.arbitrary_base.specs.Range.{InRange, hi, in_range};
 ghost use Rattle.arbitrary_base.specs.Residue.{residue, wrap, Congruent};
 ghost use Rattle.arbitrary_base.specs.Operation.{wrapped_difference};
-ghost use Rattle.arbitrary_base.specs.Saturation.{clamp};
+ghost use Rattle.arbitrary_base.specs.Saturating.{clamp};
 
 use arbitrary_base::ends::{is_below_zero, is_zero};
 use arbitrary_base::error::TryNewError;
@@ -81,7 +81,7 @@ where
     #[tactic(auto, using(crate::proofs::StoredBits::stored))]
     pub fn new(value: T) -> Self
         requires width { IsInRange 1 T.WIDTH BITS }
-        requires range { InRange T.SIGNED BITS (T.number value) }
+        requires value_in_range { InRange T.SIGNED BITS (T.number value) }
         ensures { result ≡ T.number value }
     {
         Int {
@@ -93,7 +93,7 @@ where
     /// `new` under the name of the original's unsafe call. Here it is safe: its conditions are shown.
     pub fn new_unchecked(value: T) -> Self
         requires width { IsInRange 1 T.WIDTH BITS }
-        requires range { InRange T.SIGNED BITS (T.number value) }
+        requires value_in_range { InRange T.SIGNED BITS (T.number value) }
         ensures { result ≡ T.number value }
     {
         Int::<T, BITS>::new(value)
@@ -128,7 +128,7 @@ where
     pub fn value(self) -> T
         ensures number { T.number result ≡ self }
         ensures width { IsInRange 1 T.WIDTH BITS }
-        ensures range { InRange T.SIGNED BITS self }
+        ensures self_in_range { InRange T.SIGNED BITS self }
     {
         cast(self.bits, BITS)
     }
@@ -139,8 +139,8 @@ where
         ensures value { T.Unsigned.number result ≡ pos (residue BITS self) }
         ensures congruent { Congruent BITS (T.Unsigned.number result) self }
         ensures width { IsInRange 1 T.WIDTH BITS }
-        ensures range { InRange T.Unsigned.SIGNED BITS (T.Unsigned.number result) }
-        ensures self_range { InRange T.SIGNED BITS self }
+        ensures result_in_range { InRange T.Unsigned.SIGNED BITS (T.Unsigned.number result) }
+        ensures self_in_range { InRange T.SIGNED BITS self }
     {
         self.bits
     }
@@ -150,7 +150,7 @@ where
     #[tactic(auto, using(crate::proofs::StoredBits::stored))]
     pub const fn from_bits(bits: T::Unsigned) -> Self
         requires width { IsInRange 1 T.WIDTH BITS }
-        requires range { InRange T.Unsigned.SIGNED BITS (T.Unsigned.number bits) }
+        requires bits_in_range { InRange T.Unsigned.SIGNED BITS (T.Unsigned.number bits) }
         ensures bits { pos (residue BITS result) ≡ T.Unsigned.number bits }
         ensures number { result ≡ wrap T.SIGNED BITS (T.Unsigned.number bits) }
         ensures congruent { Congruent BITS result (T.Unsigned.number bits) }
@@ -167,7 +167,7 @@ where
     /// shown.
     pub fn from_bits_unchecked(bits: T::Unsigned) -> Self
         requires width { IsInRange 1 T.WIDTH BITS }
-        requires range { InRange T.Unsigned.SIGNED BITS (T.Unsigned.number bits) }
+        requires bits_in_range { InRange T.Unsigned.SIGNED BITS (T.Unsigned.number bits) }
         ensures bits { pos (residue BITS result) ≡ T.Unsigned.number bits }
         ensures number { result ≡ wrap T.SIGNED BITS (T.Unsigned.number bits) }
         ensures congruent { Congruent BITS result (T.Unsigned.number bits) }
@@ -267,7 +267,7 @@ where
     /// The value of an `i8` that is in range.
     pub fn from_i8(value: i8) -> Self
         requires width { IsInRange 1 T.WIDTH BITS }
-        requires range { InRange T.SIGNED BITS value }
+        requires value_in_range { InRange T.SIGNED BITS value }
         ensures { result ≡ value }
     {
         Int::<T, BITS>::new(cast(value, BITS))
@@ -276,7 +276,7 @@ where
     /// The value of an `i16` that is in range.
     pub fn from_i16(value: i16) -> Self
         requires width { IsInRange 1 T.WIDTH BITS }
-        requires range { InRange T.SIGNED BITS value }
+        requires value_in_range { InRange T.SIGNED BITS value }
         ensures { result ≡ value }
     {
         Int::<T, BITS>::new(cast(value, BITS))
@@ -285,7 +285,7 @@ where
     /// The value of an `i32` that is in range.
     pub fn from_i32(value: i32) -> Self
         requires width { IsInRange 1 T.WIDTH BITS }
-        requires range { InRange T.SIGNED BITS value }
+        requires value_in_range { InRange T.SIGNED BITS value }
         ensures { result ≡ value }
     {
         Int::<T, BITS>::new(cast(value, BITS))
@@ -294,7 +294,7 @@ where
     /// The value of an `i64` that is in range.
     pub fn from_i64(value: i64) -> Self
         requires width { IsInRange 1 T.WIDTH BITS }
-        requires range { InRange T.SIGNED BITS value }
+        requires value_in_range { InRange T.SIGNED BITS value }
         ensures { result ≡ value }
     {
         Int::<T, BITS>::new(cast(value, BITS))
@@ -303,7 +303,7 @@ where
     /// The value of an `i128` that is in range.
     pub fn from_i128(value: i128) -> Self
         requires width { IsInRange 1 T.WIDTH BITS }
-        requires range { InRange T.SIGNED BITS value }
+        requires value_in_range { InRange T.SIGNED BITS value }
         ensures { result ≡ value }
     {
         Int::<T, BITS>::new(cast(value, BITS))

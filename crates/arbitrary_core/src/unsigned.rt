@@ -63,7 +63,7 @@ impl<T: UnsignedStorage, const BITS: usize> UInt<T, BITS> {
     /// `is_valid_width`) and that the number is in range (or calls `try_new`).
     pub const fn new(value: T) -> Self
         requires width { IsInRange 1 T.WIDTH BITS }
-        requires range { InRange T.SIGNED BITS (T.number value) }
+        requires value_in_range { InRange T.SIGNED BITS (T.number value) }
         ensures { result ≡ T.number value }
     {
         UInt { value }
@@ -72,7 +72,7 @@ impl<T: UnsignedStorage, const BITS: usize> UInt<T, BITS> {
     /// `new` under the name of the original's unsafe call. Here it is safe: its conditions are shown.
     pub fn new_unchecked(value: T) -> Self
         requires width { IsInRange 1 T.WIDTH BITS }
-        requires range { InRange T.SIGNED BITS (T.number value) }
+        requires value_in_range { InRange T.SIGNED BITS (T.number value) }
         ensures { result ≡ T.number value }
     {
         UInt::new(value)
@@ -105,7 +105,7 @@ impl<T: UnsignedStorage, const BITS: usize> UInt<T, BITS> {
     pub fn value(self) -> T
         ensures number { T.number result ≡ self }
         ensures width { IsInRange 1 T.WIDTH BITS }
-        ensures range { InRange T.SIGNED BITS self }
+        ensures self_in_range { InRange T.SIGNED BITS self }
     {
         self.value
     }
@@ -137,7 +137,7 @@ impl<T: UnsignedStorage, const BITS: usize> UInt<T, BITS> {
     #[tactic(auto, using(arbitrary_base::proofs::storages::CheckedSum::fitting))]
     pub fn from_u8(value: u8) -> Self
         requires width { IsInRange 1 T.WIDTH BITS }
-        requires range { InRange T.SIGNED BITS (pos value) }
+        requires value_in_range { InRange T.SIGNED BITS (pos value) }
         ensures { result ≡ pos value }
     {
         UInt::new(cast(value, BITS))
@@ -147,7 +147,7 @@ impl<T: UnsignedStorage, const BITS: usize> UInt<T, BITS> {
     #[tactic(auto, using(arbitrary_base::proofs::storages::CheckedSum::fitting))]
     pub fn from_u16(value: u16) -> Self
         requires width { IsInRange 1 T.WIDTH BITS }
-        requires range { InRange T.SIGNED BITS (pos value) }
+        requires value_in_range { InRange T.SIGNED BITS (pos value) }
         ensures { result ≡ pos value }
     {
         UInt::new(cast(value, BITS))
@@ -157,7 +157,7 @@ impl<T: UnsignedStorage, const BITS: usize> UInt<T, BITS> {
     #[tactic(auto, using(arbitrary_base::proofs::storages::CheckedSum::fitting))]
     pub fn from_u32(value: u32) -> Self
         requires width { IsInRange 1 T.WIDTH BITS }
-        requires range { InRange T.SIGNED BITS (pos value) }
+        requires value_in_range { InRange T.SIGNED BITS (pos value) }
         ensures { result ≡ pos value }
     {
         UInt::new(cast(value, BITS))
@@ -167,7 +167,7 @@ impl<T: UnsignedStorage, const BITS: usize> UInt<T, BITS> {
     #[tactic(auto, using(arbitrary_base::proofs::storages::CheckedSum::fitting))]
     pub fn from_u64(value: u64) -> Self
         requires width { IsInRange 1 T.WIDTH BITS }
-        requires range { InRange T.SIGNED BITS (pos value) }
+        requires value_in_range { InRange T.SIGNED BITS (pos value) }
         ensures { result ≡ pos value }
     {
         UInt::new(cast(value, BITS))
@@ -177,7 +177,7 @@ impl<T: UnsignedStorage, const BITS: usize> UInt<T, BITS> {
     #[tactic(auto, using(arbitrary_base::proofs::storages::CheckedSum::fitting))]
     pub fn from_u128(value: u128) -> Self
         requires width { IsInRange 1 T.WIDTH BITS }
-        requires range { InRange T.SIGNED BITS (pos value) }
+        requires value_in_range { InRange T.SIGNED BITS (pos value) }
         ensures { result ≡ pos value }
     {
         UInt::new(cast(value, BITS))

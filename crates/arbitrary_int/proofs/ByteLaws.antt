@@ -3,7 +3,7 @@ use Rattle.std.specs.Prelude.{◌≡◌, ◌*◌, ◌≤◌, ◌↔◌, ℕ, ℤ
 use Rattle.std.proofs.Common.{refl, sym, ap, ◌∙◌}
 use Rattle.std.proofs.lemmas.List.{reverse-reverse}
 use Rattle.arbitrary_base.specs.Range.{InRange}
-use Rattle.arbitrary_base.specs.Bytes.{bytes, BorshBytes}
+use Rattle.arbitrary_base.specs.ByteLists.{bytes, BorshBytes}
 use Rattle.arbitrary_base.proofs.bytes.NumberOfBytes.{wrap-number_of, Borsh-unique}
 
 -- bytes that are reversed twice

@@ -10,8 +10,8 @@ use Rattle.arbitrary_base.specs.Operation.{bitwise_and, bitwise_not, bitwise_or,
 use Rattle.arbitrary_base.proofs.storages.CheckedSum.{wrap-zero}
 use Rattle.arbitrary_base.proofs.modular.LowBitOperation.{low-sum, low-difference, low-product, low-and, low-or, low-xor, low-not, low-shl}
 use Rattle.arbitrary_int.proofs.RunLemmas.{RunOf-ok}
-use Rattle.arbitrary_int.specs.Step.{two_meaning, one_meaning, by_meaning, result_of, target_of, meaning, StepWithin}
-use Rattle.arbitrary_int.specs.Run.{later, RunOf}
+use Rattle.arbitrary_int.specs.Steps.{two_meaning, one_meaning, by_meaning, result_of, target_of, meaning, StepWithin}
+use Rattle.arbitrary_int.specs.Runs.{later, RunOf}
 use Rattle.arbitrary_int.specs.Widths.{IsLowBit}
 use Rattle.arbitrary_int.specs.declared.steps.TwoOp.{TwoOp}
 use Rattle.arbitrary_int.specs.declared.steps.TwoOp.TheVariants.{WrappingAdd, WrappingSub, WrappingMul, And, Or, Xor}

@@ -5,8 +5,8 @@ use Rattle.std.proofs.lemmas.Int.{ints}
 use Rattle.std.specs.Ordering.{int_cmp}
 use Rattle.std.specs.declared.cmp.Ordering.{Ordering}
 use Rattle.std.specs.declared.cmp.Ordering.TheVariants.{Less, Equal, Greater}
-use Rattle.arbitrary_int.specs.Row.{left}
-use Rattle.arbitrary_int.proofs.Rows.{left-first, left-last, left-one, left-one_back, left-none}
+use Rattle.arbitrary_int.specs.Ranges.{values_left}
+use Rattle.arbitrary_int.proofs.Stepping.{left-first, left-last, left-one, left-one_back, left-none}
 
 below-cmp : (a b : ℤ) → int_cmp a b ≡ Less → a <ℤ b
 below-cmp a b e = grind (arith, ints)
@@ -20,19 +20,19 @@ above-cmp a b e = grind (arith, ints)
 pub below-of_cmp : (a b : ℤ) (o : Ordering) → o ≡ int_cmp a b → o ≡ Less → a <ℤ b
 below-of_cmp a b o e f = below-cmp a b (sym e ∙ f)
 
-pub first-of_more : (d : Bool) (a b c : ℤ) (o : Ordering) → o ≡ int_cmp a b → o ≡ Less → d ≡ false → c ≡ a +ℤ pos 1 → left d a b ≡ a ∷ left d c b
+pub first-of_more : (d : Bool) (a b c : ℤ) (o : Ordering) → o ≡ int_cmp a b → o ≡ Less → d ≡ false → c ≡ a +ℤ pos 1 → values_left d a b ≡ a ∷ values_left d c b
 first-of_more d a b c o e f g h = left-first d a b c g (below-cmp a b (sym e ∙ f)) h
 
-pub first-of_one : (d : Bool) (a b : ℤ) (o : Ordering) → o ≡ int_cmp a b → o ≡ Equal → d ≡ false → left d a b ≡ a ∷ []
+pub first-of_one : (d : Bool) (a b : ℤ) (o : Ordering) → o ≡ int_cmp a b → o ≡ Equal → d ≡ false → values_left d a b ≡ a ∷ []
 first-of_one d a b o e f g = left-one d a b g (same-cmp a b (sym e ∙ f))
 
-pub last-of_more : (d : Bool) (a b c : ℤ) (o : Ordering) → o ≡ int_cmp a b → o ≡ Less → d ≡ false → c ≡ b -ℤ pos 1 → left d a b ≡ left d a c ++ b ∷ []
+pub last-of_more : (d : Bool) (a b c : ℤ) (o : Ordering) → o ≡ int_cmp a b → o ≡ Less → d ≡ false → c ≡ b -ℤ pos 1 → values_left d a b ≡ values_left d a c ++ b ∷ []
 last-of_more d a b c o e f g h = left-last d a b c g (below-cmp a b (sym e ∙ f)) h
 
-pub last-of_one : (d : Bool) (a b : ℤ) (o : Ordering) → o ≡ int_cmp a b → o ≡ Equal → d ≡ false → left d a b ≡ b ∷ []
+pub last-of_one : (d : Bool) (a b : ℤ) (o : Ordering) → o ≡ int_cmp a b → o ≡ Equal → d ≡ false → values_left d a b ≡ b ∷ []
 last-of_one d a b o e f g = left-one_back d a b g (same-cmp a b (sym e ∙ f))
 
-pub none-left : (d : Bool) (a b : ℤ) (o : Ordering) → o ≡ int_cmp a b → o ≡ Greater → left d a b ≡ []
+pub none-left : (d : Bool) (a b : ℤ) (o : Ordering) → o ≡ int_cmp a b → o ≡ Greater → values_left d a b ≡ []
 none-left d a b o e f = left-none d a b (above-cmp a b (sym e ∙ f))
 
 pub fewer-first : (l m : List ℤ) (a : ℤ) → l ≡ a ∷ m → length m < length l

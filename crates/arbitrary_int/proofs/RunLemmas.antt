@@ -3,8 +3,8 @@ use Rattle.std.specs.Prelude.{◌≡◌, ℕ, ℤ, Bool, ◌+◌, ◌<◌, List,
 use Rattle.std.proofs.Common.{arith, refl, ap, sym, ◌∙◌, suc, add-one, ◌≤◌}
 use Rattle.std.proofs.Math.Seq.{drop-cons}
 use Rattle.std.proofs.Math.ListN.{drop_of_length-le}
-use Rattle.arbitrary_int.specs.Step.{meaning}
-use Rattle.arbitrary_int.specs.Run.{later, RunOf}
+use Rattle.arbitrary_int.specs.Steps.{meaning}
+use Rattle.arbitrary_int.specs.Runs.{later, RunOf}
 use Rattle.arbitrary_int.specs.declared.steps.Step.{Step}
 use Rattle.arbitrary_int.specs.declared.steps.Stop.{Stop}
 use Rattle.arbitrary_int.specs.declared.steps.Why.{Why}

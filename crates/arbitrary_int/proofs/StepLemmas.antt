@@ -12,7 +12,7 @@ use Rattle.arbitrary_base.proofs.modular.Residue.{congruent-same, residue-congru
 use Rattle.arbitrary_base.proofs.modular.Truncation.{InRange-wider, in_range-false, in_range-true}
 use Rattle.arbitrary_base.proofs.storages.CheckedSum.{zero-in_range}
 use Rattle.arbitrary_base.proofs.storages.Primitive.{residue-pos}
-use Rattle.arbitrary_int.specs.Step.{by_meaning, one_meaning, two_meaning}
+use Rattle.arbitrary_int.specs.Steps.{by_meaning, one_meaning, two_meaning}
 use Rattle.arbitrary_int.specs.declared.steps.ByOp.{ByOp}
 use Rattle.arbitrary_int.specs.declared.steps.OneOp.{OneOp}
 use Rattle.arbitrary_int.specs.declared.steps.TwoOp.{TwoOp}

@@ -1,7 +1,7 @@
 -- The bytes of a number in a stream: how many they are, and that they tell the number, also where more bytes follow.
 use Rattle.std.specs.Prelude.{Bool, List, false, pos, true, ℕ, ℤ, ◌<◌, ◌^◌, ◌≡◌, ◌≤◌}
 use Rattle.std.proofs.Common.{ap, subst, sym, ◌∙◌}
-use Rattle.arbitrary_base.specs.Bytes.{bytes_number}
+use Rattle.arbitrary_base.specs.ByteLists.{bytes_number}
 use Rattle.arbitrary_base.specs.Range.{InRange}
 use Rattle.arbitrary_base.specs.Residue.{Congruent, wrap}
 use Rattle.arbitrary_base.proofs.modular.ExactOrCongruent.{wrapped-congruent}

@@ -11,7 +11,7 @@ use Rattle.std.proofs.lemmas.List.Sums.{fold-append}
 use Rattle.std.proofs.iter.runs.Made.{run, took, run_of_turn, run_of_exit}
 use Rattle.arbitrary_base.specs.Range.{InRange}
 use Rattle.arbitrary_base.specs.Residue.{wrap}
-use Rattle.arbitrary_int.specs.Total.{PartialsFit, TotalOrNone}
+use Rattle.arbitrary_int.specs.Totals.{PartialsFit, TotalOrNone}
 use Rattle.arbitrary_base.proofs.modular.Congruence.{pow_le}
 use Rattle.arbitrary_base.proofs.modular.Residue.{wrap-of_in_range}
 

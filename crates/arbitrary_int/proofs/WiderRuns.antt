@@ -11,8 +11,8 @@ use Rattle.arbitrary_base.specs.Range.{lo, hi, in_range}
 use Rattle.arbitrary_base.proofs.modular.Truncation.{in_range-true}
 use Rattle.arbitrary_int.proofs.RunLemmas.{RunOf-ok, RunOf-err, run-stop, run-end}
 use Rattle.arbitrary_int.proofs.StepLemmas.{unless_zero}
-use Rattle.arbitrary_int.specs.Step.{result_of, target_of, meaning}
-use Rattle.arbitrary_int.specs.Run.{later, RunOf}
+use Rattle.arbitrary_int.specs.Steps.{result_of, target_of, meaning}
+use Rattle.arbitrary_int.specs.Runs.{later, RunOf}
 use Rattle.arbitrary_int.specs.Widths.{IsCheckedArithmetic, carried_out, RangeWithin}
 use Rattle.arbitrary_int.specs.declared.steps.TwoOp.TheVariants.{CheckedAdd, CheckedSub, CheckedMul, CheckedDiv}
 use Rattle.arbitrary_int.specs.declared.steps.Step.{Step}

@@ -3,11 +3,11 @@
 ghost use Rattle.std.specs.Prelude.{◌≡◌, ◌≤◌, ℕ, pos, false, true, List, length, take, drop, IfOk, IfSome, OnOk, OnErr, MatchOption};
 ghost use Rattle.std.specs.Int.{div_ceil};
 ghost use Rattle.std.specs.Io.KnownBytes.{Appends, Consumes};
-ghost use Rattle.arbitrary_base.specs.Watching.{inner_of, NoFailure, Failure};
-ghost use Rattle.arbitrary_base.specs.Bytes.{BorshBytes, Canonical, bytes_number};
+ghost use Rattle.arbitrary_base.specs.Watched.{inner_of, NoFailure, Failure};
+ghost use Rattle.arbitrary_base.specs.ByteLists.{BorshBytes, Canonical, bytes_number};
 ghost use Rattle.arbitrary_base.specs.Residue.{Congruent};
-ghost use Rattle.arbitrary_base.specs.Stream.{AppendsBeginning};
-ghost use Rattle.arbitrary_int.specs.Reading.{Unreadable};
+ghost use Rattle.arbitrary_base.specs.Streams.{AppendsBeginning};
+ghost use Rattle.arbitrary_int.specs.Borsh.{Unreadable};
 
 use arbitrary_base::byte_lists::{all_bytes, pattern_of};
 use arbitrary_base::streams::{read_full, write_full};

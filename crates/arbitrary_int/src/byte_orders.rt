@@ -4,7 +4,7 @@ ghost use Rattle.std.specs.Prelude.{◌≡◌, ◌-◌, ◌*◌, ◌/◌, ◌%�
 ghost use Rattle.std.proofs.Common.{lit≤};
 ghost use Rattle.arbitrary_base.specs.Range.{InRange};
 ghost use Rattle.arbitrary_base.specs.Residue.{Congruent, wrap};
-ghost use Rattle.arbitrary_base.specs.Bytes.{bytes, bytes_number};
+ghost use Rattle.arbitrary_base.specs.ByteLists.{bytes, bytes_number};
 
 use arbitrary_base::byte_lists::{all_bytes, pattern_of};
 use arbitrary_core::signed::Int;
@@ -31,7 +31,7 @@ pub trait ByteOrders<const N: usize>: Numbered {
         ensures plain { let number = Self.number self in
             Self.IS_SIGNED ≡ false → (i : ℕ) → i < N
             → get_or result i 0 ≡ unsigned_abs number / 256 ^ i % 256 }
-        ensures range { InRange Self.IS_SIGNED Self.BITS (Self.number self) }
+        ensures self_in_range { InRange Self.IS_SIGNED Self.BITS (Self.number self) }
     {
         let all = all_bytes(self.to_u128_bits());
         let mut list = [0; N];
@@ -49,7 +49,7 @@ pub trait ByteOrders<const N: usize>: Numbered {
         ensures plain { let number = Self.number self in
             Self.IS_SIGNED ≡ false → (i : ℕ) → i < N
             → get_or result i 0 ≡ unsigned_abs number / 256 ^ (N - 1 - i) % 256 }
-        ensures range { InRange Self.IS_SIGNED Self.BITS (Self.number self) }
+        ensures self_in_range { InRange Self.IS_SIGNED Self.BITS (Self.number self) }
     {
         let mut list = self.to_le_bytes();
         list.reverse();
@@ -66,7 +66,7 @@ pub trait ByteOrders<const N: usize>: Numbered {
         ensures plain { let number = Self.number self in
             Self.IS_SIGNED ≡ false → (i : ℕ) → i < N
             → get_or result i 0 ≡ unsigned_abs number / 256 ^ i % 256 }
-        ensures range { InRange Self.IS_SIGNED Self.BITS (Self.number self) }
+        ensures self_in_range { InRange Self.IS_SIGNED Self.BITS (Self.number self) }
     {
         self.to_le_bytes()
     }
@@ -126,7 +126,7 @@ pub trait ByteOrders<const N: usize>: Numbered {
         ensures undo { (y : ℤ) → let turned = reverse (bytes N y) in
             InRange Self.IS_SIGNED Self.BITS y → bytes N (Self.number self) ≡ turned
             → Self.number result ≡ y }
-        ensures range { InRange Self.IS_SIGNED Self.BITS (Self.number self) }
+        ensures self_in_range { InRange Self.IS_SIGNED Self.BITS (Self.number self) }
     {
         Self::from_be_bytes(self.to_le_bytes())
     }
@@ -146,7 +146,7 @@ pub trait ByteOrders<const N: usize>: Numbered {
         ensures undo { (y : ℤ) → let turned = reverse (bytes N y) in
             InRange Self.IS_SIGNED Self.BITS y → bytes N (Self.number self) ≡ turned
             → Self.number result ≡ y }
-        ensures range { InRange Self.IS_SIGNED Self.BITS (Self.number self) }
+        ensures self_in_range { InRange Self.IS_SIGNED Self.BITS (Self.number self) }
     {
         self.swap_bytes()
     }
@@ -166,7 +166,7 @@ pub trait ByteOrders<const N: usize>: Numbered {
         ensures undo { (y : ℤ) → let turned = reverse (bytes N y) in
             InRange Self.IS_SIGNED Self.BITS y → bytes N (Self.number value) ≡ turned
             → Self.number result ≡ y }
-        ensures range { InRange Self.IS_SIGNED Self.BITS (Self.number value) }
+        ensures value_in_range { InRange Self.IS_SIGNED Self.BITS (Self.number value) }
     {
         value.swap_bytes()
     }

@@ -45,7 +45,8 @@ pub trait Number: UnsignedInteger + Integer<UnderlyingType = <Self as Number>::U
     /// The number of `value`, which is in range. The width is valid.
     final fn new(value: <Self as Number>::UnderlyingType) -> Self
         requires width { Self.valid }
-        requires range { InRange Self.IS_SIGNED Self.Numbered.BITS (Self.underlying value) }
+        requires value_in_range { InRange Self.IS_SIGNED Self.Numbered.BITS
+            (Self.underlying value) }
         ensures { Self.number result ≡ Self.underlying value }
     {
         <Self as Integer>::new(value)
@@ -64,7 +65,7 @@ pub trait Number: UnsignedInteger + Integer<UnderlyingType = <Self as Number>::U
     /// The number, in the storage.
     final fn value(self) -> <Self as Number>::UnderlyingType
         ensures value { Self.underlying result ≡ Self.number self }
-        ensures range { InRange Self.IS_SIGNED Self.Numbered.BITS (Self.number self) }
+        ensures self_in_range { InRange Self.IS_SIGNED Self.Numbered.BITS (Self.number self) }
         ensures width { Self.valid }
     {
         <Self as Integer>::value(self)
@@ -73,7 +74,7 @@ pub trait Number: UnsignedInteger + Integer<UnderlyingType = <Self as Number>::U
     /// The same number, which is in range of this type, from any other. The width is valid.
     final fn from_<T: Number>(value: T) -> Self
         requires width { Self.valid }
-        requires range { InRange Self.IS_SIGNED Self.Numbered.BITS (T.number value) }
+        requires value_in_range { InRange Self.IS_SIGNED Self.Numbered.BITS (T.number value) }
         ensures { Self.number result ≡ T.number value }
     {
         <Self as Numbered>::from_(value)

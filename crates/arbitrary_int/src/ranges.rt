@@ -3,13 +3,13 @@
 ghost use Rattle.std.specs.Prelude.{◌≡◌, ◌≤◌, ◌^◌, ⊤, length};
 ghost use Rattle.std.specs.Iterator.{YieldsFirstBy, YieldsLastBy, at_most};
 ghost use Rattle.std.specs.Iterator.Runs.{EachRunFrom};
-ghost use Rattle.arbitrary_int.specs.Row.{left, numbers, CountsUp};
+ghost use Rattle.arbitrary_int.specs.Ranges.{values_left, numbers, CountsUp};
 
 use crate::stepping::{after, before};
 use arbitrary_calls::fixed_width::FixedWidth;
 use std::cmp::Ordering;
 
-/// The values that are left, each in turn.
+/// The values that are values_left, each in turn.
 #[derive(Clone, Drop)]
 pub struct ValueRange<V: FixedWidth> {
     start: V,
@@ -20,13 +20,13 @@ pub struct ValueRange<V: FixedWidth> {
 /// The values from `start` to `end`, none where `start` is greater.
 pub fn range_inclusive<V: FixedWidth>(start: V, end: V) -> ValueRange<V>
     ensures values { let number = V.number in
-        left result.done (number result.start) (number result.end)
+        values_left result.done (number result.start) (number result.end)
         ≡ numbers (number start) (number end) }
     ensures runs { let number = V.number in
-        EachRunFrom (YieldsFirstBy number (λ r. left r.done (number r.start) (number r.end)))
+        EachRunFrom (YieldsFirstBy number (λ r. values_left r.done (number r.start) (number r.end)))
         result (λ run. CountsUp run number (number start) (number end)) }
     ensures bound { let number = V.number in
-        length (left result.done (number result.start) (number result.end)) ≤ 2 ^ V.BITS }
+        length (values_left result.done (number result.start) (number result.end)) ≤ 2 ^ V.BITS }
 {
     // a call tells the range of each end, for `bound`
     let _known = (start.to_u128_bits(), end.to_u128_bits());
@@ -43,9 +43,9 @@ impl<V: FixedWidth> Iterator for ValueRange<V> {
     ghost can_next = { λ _. ⊤ };
 
     ghost next_gives = { let number = V.number in
-        YieldsFirstBy number (λ r. left r.done (number r.start) (number r.end)) };
+        YieldsFirstBy number (λ r. values_left r.done (number r.start) (number r.end)) };
 
-    ghost remaining = { λ r. at_most (length (left r.done (V.number r.start) (V.number r.end))) };
+    ghost remaining = { λ r. at_most (length (values_left r.done (V.number r.start) (V.number r.end))) };
 
     #[tactic(auto, using(crate::proofs::RangeSteps::first_steps))]
     fn next(&mut self) -> Option<V> {
@@ -71,7 +71,7 @@ impl<V: FixedWidth> DoubleEndedIterator for ValueRange<V> {
     ghost can_next_back = { λ _. ⊤ };
 
     ghost next_back_gives = { let number = V.number in
-        YieldsLastBy number (λ r. left r.done (number r.start) (number r.end)) };
+        YieldsLastBy number (λ r. values_left r.done (number r.start) (number r.end)) };
 
     #[tactic(auto, using(crate::proofs::RangeSteps::last_steps))]
     fn next_back(&mut self) -> Option<V> {

@@ -3,8 +3,8 @@
 ghost use Rattle.std.specs.Prelude.{◌≡◌, ◌↔◌, ◌<◌, ℕ, Bool, map, length, pos, ◌-ℤ◌, IsTrue, MatchResult, Ok, Err, All};
 ghost use Rattle.std.specs.Ordering.{int_eq};
 ghost use Rattle.arbitrary_base.specs.Residue.{wrap};
-ghost use Rattle.arbitrary_int.specs.Step.{StepWithin, result_of, by_meaning, meaning, one_meaning, target_of, two_meaning};
-ghost use Rattle.arbitrary_int.specs.Run.{RunOf};
+ghost use Rattle.arbitrary_int.specs.Steps.{StepWithin, result_of, by_meaning, meaning, one_meaning, target_of, two_meaning};
+ghost use Rattle.arbitrary_int.specs.Runs.{RunOf};
 ghost use Rattle.arbitrary_int.specs.Widths.{RangeWithin, carried_out, IsCheckedArithmetic};
 
 use crate::steps::{ByOp, OneOp, Step, Stop, TwoOp, Why};

@@ -4,7 +4,7 @@
 ghost use Rattle.std.specs.Prelude.{◌+ℤ◌, ◌*ℤ◌, pos, SomeIff, option_map};
 ghost use Rattle.arbitrary_base.specs.Range.{InRange};
 ghost use Rattle.std.specs.Iterator.{IsFinite};
-ghost use Rattle.arbitrary_int.specs.Total.{TotalOrNone};
+ghost use Rattle.arbitrary_int.specs.Totals.{TotalOrNone};
 
 use arbitrary_calls::fixed_width::FixedWidth;
 

@@ -2,9 +2,9 @@
 
 ghost use Rattle.std.specs.Prelude.{◌≡◌, ◌<◌, ◌≤◌, map, length, Ok, All};
 ghost use Rattle.arbitrary_int.specs.Widths.{IsLowBit};
-ghost use Rattle.arbitrary_int.specs.Step.{StepWithin};
+ghost use Rattle.arbitrary_int.specs.Steps.{StepWithin};
 ghost use Rattle.arbitrary_base.specs.Residue.{wrap};
-ghost use Rattle.arbitrary_int.specs.Run.{RunOf};
+ghost use Rattle.arbitrary_int.specs.Runs.{RunOf};
 
 use crate::runs::run;
 use crate::steps::{Step, Stop};

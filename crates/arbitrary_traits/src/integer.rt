@@ -83,7 +83,7 @@ pub trait Integer: Numbered
     /// The number of `value`, which is in range. The width is valid.
     fn new(value: Self::UnderlyingType) -> Self
         requires width { Self.valid }
-        requires range { InRange Self.IS_SIGNED Self.BITS (underlying value) }
+        requires value_in_range { InRange Self.IS_SIGNED Self.BITS (underlying value) }
         ensures { Self.number result ≡ underlying value };
 
     /// The number of `value`, and an error exactly where it is out of range. The width is valid.
@@ -96,7 +96,7 @@ pub trait Integer: Numbered
     /// The number, in the storage.
     fn value(self) -> Self::UnderlyingType
         ensures value { underlying result ≡ Self.number self }
-        ensures range { InRange Self.IS_SIGNED Self.BITS (Self.number self) }
+        ensures self_in_range { InRange Self.IS_SIGNED Self.BITS (Self.number self) }
         ensures width { Self.valid };
 
     /// The unsigned number with the same bits.
@@ -105,7 +105,7 @@ pub trait Integer: Numbered
         ensures congruent { Congruent Self.BITS (unsigned_number result) (Self.number self) }
         ensures congruent_to { (y : ℤ) → Congruent Self.BITS (Self.number self) y
             → Congruent Self.BITS (unsigned_number result) y }
-        ensures range { InRange Self.IS_SIGNED Self.BITS (Self.number self) };
+        ensures self_in_range { InRange Self.IS_SIGNED Self.BITS (Self.number self) };
 
     /// The number with the same bits as the unsigned `value`.
     fn from_unsigned(value: Self::UnsignedInteger) -> Self

@@ -32,7 +32,7 @@ pub trait Numbered: Copy + Sealed {
     fn to_u128_bits(self) -> u128
         ensures value { result ≡ residue 128 (number self) }
         ensures plain { IS_SIGNED ≡ false → pos result ≡ number self }
-        ensures range { InRange IS_SIGNED BITS (number self) }
+        ensures self_in_range { InRange IS_SIGNED BITS (number self) }
         ensures width { valid };
 
     /// The type's number that is congruent to `pattern` modulo `2 ^ BITS`. The width is valid.
@@ -45,10 +45,10 @@ pub trait Numbered: Copy + Sealed {
     /// The same number, which is in range of this type, from any other. The width is valid.
     final fn from_<T: Numbered>(value: T) -> Self
         requires width { valid }
-        requires range { let given = T.number value in
+        requires value_in_range { let given = T.number value in
             InRange T.IS_SIGNED T.BITS given → InRange IS_SIGNED BITS given }
         ensures value { number result ≡ T.number value }
-        ensures range { InRange T.IS_SIGNED T.BITS (T.number value) }
+        ensures value_in_range { InRange T.IS_SIGNED T.BITS (T.number value) }
     {
         Self::masked_new(value)
     }
@@ -77,7 +77,7 @@ pub trait Numbered: Copy + Sealed {
             → Congruent T.BITS (T.number value) y → Congruent BITS (number result) y }
         ensures congruent_signed { let given = T.number value in
             OnTrue (T.IS_SIGNED || IS_SIGNED) (Congruent BITS (number result) given) }
-        ensures range { InRange T.IS_SIGNED T.BITS (T.number value) }
+        ensures value_in_range { InRange T.IS_SIGNED T.BITS (T.number value) }
         ensures width { T.valid }
     {
         Self::from_u128_bits(value.to_u128_bits())
@@ -101,7 +101,7 @@ pub trait Numbered: Copy + Sealed {
             → Congruent BITS (number self) y → Congruent T.BITS (T.number result) y }
         ensures congruent_signed { let given = number self in
             OnTrue (IS_SIGNED || T.IS_SIGNED) (Congruent T.BITS (T.number result) given) }
-        ensures range { InRange IS_SIGNED BITS (number self) }
+        ensures self_in_range { InRange IS_SIGNED BITS (number self) }
         ensures width { valid }
     {
         T::masked_new(self)
@@ -117,7 +117,7 @@ pub trait Numbered: Copy + Sealed {
         ensures congruent { (y : ℤ) → number self ≡ y → Congruent 8 (pos result) y }
         ensures congruent_to { (y : ℤ) → IS_SIGNED ≡ false → 8 ≤ BITS
             → Congruent BITS (number self) y → Congruent 8 (pos result) y }
-        ensures range { InRange IS_SIGNED BITS (number self) }
+        ensures self_in_range { InRange IS_SIGNED BITS (number self) }
         ensures width { valid }
     {
         self.as_::<u8>()
@@ -133,7 +133,7 @@ pub trait Numbered: Copy + Sealed {
         ensures congruent { (y : ℤ) → number self ≡ y → Congruent 16 (pos result) y }
         ensures congruent_to { (y : ℤ) → IS_SIGNED ≡ false → 16 ≤ BITS
             → Congruent BITS (number self) y → Congruent 16 (pos result) y }
-        ensures range { InRange IS_SIGNED BITS (number self) }
+        ensures self_in_range { InRange IS_SIGNED BITS (number self) }
         ensures width { valid }
     {
         self.as_::<u16>()
@@ -149,7 +149,7 @@ pub trait Numbered: Copy + Sealed {
         ensures congruent { (y : ℤ) → number self ≡ y → Congruent 32 (pos result) y }
         ensures congruent_to { (y : ℤ) → IS_SIGNED ≡ false → 32 ≤ BITS
             → Congruent BITS (number self) y → Congruent 32 (pos result) y }
-        ensures range { InRange IS_SIGNED BITS (number self) }
+        ensures self_in_range { InRange IS_SIGNED BITS (number self) }
         ensures width { valid }
     {
         self.as_::<u32>()
@@ -165,7 +165,7 @@ pub trait Numbered: Copy + Sealed {
         ensures congruent { (y : ℤ) → number self ≡ y → Congruent 64 (pos result) y }
         ensures congruent_to { (y : ℤ) → IS_SIGNED ≡ false → 64 ≤ BITS
             → Congruent BITS (number self) y → Congruent 64 (pos result) y }
-        ensures range { InRange IS_SIGNED BITS (number self) }
+        ensures self_in_range { InRange IS_SIGNED BITS (number self) }
         ensures width { valid }
     {
         self.as_::<u64>()
@@ -180,7 +180,7 @@ pub trait Numbered: Copy + Sealed {
         ensures congruent { (y : ℤ) → number self ≡ y → Congruent 128 (pos result) y }
         ensures congruent_to { (y : ℤ) → IS_SIGNED ≡ false → 128 ≤ BITS
             → Congruent BITS (number self) y → Congruent 128 (pos result) y }
-        ensures range { InRange IS_SIGNED BITS (number self) }
+        ensures self_in_range { InRange IS_SIGNED BITS (number self) }
         ensures width { valid }
     {
         self.as_::<u128>()
@@ -196,7 +196,7 @@ pub trait Numbered: Copy + Sealed {
         ensures congruent { (y : ℤ) → number self ≡ y → Congruent 64 (pos result) y }
         ensures congruent_to { (y : ℤ) → IS_SIGNED ≡ false → 64 ≤ BITS
             → Congruent BITS (number self) y → Congruent 64 (pos result) y }
-        ensures range { InRange IS_SIGNED BITS (number self) }
+        ensures self_in_range { InRange IS_SIGNED BITS (number self) }
         ensures width { valid }
     {
         self.as_u64() as usize
@@ -213,7 +213,7 @@ pub trait Numbered: Copy + Sealed {
         ensures congruent { (y : ℤ) → number self ≡ y → Congruent 8 result y }
         ensures congruent_to { (y : ℤ) → IS_SIGNED ≡ false → 8 ≤ BITS
             → Congruent BITS (number self) y → Congruent 8 result y }
-        ensures range { InRange IS_SIGNED BITS (number self) }
+        ensures self_in_range { InRange IS_SIGNED BITS (number self) }
         ensures width { valid }
     {
         self.as_::<i8>()
@@ -230,7 +230,7 @@ pub trait Numbered: Copy + Sealed {
         ensures congruent { (y : ℤ) → number self ≡ y → Congruent 16 result y }
         ensures congruent_to { (y : ℤ) → IS_SIGNED ≡ false → 16 ≤ BITS
             → Congruent BITS (number self) y → Congruent 16 result y }
-        ensures range { InRange IS_SIGNED BITS (number self) }
+        ensures self_in_range { InRange IS_SIGNED BITS (number self) }
         ensures width { valid }
     {
         self.as_::<i16>()
@@ -247,7 +247,7 @@ pub trait Numbered: Copy + Sealed {
         ensures congruent { (y : ℤ) → number self ≡ y → Congruent 32 result y }
         ensures congruent_to { (y : ℤ) → IS_SIGNED ≡ false → 32 ≤ BITS
             → Congruent BITS (number self) y → Congruent 32 result y }
-        ensures range { InRange IS_SIGNED BITS (number self) }
+        ensures self_in_range { InRange IS_SIGNED BITS (number self) }
         ensures width { valid }
     {
         self.as_::<i32>()
@@ -264,7 +264,7 @@ pub trait Numbered: Copy + Sealed {
         ensures congruent { (y : ℤ) → number self ≡ y → Congruent 64 result y }
         ensures congruent_to { (y : ℤ) → IS_SIGNED ≡ false → 64 ≤ BITS
             → Congruent BITS (number self) y → Congruent 64 result y }
-        ensures range { InRange IS_SIGNED BITS (number self) }
+        ensures self_in_range { InRange IS_SIGNED BITS (number self) }
         ensures width { valid }
     {
         self.as_::<i64>()
@@ -281,7 +281,7 @@ pub trait Numbered: Copy + Sealed {
         ensures congruent { (y : ℤ) → number self ≡ y → Congruent 128 result y }
         ensures congruent_to { (y : ℤ) → IS_SIGNED ≡ false → 128 ≤ BITS
             → Congruent BITS (number self) y → Congruent 128 result y }
-        ensures range { InRange IS_SIGNED BITS (number self) }
+        ensures self_in_range { InRange IS_SIGNED BITS (number self) }
         ensures width { valid }
     {
         self.as_::<i128>()
@@ -298,7 +298,7 @@ pub trait Numbered: Copy + Sealed {
         ensures congruent { (y : ℤ) → number self ≡ y → Congruent 64 result y }
         ensures congruent_to { (y : ℤ) → IS_SIGNED ≡ false → 64 ≤ BITS
             → Congruent BITS (number self) y → Congruent 64 result y }
-        ensures range { InRange IS_SIGNED BITS (number self) }
+        ensures self_in_range { InRange IS_SIGNED BITS (number self) }
         ensures width { valid }
     {
         self.as_i64() as isize

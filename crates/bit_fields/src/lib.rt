@@ -67,7 +67,7 @@ impl Record {
 fn bits_alone<F: Numbered>(value: F) -> u128
     ensures value { result ≡ residue F.BITS (F.number value) }
     ensures short { result < 2 ^ F.BITS }
-    ensures range { InRange F.IS_SIGNED F.BITS (F.number value) }
+    ensures value_in_range { InRange F.IS_SIGNED F.BITS (F.number value) }
     ensures width { F.valid }
 {
     let pattern = value.to_u128_bits();

@@ -4,7 +4,7 @@ use Rattle.std.specs.Io.KnownBytes.{Appends, Keeps, IsAtEnd}
 use Rattle.bitrun_service.specs.Output.{IsOutput}
 use Rattle.bitrun_text.specs.Form.{BadLine, HasForm}
 use Rattle.bitrun_text.specs.Text.{word_lines}
-use Rattle.arbitrary_int.specs.Stream.{AppendsBeginning}
+use Rattle.arbitrary_int.specs.Streams.{AppendsBeginning}
 use Rattle.bitrun_text.specs.declared.fault.Fault.{Fault}
 use Rattle.bitrun_text.specs.declared.fault.Fault.TheVariants.{Line, TooLong, Read, Write}
 

@@ -56,7 +56,8 @@ fn write_decimal(number: u128, buffer: &mut [u8; LONGEST]) -> usize
 /// Writes the last 18 digits of a number at the end of the buffer.
 fn write_low_digits(low: u64, buffer: &mut [u8; LONGEST])
     requires { low < 10 ^ 18 }
-    ensures { (high : ℕ) → 0 < high → high < 2 ^ 64 → decimal (high * 10 ^ 18 + low) ≡ decimal high ++ drop 22 buffer.new }
+    ensures { (high : ℕ) → 0 < high → high < 2 ^ 64
+        → decimal (high * 10 ^ 18 + low) ≡ decimal high ++ drop 22 buffer.new }
 {
     let mut left = low;
     let mut at = LONGEST;

@@ -7,10 +7,12 @@ ghost use Rattle.bitrun_service.specs.Output.{IsOutput};
 
 /// An input has one output at most.
 pub fn one_output()
-    ensures { (input text other : List ℕ) → IsOutput input text → IsOutput input other → text ≡ other }
+    ensures { (input text other : List ℕ) → IsOutput input text → IsOutput input other
+        → text ≡ other }
 {}
 
 /// An input has one bad line at most.
 pub fn one_bad_line()
-    ensures { (input : List ℕ) (line other : ℕ) → BadLine input line → BadLine input other → line ≡ other }
+    ensures { (input : List ℕ) (line other : ℕ) → BadLine input line → BadLine input other
+        → line ≡ other }
 {}

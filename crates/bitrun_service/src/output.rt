@@ -3,7 +3,7 @@
 
 ghost use Rattle.std.specs.Prelude.{◌≡◌, ◌≤◌, length, map, filter, IfOk, IfErr, All};
 ghost use Rattle.bitrun_text.specs.Kind.{type_row, type_of};
-ghost use Rattle.arbitrary_int.specs.Step.{StepWithin};
+ghost use Rattle.arbitrary_int.specs.Steps.{StepWithin};
 ghost use Rattle.std.specs.List.{AllZip};
 ghost use Rattle.bitrun_text.specs.Text.{Left, has_items};
 ghost use Rattle.bitrun_text.specs.Form.{IsStep, IsValue, LinesFault, FormFault};
@@ -44,8 +44,12 @@ fn output_with<'a, A: Allocator>(
     lines: &mut Cursor,
 ) -> Result<Vec<u8, &'a A>, Fault>
     requires { length lines.old.later ≤ 65536 }
-    ensures found { IfOk result (λ text. IsOutputAt (type_row (type_of kind)).1 (type_row (type_of kind)).2 (text_for kind) lines.old.words lines.old.later text.items) }
-    ensures fault { IfErr result (LinesFault (type_row (type_of kind)).1 (type_row (type_of kind)).2 lines.old.words lines.old.later) }
+    ensures found { IfOk result
+        (λ text. IsOutputAt (type_row (type_of kind)).1 (type_row (type_of kind)).2
+        (text_for kind) lines.old.words lines.old.later text.items) }
+    ensures fault { IfErr result
+        (LinesFault (type_row (type_of kind)).1
+        (type_row (type_of kind)).2 lines.old.words lines.old.later) }
 {
     match kind {
         Kind::Run(RegisterType::U1) => output_at::<u1, A>(alloc, lines),
@@ -71,7 +75,9 @@ fn output_at<'a, R: FixedWidth, A: Allocator>(
     requires width { R.valid }
     requires narrow { R.BITS ≤ 120 }
     requires short { length lines.old.later ≤ 65536 }
-    ensures found { IfOk result (λ text. IsOutputAt R.IS_SIGNED R.BITS output_text lines.old.words lines.old.later text.items) }
+    ensures found { IfOk result
+        (λ text. IsOutputAt R.IS_SIGNED R.BITS output_text lines.old.words lines.old.later
+        text.items) }
     ensures fault { IfErr result (LinesFault R.IS_SIGNED R.BITS lines.old.words lines.old.later) }
 {
     let (mut registers, steps) = registers_and_steps::<R, A>(alloc, lines)?;
@@ -88,7 +94,9 @@ fn wide_output_at<'a, W: FixedWidth, N: FixedWidth, A: Allocator>(
     requires narrow_width { N.valid }
     requires narrow_fits { N.BITS ≤ 120 }
     requires short { length lines.old.later ≤ 65536 }
-    ensures found { IfOk result (λ text. IsOutputAt W.IS_SIGNED W.BITS (wide_output_text N.IS_SIGNED N.BITS) lines.old.words lines.old.later text.items) }
+    ensures found { IfOk result
+        (λ text. IsOutputAt W.IS_SIGNED W.BITS
+        (wide_output_text N.IS_SIGNED N.BITS) lines.old.words lines.old.later text.items) }
     ensures fault { IfErr result (LinesFault W.IS_SIGNED W.BITS lines.old.words lines.old.later) }
 {
     let (mut wide, steps) = registers_and_steps::<W, A>(alloc, lines)?;
@@ -103,8 +111,11 @@ fn registers_and_steps<'a, R: FixedWidth, A: Allocator>(
     requires width { R.valid }
     requires narrow { R.BITS ≤ 120 }
     requires short { length lines.old.later ≤ 65536 }
-    ensures registers { IfOk result (λ read. AllZip (IsValue R.IS_SIGNED R.BITS) lines.old.words (map R.number read.0.items)) }
-    ensures steps { IfOk result (λ read. AllZip (IsStep (length read.0.items)) (filter has_items lines.old.later) read.1.items) }
+    ensures registers { IfOk result
+        (λ read. AllZip (IsValue R.IS_SIGNED R.BITS) lines.old.words (map R.number read.0.items)) }
+    ensures steps { IfOk result
+        (λ read. AllZip (IsStep (length read.0.items))
+        (filter has_items lines.old.later) read.1.items) }
     ensures within { IfOk result (λ read. All (StepWithin (length read.0.items)) read.1.items) }
     ensures fault { IfErr result (LinesFault R.IS_SIGNED R.BITS lines.old.words lines.old.later) }
 {

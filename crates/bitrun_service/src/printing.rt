@@ -19,7 +19,10 @@ pub(crate) fn push_wide_output<W: FixedWidth, N: FixedWidth, B: Allocator>(
 ) -> Result<(), AllocError>
     requires wide_fits { W.BITS ≤ 120 }
     requires narrow_fits { N.BITS ≤ 120 }
-    ensures { OnOk result (text.new.items ≡ text.old.items ++ (join_with_byte 32 (map signed_decimal (map W.number wide.now)) ++ 10 ∷ output_text (map N.number narrow.now, ending))) }
+    ensures { OnOk result
+        (text.new.items ≡ text.old.items ++
+        (join_with_byte 32 (map signed_decimal (map W.number wide.now)) ++ 10 ∷ output_text
+        (map N.number narrow.now, ending))) }
 {
     push_registers(text, wide)?;
     text.push(b'\n')?;
@@ -33,7 +36,8 @@ pub(crate) fn push_output<R: FixedWidth, B: Allocator>(
     ending: Result<(), Stop>,
 ) -> Result<(), AllocError>
     requires { R.BITS ≤ 120 }
-    ensures { OnOk result (text.new.items ≡ text.old.items ++ output_text (map R.number registers.now, ending)) }
+    ensures { OnOk result
+        (text.new.items ≡ text.old.items ++ output_text (map R.number registers.now, ending)) }
 {
     push_registers(text, registers)?;
     push_ending(text, ending)
@@ -45,7 +49,9 @@ fn push_registers<R: FixedWidth, B: Allocator>(
     registers: &[R],
 ) -> Result<(), AllocError>
     requires { R.BITS ≤ 120 }
-    ensures { OnOk result (text.new.items ≡ text.old.items ++ join_with_byte 32 (map signed_decimal (map R.number registers.now))) }
+    ensures { OnOk result
+        (text.new.items ≡ text.old.items ++ join_with_byte 32
+        (map signed_decimal (map R.number registers.now))) }
 {
     match registers.split_first() {
         Some((first, others)) => {
@@ -63,7 +69,8 @@ fn push_others<R: FixedWidth, B: Allocator>(
     others: &[R],
 ) -> Result<(), AllocError>
     requires { R.BITS ≤ 120 }
-    ensures { OnOk result (text.new.items ≡ text.old.items ++ flat_map after_space (map R.number others.now)) }
+    ensures { OnOk result
+        (text.new.items ≡ text.old.items ++ flat_map after_space (map R.number others.now)) }
 {
     for register in others {
         text.push(b' ')?;
@@ -96,7 +103,8 @@ fn push_ending<B: Allocator>(
     text: &mut Vec<u8, B>,
     ending: Result<(), Stop>,
 ) -> Result<(), AllocError>
-    ensures { OnOk result (text.new.items ≡ text.old.items ++ 10 ∷ (ending_text ending ++ 10 ∷ [])) }
+    ensures { OnOk result
+        (text.new.items ≡ text.old.items ++ 10 ∷ (ending_text ending ++ 10 ∷ [])) }
 {
     match ending {
         Ok(()) => text.extend_from_slice(b"\ndone\n"),

@@ -1,8 +1,8 @@
 //! A run of the steps, and the text of what it leaves.
 
 ghost use Rattle.std.specs.Prelude.{◌≡◌, ◌≤◌, length, map, IfOk, All};
-ghost use Rattle.arbitrary_int.specs.Step.{StepWithin};
-ghost use Rattle.arbitrary_int.specs.Run.{RunOf};
+ghost use Rattle.arbitrary_int.specs.Steps.{StepWithin};
+ghost use Rattle.arbitrary_int.specs.Runs.{RunOf};
 ghost use Rattle.bitrun_service.specs.Output.{output_text, wide_output_text};
 
 use crate::printing::{push_output, push_wide_output};
@@ -18,7 +18,9 @@ pub(crate) fn run_text<'a, R: FixedWidth, A: Allocator>(
 ) -> Result<Vec<u8, &'a A>, AllocError>
     requires within { All (StepWithin (length registers.old)) steps.now }
     requires narrow { R.BITS ≤ 120 }
-    ensures { IfOk result (λ text. text.items ≡ output_text (RunOf R.IS_SIGNED R.BITS steps.now (map R.number registers.old))) }
+    ensures { IfOk result
+        (λ text. text.items ≡ output_text
+        (RunOf R.IS_SIGNED R.BITS steps.now (map R.number registers.old))) }
 {
     let ending = run(steps, registers);
     let mut text = Vec::new(alloc);
@@ -36,7 +38,9 @@ pub(crate) fn wide_run_text<'a, W: FixedWidth, N: FixedWidth, A: Allocator>(
     requires wide_fits { W.BITS ≤ 120 }
     requires narrow_width { N.valid }
     requires narrow_fits { N.BITS ≤ 120 }
-    ensures { IfOk result (λ text. text.items ≡ wide_output_text N.IS_SIGNED N.BITS (RunOf W.IS_SIGNED W.BITS steps.now (map W.number wide.old))) }
+    ensures { IfOk result
+        (λ text. text.items ≡ wide_output_text N.IS_SIGNED N.BITS
+        (RunOf W.IS_SIGNED W.BITS steps.now (map W.number wide.old))) }
 {
     let mut narrow = vec![in alloc; N::zero(); wide.len()]?;
     let ending = run_wide(steps, wide, narrow.as_mut_slice());

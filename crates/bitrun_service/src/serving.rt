@@ -1,6 +1,6 @@
 //! The bytes in, and the output out.
 
-ghost use Rattle.arbitrary_int.specs.Watching.{inner_of, has_failed};
+ghost use Rattle.arbitrary_int.specs.Watched.{inner_of, has_failed};
 ghost use Rattle.bitrun_service.specs.Serving.{Serves};
 
 use crate::output::output;
@@ -20,8 +20,10 @@ pub fn serve<R: Read, W: Write>(
     reader: &mut Watched<R>,
     writer: &mut Watched<W>,
 ) -> Result<(), Fault>
-    ensures { Serves (R.remaining (inner_of reader.old)) (R.remaining (inner_of reader.new)) (has_failed reader.new)
-        (W.contents (inner_of writer.old)) (W.contents (inner_of writer.new)) (has_failed writer.new) result }
+    ensures { Serves (R.remaining (inner_of reader.old)) (R.remaining (inner_of reader.new))
+        (has_failed reader.new)
+        (W.contents (inner_of writer.old)) (W.contents (inner_of writer.new))
+        (has_failed writer.new) result }
 {
     serve_in(&alloc, reader, writer)
 }
@@ -33,8 +35,10 @@ pub fn serve_in<A: Allocator, R: Read, W: Write>(
     reader: &mut Watched<R>,
     writer: &mut Watched<W>,
 ) -> Result<(), Fault>
-    ensures { Serves (R.remaining (inner_of reader.old)) (R.remaining (inner_of reader.new)) (has_failed reader.new)
-        (W.contents (inner_of writer.old)) (W.contents (inner_of writer.new)) (has_failed writer.new) result }
+    ensures { Serves (R.remaining (inner_of reader.old)) (R.remaining (inner_of reader.new))
+        (has_failed reader.new)
+        (W.contents (inner_of writer.old)) (W.contents (inner_of writer.new))
+        (has_failed writer.new) result }
 {
     let input = read_all(alloc, reader)?;
     let text = output(alloc, input.as_slice())?;

@@ -3,8 +3,8 @@
 
 ghost use Rattle.std.specs.Prelude.{◌≡◌, ◌≤◌, vec_len, IfOk, IfErr, OnOk, OnErr, IfSome, IsTrue};
 ghost use Rattle.std.specs.Io.KnownBytes.{Appends, IsAtEnd};
-ghost use Rattle.arbitrary_int.specs.Watching.{inner_of, has_failed};
-ghost use Rattle.arbitrary_int.specs.Stream.{AppendsBeginning};
+ghost use Rattle.arbitrary_int.specs.Watched.{inner_of, has_failed};
+ghost use Rattle.arbitrary_int.specs.Streams.{AppendsBeginning};
 ghost use Rattle.bitrun_service.specs.Stream.{ReadFault};
 
 use arbitrary_int::Watched;
@@ -21,10 +21,12 @@ pub fn read_all<'a, A: Allocator, R: Read>(
     alloc: &'a A,
     reader: &mut Watched<R>,
 ) -> Result<Vec<u8, &'a A>, Fault>
-    ensures all { IfOk result (λ input. IfSome (R.remaining (inner_of reader.old)) (λ held. input.items ≡ held)) }
+    ensures all { IfOk result
+        (λ input. IfSome (R.remaining (inner_of reader.old)) (λ held. input.items ≡ held)) }
     ensures nothing_left { OnOk result (IsAtEnd (R.remaining (inner_of reader.new))) }
     ensures short { IfOk result (λ input. vec_len input ≤ 65536) }
-    ensures fault { IfErr result (ReadFault (R.remaining (inner_of reader.old)) (has_failed reader.new)) }
+    ensures fault { IfErr result
+        (ReadFault (R.remaining (inner_of reader.old)) (has_failed reader.new)) }
 {
     let mut input = Vec::new(alloc);
     // The C library clears a longer array by an instruction for each byte, as callgrind counts.
@@ -47,8 +49,11 @@ pub fn read_all<'a, A: Allocator, R: Read>(
 /// Writes all of the bytes, in as many calls as the writer needs. No call is made after a failed
 /// one.
 pub fn write_all<W: Write>(writer: &mut Watched<W>, bytes: &[u8]) -> Result<(), Fault>
-    ensures all { OnOk result (Appends (W.contents (inner_of writer.old)) (W.contents (inner_of writer.new)) bytes.now) }
-    ensures begun { OnErr result (AppendsBeginning (W.contents (inner_of writer.old)) (W.contents (inner_of writer.new)) bytes.now) }
+    ensures all { OnOk result
+        (Appends (W.contents (inner_of writer.old)) (W.contents (inner_of writer.new)) bytes.now) }
+    ensures begun { OnErr result
+        (AppendsBeginning (W.contents (inner_of writer.old))
+        (W.contents (inner_of writer.new)) bytes.now) }
     ensures failed { OnErr result (IsTrue (has_failed writer.new)) }
     ensures only { IfErr result (λ fault. fault ≡ Fault.Write) }
 {

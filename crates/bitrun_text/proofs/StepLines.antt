@@ -3,7 +3,7 @@ use Rattle.std.proofs.Common.{◌≡◌, ◌<◌, ◌+◌, ◌-◌, ℕ, suc, Li
 use Rattle.std.specs.List.{AllZip, after_first}
 use Rattle.std.proofs.lemmas.List.Elements.{All-push}
 use Rattle.arbitrary_int.specs.declared.steps.Step.{Step}
-use Rattle.arbitrary_int.specs.Step.{StepWithin}
+use Rattle.arbitrary_int.specs.Steps.{StepWithin}
 use Rattle.bitrun_text.specs.Text.{ends_line, has_items, word_lines, Left, left_of}
 use Rattle.bitrun_text.specs.Operation.{step_named}
 use Rattle.bitrun_text.specs.Fast.{EndsLine, NamesLine}

@@ -2,7 +2,7 @@
 use Rattle.std.specs.Prelude.{◌≡◌, ℕ, zero, suc, ◌+◌, ◌-◌, ◌<◌, ◌≤◌, ◌⊎◌, Bool, List, [], ◌∷◌, ◌++◌, length, filter, Some, IsSome, IfSome, ℤ, slice_get, All}
 use Rattle.std.specs.List.{AllZip, AllByRecursion}
 use Rattle.arbitrary_int.specs.declared.steps.Step.{Step}
-use Rattle.arbitrary_int.specs.Step.{StepWithin}
+use Rattle.arbitrary_int.specs.Steps.{StepWithin}
 use Rattle.bitrun_text.specs.Text.{has_items, word_lines}
 use Rattle.bitrun_text.specs.Numeral.{value_named}
 use Rattle.bitrun_text.specs.Kind.{kind_named, type_row, type_of}

@@ -9,7 +9,7 @@
 
 ghost use Rattle.std.specs.Prelude.{◌≡◌, ◌≤◌, ◌<◌, ◌+◌, ◌-◌, ◌^◌, [], ◌∷◌, true, length, drop, get_or, take, Some, IfSome, MatchOption, ⊤};
 ghost use Rattle.std.specs.Int.{w32, from_be_bytes, to_be_bytes};
-ghost use Rattle.arbitrary_int.specs.Step.{StepWithin};
+ghost use Rattle.arbitrary_int.specs.Steps.{StepWithin};
 ghost use Rattle.bitrun_text.specs.Text.{is_blank, left_of, word_lines};
 ghost use Rattle.bitrun_text.specs.Numeral.{first_number};
 ghost use Rattle.bitrun_text.specs.Operation.{step_with};
@@ -65,9 +65,11 @@ fn fast_operands<const BLANK: u8>(
     requires blank { is_blank BLANK ≡ true }
     requires room { at + 24 ≤ length text.now }
     ensures blank { IfSome result (λ p. is_blank (get_or text.now at 0) ≡ true) }
-    ensures step { IfSome result (λ p. step_with count operation (left_of (drop (at + 1) text.now)).words ≡ Some p.0) }
+    ensures step { IfSome result
+        (λ p. step_with count operation (left_of (drop (at + 1) text.now)).words ≡ Some p.0) }
     ensures within { IfSome result (λ p. StepWithin count p.0) }
-    ensures later { IfSome result (λ p. word_lines (drop p.1 text.now) ≡ (left_of (drop (at + 1) text.now)).later) }
+    ensures later { IfSome result
+        (λ p. word_lines (drop p.1 text.now) ≡ (left_of (drop (at + 1) text.now)).later) }
     ensures order { IfSome result (λ p. at < p.1) }
     ensures room { IfSome result (λ p. p.1 ≤ length text.now) }
 {
@@ -122,9 +124,11 @@ fn fast_operands<const BLANK: u8>(
 fn last_register(text: &[u8], at: usize, count: usize, blank: u8) -> Option<(usize, usize)>
     requires blank { is_blank blank ≡ true }
     requires room { at + 13 ≤ length text.now }
-    ensures number { IfSome result (λ p. first_number count (left_of (drop at text.now)).words ≡ Some (p.0, [])) }
+    ensures number { IfSome result
+        (λ p. first_number count (left_of (drop at text.now)).words ≡ Some (p.0, [])) }
     ensures below { IfSome result (λ p. p.0 < count) }
-    ensures later { IfSome result (λ p. word_lines (drop p.1 text.now) ≡ (left_of (drop at text.now)).later) }
+    ensures later { IfSome result
+        (λ p. word_lines (drop p.1 text.now) ≡ (left_of (drop at text.now)).later) }
     ensures order { IfSome result (λ p. at < p.1) }
     ensures room { IfSome result (λ p. p.1 ≤ length text.now) }
 {
@@ -137,8 +141,10 @@ fn last_register(text: &[u8], at: usize, count: usize, blank: u8) -> Option<(usi
 fn fast_amount(text: &[u8], at: usize, blank: u8) -> Option<(u32, usize)>
     requires blank { is_blank blank ≡ true }
     requires room { at + 13 ≤ length text.now }
-    ensures number { IfSome result (λ p. first_number (2 ^ 32) (left_of (drop at text.now)).words ≡ Some (p.0, [])) }
-    ensures later { IfSome result (λ p. word_lines (drop p.1 text.now) ≡ (left_of (drop at text.now)).later) }
+    ensures number { IfSome result
+        (λ p. first_number (2 ^ 32) (left_of (drop at text.now)).words ≡ Some (p.0, [])) }
+    ensures later { IfSome result
+        (λ p. word_lines (drop p.1 text.now) ≡ (left_of (drop at text.now)).later) }
     ensures order { IfSome result (λ p. at < p.1) }
     ensures room { IfSome result (λ p. p.1 ≤ length text.now) }
 {
@@ -169,7 +175,9 @@ fn name_at(text: &[u8], at: usize) -> Option<(Operation, usize)>
 #[inline]
 fn name_word(text: &[u8], at: usize) -> u32
     requires { at + 4 ≤ length text.now }
-    ensures word { result ≡ from_be_bytes w32 (get_or text.now at 0 ∷ get_or text.now (at + 1) 0 ∷ get_or text.now (at + 2) 0 ∷ get_or text.now (at + 3) 0 ∷ []) }
+    ensures word { result
+        ≡ from_be_bytes w32 (get_or text.now at 0 ∷ get_or text.now (at + 1) 0 ∷ get_or text.now
+        (at + 2) 0 ∷ get_or text.now (at + 3) 0 ∷ []) }
 {
     u32::from_be_bytes([text[at], text[at + 1], text[at + 2], text[at + 3]])
 }

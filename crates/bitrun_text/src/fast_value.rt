@@ -20,7 +20,8 @@ const MOST_DIGITS: usize = 18;
 pub fn fast_value<R: FixedWidth>(text: &[u8]) -> Option<(R, &[u8])>
     requires width { R.valid }
     requires narrow { R.BITS ≤ 120 }
-    ensures { IfSome result (λ p. BeginsWithValue R.IS_SIGNED R.BITS text.now (R.number p.0) p.1.now) }
+    ensures { IfSome result
+        (λ p. BeginsWithValue R.IS_SIGNED R.BITS text.now (R.number p.0) p.1.now) }
 {
     let (number, rest) = fast_integer(after_space(text))?;
     Some((value_of(number)?, rest))
@@ -41,7 +42,8 @@ fn after_space(text: &[u8]) -> &[u8]
 #[inline(always)]
 fn fast_integer(text: &[u8]) -> Option<(i128, &[u8])>
     ensures value { IfSome result (λ p. integer_in (before_first ends_word text.now) ≡ Some p.0) }
-    ensures rest { IfSome result (λ p. p.1.now ≡ drop (position_or_len ends_word text.now) text.now) }
+    ensures rest { IfSome result
+        (λ p. p.1.now ≡ drop (position_or_len ends_word text.now) text.now) }
 {
     match after(text, b'-') {
         Some(digits) => {
@@ -69,9 +71,11 @@ fn after(text: &[u8], byte: u8) -> Option<&[u8]>
 /// The number that the digits write with which the text begins, where they are a word, and what follows it.
 #[inline(always)]
 fn fast_number(text: &[u8]) -> Option<(u128, &[u8])>
-    ensures value { IfSome result (λ p. number_below (2 ^ 120) (before_first ends_word text.now) ≡ Some p.0) }
+    ensures value { IfSome result
+        (λ p. number_below (2 ^ 120) (before_first ends_word text.now) ≡ Some p.0) }
     ensures below { IfSome result (λ p. p.0 < 2 ^ 120) }
-    ensures rest { IfSome result (λ p. p.1.now ≡ drop (position_or_len ends_word text.now) text.now) }
+    ensures rest { IfSome result
+        (λ p. p.1.now ≡ drop (position_or_len ends_word text.now) text.now) }
 {
     let (first, end) = digits_from(text, 0);
     let mut number = u128::from(first);
@@ -110,7 +114,8 @@ fn power_of_ten(count: usize) -> u64
 #[inline(always)]
 fn digits_from(text: &[u8], start: usize) -> (u64, usize)
     requires { start ≤ length text.now }
-    ensures reads { (number : ℕ) → Reads text.now start number → Reads text.now result.1 (number * 10 ^ (result.1 - start) + result.0) }
+    ensures reads { (number : ℕ) → Reads text.now start number
+        → Reads text.now result.1 (number * 10 ^ (result.1 - start) + result.0) }
     ensures order { start ≤ result.1 }
     ensures short { result.1 ≤ start + 18 }
     ensures within { result.1 ≤ length text.now }

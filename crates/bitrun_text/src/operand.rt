@@ -38,9 +38,12 @@ pub fn next_register(
     requires blank { is_blank blank ≡ true }
     requires some { 5 ≤ room }
     requires room { at + room ≤ length text.now }
-    ensures number { IfSome result (λ p. first_number count (left_of (drop at text.now)).words ≡ Some (p.0, (left_of (drop p.1 text.now)).words)) }
+    ensures number { IfSome result
+        (λ p. first_number count (left_of (drop at text.now)).words
+        ≡ Some (p.0, (left_of (drop p.1 text.now)).words)) }
     ensures below { IfSome result (λ p. p.0 < count) }
-    ensures later { IfSome result (λ p. (left_of (drop p.1 text.now)).later ≡ (left_of (drop at text.now)).later) }
+    ensures later { IfSome result
+        (λ p. (left_of (drop p.1 text.now)).later ≡ (left_of (drop at text.now)).later) }
     ensures order { IfSome result (λ p. at < p.1) }
     ensures room { IfSome result (λ p. p.1 + room ≤ length text.now + 5) }
 {
@@ -86,9 +89,12 @@ fn other_register(
     requires blank { is_blank blank ≡ true }
     requires some { 5 ≤ room }
     requires room { at + room ≤ length text.now }
-    ensures number { IfSome result (λ p. first_number count (left_of (drop at text.now)).words ≡ Some (p.0, (left_of (drop p.1 text.now)).words)) }
+    ensures number { IfSome result
+        (λ p. first_number count (left_of (drop at text.now)).words
+        ≡ Some (p.0, (left_of (drop p.1 text.now)).words)) }
     ensures below { IfSome result (λ p. p.0 < count) }
-    ensures later { IfSome result (λ p. (left_of (drop p.1 text.now)).later ≡ (left_of (drop at text.now)).later) }
+    ensures later { IfSome result
+        (λ p. (left_of (drop p.1 text.now)).later ≡ (left_of (drop at text.now)).later) }
     ensures order { IfSome result (λ p. at < p.1) }
     ensures room { IfSome result (λ p. p.1 + room ≤ length text.now + 5) }
 {
@@ -116,9 +122,12 @@ fn long_register(
     requires short { end ≤ at + 3 }
     requires least { 4 ≤ room }
     requires room { at + room ≤ length text.now }
-    ensures number { IfSome result (λ p. first_number count (left_of (drop at text.now)).words ≡ Some (p.0, (left_of (drop p.1 text.now)).words)) }
+    ensures number { IfSome result
+        (λ p. first_number count (left_of (drop at text.now)).words
+        ≡ Some (p.0, (left_of (drop p.1 text.now)).words)) }
     ensures below { IfSome result (λ p. p.0 < count) }
-    ensures later { IfSome result (λ p. (left_of (drop p.1 text.now)).later ≡ (left_of (drop at text.now)).later) }
+    ensures later { IfSome result
+        (λ p. (left_of (drop p.1 text.now)).later ≡ (left_of (drop at text.now)).later) }
     ensures order { IfSome result (λ p. at < p.1) }
     ensures room { IfSome result (λ p. p.1 + room ≤ length text.now + 4) }
 {
@@ -150,7 +159,8 @@ pub fn below(number: u64, place: usize, count: usize) -> Option<(usize, usize)>
 pub fn last_number(text: &[u8], at: usize, blank: u8) -> Option<(u64, usize)>
     requires blank { is_blank blank ≡ true }
     requires room { at + 13 ≤ length text.now }
-    ensures number { IfSome result (λ p. EndsWithNumber (drop at text.now) p.0 (drop p.1 text.now)) }
+    ensures number { IfSome result
+        (λ p. EndsWithNumber (drop at text.now) p.0 (drop p.1 text.now)) }
     ensures order { IfSome result (λ p. at < p.1) }
     ensures room { IfSome result (λ p. p.1 ≤ length text.now) }
 {
@@ -196,7 +206,8 @@ pub fn last_number(text: &[u8], at: usize, blank: u8) -> Option<(u64, usize)>
 fn long_last_number(text: &[u8], at: usize, blank: u8) -> Option<(u64, usize)>
     requires blank { is_blank blank ≡ true }
     requires room { at + 13 ≤ length text.now }
-    ensures number { IfSome result (λ p. EndsWithNumber (drop at text.now) p.0 (drop p.1 text.now)) }
+    ensures number { IfSome result
+        (λ p. EndsWithNumber (drop at text.now) p.0 (drop p.1 text.now)) }
     ensures order { IfSome result (λ p. at < p.1) }
     ensures room { IfSome result (λ p. p.1 ≤ length text.now) }
 {
@@ -256,7 +267,8 @@ fn after_blanks(text: &[u8], at: usize, blank: u8, room: usize) -> Option<usize>
     requires blank { is_blank blank ≡ true }
     requires some { 2 ≤ room }
     requires room { at + room ≤ length text.now }
-    ensures same { IfSome result (λ next. left_of (drop next text.now) ≡ left_of (drop at text.now)) }
+    ensures same { IfSome result
+        (λ next. left_of (drop next text.now) ≡ left_of (drop at text.now)) }
     ensures order { IfSome result (λ next. at ≤ next) }
     ensures room { IfSome result (λ next. next + room ≤ length text.now + 1) }
 {

@@ -1,7 +1,7 @@
 //! The words of a step.
 
 ghost use Rattle.std.specs.Prelude.{◌≡◌, ◌∷◌, ◌++◌, ◌<◌, ◌^◌, codes, Some, None, IfSome, MatchOption};
-ghost use Rattle.arbitrary_int.specs.Step.{StepWithin};
+ghost use Rattle.arbitrary_int.specs.Steps.{StepWithin};
 ghost use Rattle.bitrun_text.specs.Text.{Left};
 ghost use Rattle.bitrun_text.specs.Numeral.{first_number};
 ghost use Rattle.bitrun_text.specs.Operation.{operation_named, step_with, step_named};
@@ -206,7 +206,8 @@ fn step_with(operation: Operation, operands: &mut Cursor, count: usize) -> Optio
 
 /// Takes the number of one of so many registers.
 fn register(operands: &mut Cursor, count: usize) -> Option<usize>
-    ensures number { MatchOption result (first_number count operands.old.words ≡ None) (λ n. first_number count operands.old.words ≡ Some (n, operands.new.words)) }
+    ensures number { MatchOption result (first_number count operands.old.words ≡ None)
+        (λ n. first_number count operands.old.words ≡ Some (n, operands.new.words)) }
     ensures within { IfSome result (λ n. n < count) }
     ensures later { operands.new.later ≡ operands.old.later }
 {
@@ -216,7 +217,8 @@ fn register(operands: &mut Cursor, count: usize) -> Option<usize>
 
 /// Takes an amount.
 fn amount(operands: &mut Cursor) -> Option<u32>
-    ensures number { MatchOption result (first_number (2 ^ 32) operands.old.words ≡ None) (λ n. first_number (2 ^ 32) operands.old.words ≡ Some (n, operands.new.words)) }
+    ensures number { MatchOption result (first_number (2 ^ 32) operands.old.words ≡ None)
+        (λ n. first_number (2 ^ 32) operands.old.words ≡ Some (n, operands.new.words)) }
     ensures later { operands.new.later ≡ operands.old.later }
 {
     let number = operands.next_number(1 << 32)?;

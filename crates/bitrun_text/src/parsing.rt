@@ -1,7 +1,7 @@
 //! The registers and the steps from their lines.
 
 ghost use Rattle.std.specs.Prelude.{◌≡◌, true, ◌≤◌, ◌+◌, ◌-◌, ℕ, List, length, drop, map, filter, IfOk, IfErr, IfSome, MatchOption, All};
-ghost use Rattle.arbitrary_int.specs.Step.{StepWithin};
+ghost use Rattle.arbitrary_int.specs.Steps.{StepWithin};
 ghost use Rattle.std.specs.List.{AllZip};
 ghost use Rattle.bitrun_text.specs.Text.{Left, has_items, is_blank, word_lines};
 ghost use Rattle.bitrun_text.specs.Form.{IsValue, IsStep, HasRegistersForm, StepsFault, ReadSoFar};
@@ -26,7 +26,8 @@ pub fn registers<'a, R: FixedWidth, A: Allocator>(
     requires narrow { R.BITS ≤ 120 }
     ensures values { IfOk result (λ found. MatchOption found
         (HasRegistersForm R.IS_SIGNED R.BITS line.old.words → ⊥)
-        (λ registers. AllZip (IsValue R.IS_SIGNED R.BITS) line.old.words (map R.number registers.items))) }
+        (λ registers. AllZip (IsValue R.IS_SIGNED R.BITS) line.old.words
+        (map R.number registers.items))) }
     ensures later { line.new.later ≡ line.old.later }
 {
     let mut registers = Vec::new(alloc);
@@ -57,7 +58,8 @@ pub fn steps<'a, A: Allocator>(
     lines: &mut Cursor,
 ) -> Result<Vec<Step, &'a A>, Fault>
     requires { length lines.old.later ≤ 65536 }
-    ensures found { IfOk result (λ steps. AllZip (IsStep count) (filter has_items lines.old.later) steps.items) }
+    ensures found { IfOk result
+        (λ steps. AllZip (IsStep count) (filter has_items lines.old.later) steps.items) }
     ensures within { IfOk result (λ steps. All (StepWithin count) steps.items) }
     ensures fault { IfErr result (StepsFault count lines.old.later) }
 {
@@ -98,7 +100,9 @@ fn fast_steps<'a, 't, A: Allocator>(
     number: &mut usize,
 ) -> &'t [u8]
     requires { number.old + length (word_lines text.now) ≤ 65538 }
-    ensures read { (all : List (List (List ℕ))) → ReadSoFar count all steps.old.items number.old (word_lines text.now) → ReadSoFar count all steps.new.items number.new (word_lines result.now) }
+    ensures read { (all : List (List (List ℕ)))
+        → ReadSoFar count all steps.old.items number.old (word_lines text.now)
+        → ReadSoFar count all steps.new.items number.new (word_lines result.now) }
     ensures order { number.old ≤ number.new }
 {
     let before = steps.len();
@@ -131,8 +135,13 @@ fn steps_with<'a, 't, A: Allocator, const BLANK: u8>(
 ) -> &'t [u8]
     requires blank { is_blank BLANK ≡ true }
     requires lines { passed.old + length (word_lines text.now) ≤ 65538 }
-    ensures read { (all : List (List (List ℕ))) → (number : ℕ) → ReadSoFar count all steps.old.items number (word_lines text.now) → ReadSoFar count all steps.new.items (number + (length steps.new.items - length steps.old.items + (passed.new - passed.old))) (word_lines result.now) }
-    ensures counted { (length steps.new.items - length steps.old.items + (passed.new - passed.old)) + length (word_lines result.now) ≡ length (word_lines text.now) }
+    ensures read { (all : List (List (List ℕ))) → (number : ℕ)
+        → ReadSoFar count all steps.old.items number (word_lines text.now)
+        → ReadSoFar count all steps.new.items
+        (number + (length steps.new.items - length steps.old.items + (passed.new - passed.old)))
+        (word_lines result.now) }
+    ensures counted { (length steps.new.items - length steps.old.items + (passed.new - passed.old))
+        + length (word_lines result.now) ≡ length (word_lines text.now) }
     ensures steps { length steps.old.items ≤ length steps.new.items }
     ensures passed { passed.old ≤ passed.new }
     ensures order { length result.now ≤ length text.now }
@@ -191,8 +200,11 @@ fn after_indent(text: &[u8], at: usize, blank: u8) -> usize
 #[inline(never)]
 fn after_empty_lines(text: &[u8], at: usize) -> usize
     requires { at ≤ length text.now }
-    ensures read { (count : ℕ) → (all : List (List (List ℕ))) → (steps : List Step) → (number : ℕ) → ReadSoFar count all steps number (word_lines (drop at text.now)) → ReadSoFar count all steps (number + (result - at)) (word_lines (drop result text.now)) }
-    ensures counted { (result - at) + length (word_lines (drop result text.now)) ≡ length (word_lines (drop at text.now)) }
+    ensures read { (count : ℕ) → (all : List (List (List ℕ))) → (steps : List Step) → (number : ℕ)
+        → ReadSoFar count all steps number (word_lines (drop at text.now))
+        → ReadSoFar count all steps (number + (result - at)) (word_lines (drop result text.now)) }
+    ensures counted { (result - at) + length (word_lines (drop result text.now))
+        ≡ length (word_lines (drop at text.now)) }
     ensures order { at ≤ result }
     ensures room { result ≤ length text.now }
 {

@@ -11,7 +11,8 @@ const MOST_DIGITS: usize = 18;
 #[inline(always)]
 pub fn one_digit(text: &[u8], at: usize, byte: u8) -> Option<u64>
     requires { at + 4 ≤ length text.now }
-    ensures { IfSome result (λ n. BeginsWithDigits (drop at text.now) n (byte ∷ drop (at + 2) text.now)) }
+    ensures { IfSome result
+        (λ n. BeginsWithDigits (drop at text.now) n (byte ∷ drop (at + 2) text.now)) }
 {
     let first_two = (word_at(text, at) % 0x1_0000) as u16;
     let number = first_two.wrapping_sub(u16::from(byte) * 0x100 + 0x30);
@@ -25,7 +26,8 @@ pub fn one_digit(text: &[u8], at: usize, byte: u8) -> Option<u64>
 #[inline(always)]
 pub fn two_digits(text: &[u8], at: usize, byte: u8) -> Option<u64>
     requires { at + 4 ≤ length text.now }
-    ensures { IfSome result (λ n. BeginsWithDigits (drop at text.now) n (byte ∷ drop (at + 3) text.now)) }
+    ensures { IfSome result
+        (λ n. BeginsWithDigits (drop at text.now) n (byte ∷ drop (at + 3) text.now)) }
 {
     let word = word_at(text, at);
     // With digits and the byte there, `low` has what the digits are worth, and in neither number a byte has its highest bit.
@@ -41,7 +43,8 @@ pub fn two_digits(text: &[u8], at: usize, byte: u8) -> Option<u64>
 #[inline(always)]
 pub fn three_digits(text: &[u8], at: usize, byte: u8) -> Option<u64>
     requires { at + 4 ≤ length text.now }
-    ensures { IfSome result (λ n. BeginsWithDigits (drop at text.now) n (byte ∷ drop (at + 4) text.now)) }
+    ensures { IfSome result
+        (λ n. BeginsWithDigits (drop at text.now) n (byte ∷ drop (at + 4) text.now)) }
 {
     let word = word_at(text, at);
     let last = u32::from(byte) * 0x100_0000;
@@ -59,7 +62,9 @@ pub fn three_digits(text: &[u8], at: usize, byte: u8) -> Option<u64>
 #[inline]
 pub fn word_at(text: &[u8], at: usize) -> u32
     requires { at + 4 ≤ length text.now }
-    ensures word { result ≡ word_of (get_or text.now at 0) (get_or text.now (at + 1) 0) (get_or text.now (at + 2) 0) (get_or text.now (at + 3) 0) }
+    ensures word { result
+        ≡ word_of (get_or text.now at 0) (get_or text.now (at + 1) 0) (get_or text.now (at + 2) 0)
+        (get_or text.now (at + 3) 0) }
     ensures bytes { (k : ℕ) → get_or text.now k 0 < 256 }
 {
     u32::from_le_bytes([text[at], text[at + 1], text[at + 2], text[at + 3]])
@@ -70,8 +75,10 @@ pub fn word_at(text: &[u8], at: usize) -> u32
 fn long_word_at(text: &[u8], at: usize) -> u64
     requires { at + 8 ≤ length text.now }
     ensures word { result
-        ≡ word_of (get_or text.now at 0) (get_or text.now (at + 1) 0) (get_or text.now (at + 2) 0) (get_or text.now (at + 3) 0)
-        + 4294967296 * word_of (get_or text.now (at + 4) 0) (get_or text.now (at + 5) 0) (get_or text.now (at + 6) 0) (get_or text.now (at + 7) 0) }
+        ≡ word_of (get_or text.now at 0) (get_or text.now (at + 1) 0) (get_or text.now (at + 2) 0)
+        (get_or text.now (at + 3) 0)
+        + 4294967296 * word_of (get_or text.now (at + 4) 0) (get_or text.now (at + 5) 0)
+        (get_or text.now (at + 6) 0) (get_or text.now (at + 7) 0) }
     ensures bytes { (k : ℕ) → get_or text.now k 0 < 256 }
 {
     u64::from_le_bytes([
@@ -115,7 +122,9 @@ pub fn few_digits(text: &[u8], at: usize) -> Option<(u64, usize)>
 pub fn zeros_end(text: &[u8], at: usize, room: usize) -> usize
     requires some { 4 ≤ room }
     requires room { at + room ≤ length text.now + 1 }
-    ensures same { (number : ℕ) → (rest : List ℕ) → BeginsWithDigits (drop result text.now) number rest → BeginsWithDigits (drop at text.now) number rest }
+    ensures same { (number : ℕ) → (rest : List ℕ)
+        → BeginsWithDigits (drop result text.now) number rest
+        → BeginsWithDigits (drop at text.now) number rest }
     ensures order { at ≤ result }
     ensures room { result + room ≤ length text.now + 1 }
 {
@@ -212,7 +221,9 @@ fn after_zeros(text: &[u8], at: usize, number: u64, end: usize) -> usize
 #[inline(always)]
 pub fn eight_zeros(text: &[u8], at: usize) -> bool
     requires { at + 8 ≤ length text.now }
-    ensures { result ≡ true → (number : ℕ) → (rest : List ℕ) → BeginsWithDigits (drop (at + 8) text.now) number rest → BeginsWithDigits (drop at text.now) number rest }
+    ensures { result ≡ true → (number : ℕ) → (rest : List ℕ)
+        → BeginsWithDigits (drop (at + 8) text.now) number rest
+        → BeginsWithDigits (drop at text.now) number rest }
 {
     are_zeros(text, at) && are_zeros(text, at + 4)
 }

@@ -24,7 +24,8 @@ impl<'a> Model for Cursor<'a> {
 impl<'a> Cursor<'a> {
     /// The beginning of the first line, where there is one.
     pub fn new(text: &'a [u8]) -> Option<Self>
-        ensures { MatchOption result (word_lines text.now ≡ []) (λ cursor. word_lines text.now ≡ cursor.words ∷ cursor.later) }
+        ensures { MatchOption result (word_lines text.now ≡ [])
+            (λ cursor. word_lines text.now ≡ cursor.words ∷ cursor.later) }
     {
         if text.is_empty() {
             None
@@ -35,7 +36,8 @@ impl<'a> Cursor<'a> {
 
     /// Takes the next word of the line, where there is one.
     pub fn next_word(&mut self) -> Option<&'a [u8]>
-        ensures word { MatchOption result ((self.old.words ≡ []) × (self.new.words ≡ [])) (λ word. self.old.words ≡ word.now ∷ self.new.words) }
+        ensures word { MatchOption result ((self.old.words ≡ []) × (self.new.words ≡ []))
+            (λ word. self.old.words ≡ word.now ∷ self.new.words) }
         ensures later { self.new.later ≡ self.old.later }
     {
         let (word, rest) = split_word(without_blanks(self.rest));
@@ -48,7 +50,8 @@ impl<'a> Cursor<'a> {
         requires whole { is_whole word.now ≡ true }
         requires some { 0 < length word.now }
         ensures word { result ≡ true → self.old.words ≡ word.now ∷ self.new.words }
-        ensures other { result ≡ false → (words : List (List ℕ)) → self.old.words ≡ word.now ∷ words → ⊥ }
+        ensures other { result ≡ false → (words : List (List ℕ)) → self.old.words ≡ word.now ∷ words
+            → ⊥ }
         ensures same { result ≡ false → self.new ≡ self.old }
         ensures later { self.new.later ≡ self.old.later }
     {
@@ -63,7 +66,8 @@ impl<'a> Cursor<'a> {
 
     /// Takes the next word of the line, where it is a number below the limit.
     pub fn next_number(&mut self, limit: u64) -> Option<u64>
-        ensures number { MatchOption result (first_number limit self.old.words ≡ None) (λ n. first_number limit self.old.words ≡ Some (n, self.new.words)) }
+        ensures number { MatchOption result (first_number limit self.old.words ≡ None)
+            (λ n. first_number limit self.old.words ≡ Some (n, self.new.words)) }
         ensures below { IfSome result (λ n. n < limit) }
         ensures later { self.new.later ≡ self.old.later }
     {
@@ -156,9 +160,12 @@ fn after_word<'a>(text: &'a [u8], word: &[u8]) -> Option<&'a [u8]>
 // In line, its loop would take processor registers from readers that seldom come to it.
 #[inline(never)]
 fn split_number(text: &[u8], limit: u64) -> Option<(u64, &[u8])>
-    ensures number { MatchOption result (number_below limit (before_first ends_word text.now) ≡ None) (λ p. number_below limit (before_first ends_word text.now) ≡ Some p.0) }
+    ensures number { MatchOption result
+        (number_below limit (before_first ends_word text.now) ≡ None)
+        (λ p. number_below limit (before_first ends_word text.now) ≡ Some p.0) }
     ensures below { IfSome result (λ p. p.0 < limit) }
-    ensures rest { IfSome result (λ p. p.1.now ≡ drop (position_or_len ends_word text.now) text.now) }
+    ensures rest { IfSome result
+        (λ p. p.1.now ≡ drop (position_or_len ends_word text.now) text.now) }
 {
     let mut number = 0u64;
     let mut at = 0;

@@ -5,9 +5,9 @@ use Rattle.std.specs.Io.KnownBytes.{Appends, Consumes}
 use Rattle.std.proofs.Common.{arith, sym, ap, subst, ◌∙◌, lit≤, append_assoc, length-append, inl, inr}
 use Rattle.std.proofs.Math.Seq.{take-append_seam, drop-append_seam}
 use Rattle.arbitrary_int.specs.Range.{InRange}
-use Rattle.arbitrary_int.specs.Bytes.{BorshBytes, Canonical}
-use Rattle.arbitrary_int.specs.Reading.{Unreadable}
-use Rattle.arbitrary_int.specs.Stream.{AppendsBeginning}
+use Rattle.arbitrary_int.specs.ByteLists.{BorshBytes, Canonical}
+use Rattle.arbitrary_int.specs.Borsh.{Unreadable}
+use Rattle.arbitrary_int.specs.Streams.{AppendsBeginning}
 use Rattle.arbitrary_int.proofs.NumberOfBytes.{length-Borsh, Borsh-canonical, Borsh-unique}
 use Rattle.arbitrary_int.proofs.StreamSteps.{begun_append, begun_after}
 use Rattle.examples.specs.Journal.{FailedOrNoRecord, record_bytes}

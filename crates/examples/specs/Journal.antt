@@ -1,6 +1,6 @@
 -- A record of a log, as bytes: the words of the contracts in src/journal.rt, with lemmas in proofs/Records.antt.
 use Rattle.std.specs.Prelude.{◌≡◌, ℕ, ℤ, Bool, List, ◌++◌, Option, Some, IsTrue}
-use Rattle.arbitrary_int.specs.Bytes.{BorshBytes}
+use Rattle.arbitrary_int.specs.ByteLists.{BorshBytes}
 
 -- the fields one after the other: 5 bytes, 1 byte, 2 bytes and 2 bytes
 abbrev pub record_bytes : ℤ → ℤ → ℤ → ℤ → List ℕ

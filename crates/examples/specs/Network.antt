@@ -1,6 +1,6 @@
 -- Bytes in network order.
 use Rattle.std.specs.Prelude.{ℕ, List, reverse}
-use Rattle.arbitrary_int.specs.Bytes.{bytes_number}
+use Rattle.arbitrary_int.specs.ByteLists.{bytes_number}
 
 -- the number that has these bytes, the highest first
 abbrev pub network_number : List ℕ → ℕ

@@ -33,7 +33,8 @@ impl Identifier {
     /// The fields of the identifier in the low 29 bits.
     pub fn read(word: &Record) -> Identifier
         ensures priority { result.priority ≡ val false (field_bits word.now.bits 26 3) }
-        ensures extended_data_page { result.extended_data_page ≡ val false (field_bits word.now.bits 25 1) }
+        ensures extended_data_page { result.extended_data_page
+            ≡ val false (field_bits word.now.bits 25 1) }
         ensures data_page { result.data_page ≡ val false (field_bits word.now.bits 24 1) }
         ensures format { pos result.format ≡ val false (field_bits word.now.bits 16 8) }
         ensures specific { pos result.specific ≡ val false (field_bits word.now.bits 8 8) }
@@ -52,7 +53,8 @@ impl Identifier {
     /// Writes the fields into the low 29 bits. The other bits stay.
     pub fn write(self, word: &mut Record)
         ensures priority { val false (field_bits word.new.bits 26 3) ≡ self.priority }
-        ensures extended_data_page { val false (field_bits word.new.bits 25 1) ≡ self.extended_data_page }
+        ensures extended_data_page { val false (field_bits word.new.bits 25 1)
+            ≡ self.extended_data_page }
         ensures data_page { val false (field_bits word.new.bits 24 1) ≡ self.data_page }
         ensures format { val false (field_bits word.new.bits 16 8) ≡ pos self.format }
         ensures specific { val false (field_bits word.new.bits 8 8) ≡ pos self.specific }

@@ -36,7 +36,8 @@ impl Seconds {
 
     /// The register that has these fields.
     pub fn write(self) -> u8
-        ensures { pos result ≡ pos (if self.stopped then 128 else 0) +ℤ pos 16 *ℤ self.tens +ℤ self.units }
+        ensures { pos result ≡ pos (if self.stopped then 128 else 0) +ℤ pos 16 *ℤ self.tens
+            +ℤ self.units }
     {
         (u8::from(self.stopped) << 7) | (self.tens.value() << 4) | self.units.value()
     }
@@ -81,7 +82,8 @@ impl Digits {
 
     /// The digits of a register, if both are decimal.
     pub fn read(register: u8) -> Option<Digits>
-        ensures register { IfSome result (λ digits. pos register ≡ pos 16 *ℤ digits.tens +ℤ digits.units) }
+        ensures register { IfSome result
+            (λ digits. pos register ≡ pos 16 *ℤ digits.tens +ℤ digits.units) }
         ensures tens { IfSome result (λ digits. digits.tens ≤ℤ pos 9) }
         ensures units { IfSome result (λ digits. digits.units ≤ℤ pos 9) }
         ensures refused { IsNone result ↔ ((9 < register / 16) ⊎ (9 < register % 16)) }
@@ -107,7 +109,8 @@ impl Digits {
         ensures units { self.old.units <ℤ pos 9 → self.new.units ≡ self.old.units +ℤ pos 1 }
         ensures tens { self.old.units <ℤ pos 9 → self.new.tens ≡ self.old.tens }
         ensures ten { pos 9 ≤ℤ self.old.units → self.new.units ≡ pos 0 }
-        ensures next { pos 9 ≤ℤ self.old.units → self.old.tens <ℤ pos 5 → self.new.tens ≡ self.old.tens +ℤ pos 1 }
+        ensures next { pos 9 ≤ℤ self.old.units → self.old.tens <ℤ pos 5
+            → self.new.tens ≡ self.old.tens +ℤ pos 1 }
         ensures start { pos 9 ≤ℤ self.old.units → pos 5 ≤ℤ self.old.tens → self.new.tens ≡ pos 0 }
         ensures round { IsTrue result ↔ ((pos 9 ≤ℤ self.old.units) × (pos 5 ≤ℤ self.old.tens)) }
     {
@@ -129,7 +132,8 @@ impl Digits {
 pub fn added(a: u4, b: u4, carry: bool) -> (u4, bool)
     requires a { a ≤ℤ pos 9 }
     requires b { b ≤ℤ pos 9 }
-    ensures sum { result.0 +ℤ pos (if result.1 then 10 else 0) ≡ a +ℤ b +ℤ pos (if carry then 1 else 0) }
+    ensures sum { result.0 +ℤ pos (if result.1 then 10 else 0)
+        ≡ a +ℤ b +ℤ pos (if carry then 1 else 0) }
     ensures digit { result.0 ≤ℤ pos 9 }
 {
     let sum = u5::from_(a) + u5::from_(b) + u5::new(u8::from(carry));

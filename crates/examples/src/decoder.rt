@@ -55,8 +55,10 @@ pub struct Machine {
 impl Machine {
     /// Executes one instruction. The counter then stands at the next one, or where the jump leads.
     pub fn step(&mut self, instruction: Instruction)
-        ensures jump { instruction.operation ≡ pos 1 → Congruent 12 self.new.counter (self.old.counter +ℤ instruction.amount) }
-        ensures next { instruction.operation ≢ pos 1 → Congruent 12 self.new.counter (self.old.counter +ℤ pos 1) }
+        ensures jump { instruction.operation ≡ pos 1
+            → Congruent 12 self.new.counter (self.old.counter +ℤ instruction.amount) }
+        ensures next { instruction.operation ≢ pos 1
+            → Congruent 12 self.new.counter (self.old.counter +ℤ pos 1) }
     {
         let place = instruction.target.as_usize();
         match instruction.operation.value() {

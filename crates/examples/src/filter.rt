@@ -48,7 +48,8 @@ pub fn saturated(wide: i26) -> i12
 impl Filter {
     /// Takes a sample in, and gives the sum of the three weighted samples.
     pub fn weigh(&mut self, sample: i12) -> i26
-        ensures sum { result ≡ sample *ℤ self.old.newest +ℤ self.old.last *ℤ self.old.middle +ℤ self.old.before *ℤ self.old.oldest }
+        ensures sum { result ≡ sample *ℤ self.old.newest +ℤ self.old.last *ℤ self.old.middle
+            +ℤ self.old.before *ℤ self.old.oldest }
         ensures last { self.new.last ≡ sample }
         ensures before { self.new.before ≡ self.old.last }
         ensures newest { self.new.newest ≡ self.old.newest }
@@ -71,9 +72,11 @@ impl Filter {
         ensures last { self.new.last ≡ sample }
         ensures before { self.new.before ≡ self.old.last }
         ensures low { neg_ℤ (pos 2048) <ℤ result → (pos 1024 *ℤ result) ≤ℤ
-            (sample *ℤ self.old.newest +ℤ self.old.last *ℤ self.old.middle +ℤ self.old.before *ℤ self.old.oldest) }
+            (sample *ℤ self.old.newest +ℤ self.old.last *ℤ self.old.middle
+            +ℤ self.old.before *ℤ self.old.oldest) }
         ensures high { result <ℤ pos 2047 →
-            (sample *ℤ self.old.newest +ℤ self.old.last *ℤ self.old.middle +ℤ self.old.before *ℤ self.old.oldest)
+            (sample *ℤ self.old.newest +ℤ self.old.last *ℤ self.old.middle
+            +ℤ self.old.before *ℤ self.old.oldest)
             <ℤ (pos 1024 *ℤ result +ℤ pos 1024) }
     {
         let wide = self.weigh(sample);

@@ -47,7 +47,9 @@ impl Frame {
     /// The bytes that have these fields.
     // No two fields share a bit, so the sum puts them side by side.
     pub fn encode(self) -> [u8; 5]
-        ensures { pos (network_number result) ≡ pos (2 ^ 29) *ℤ self.identifier +ℤ pos (2 ^ 24) *ℤ self.length +ℤ pos (2 ^ 12) *ℤ wrap false 12 self.first +ℤ wrap false 12 self.second }
+        ensures { pos (network_number result)
+            ≡ pos (2 ^ 29) *ℤ self.identifier +ℤ pos (2 ^ 24) *ℤ self.length
+            +ℤ pos (2 ^ 12) *ℤ wrap false 12 self.first +ℤ wrap false 12 self.second }
     {
         let word = (u64::from_(self.identifier) << 29)
             + (u64::from_(self.length) << 24)

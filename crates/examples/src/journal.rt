@@ -2,8 +2,8 @@
 
 ghost use Rattle.std.specs.Prelude.{◌≡◌, IsTrue, IfOk, OnOk, OnErr};
 ghost use Rattle.std.specs.Io.KnownBytes.{Appends, Consumes};
-ghost use Rattle.arbitrary_int.specs.Stream.{AppendsBeginning};
-ghost use Rattle.arbitrary_int.specs.Watching.{inner_of, has_failed};
+ghost use Rattle.arbitrary_int.specs.Streams.{AppendsBeginning};
+ghost use Rattle.arbitrary_int.specs.Watched.{inner_of, has_failed};
 ghost use Rattle.examples.specs.Journal.{FailedOrNoRecord, record_bytes};
 
 use arbitrary_int::Watched;
@@ -26,8 +26,12 @@ pub struct Record {
 
 /// Writes the record, and nothing else. After a fault of the writer a beginning of the record was written.
 pub fn write<W: Write>(line: Record, writer: &mut Watched<W>) -> io::Result<()>
-    ensures all { OnOk result (Appends (W.contents (inner_of writer.old)) (W.contents (inner_of writer.new)) (record_bytes line.time line.level line.source line.reading)) }
-    ensures begun { OnErr result (AppendsBeginning (W.contents (inner_of writer.old)) (W.contents (inner_of writer.new)) (record_bytes line.time line.level line.source line.reading)) }
+    ensures all { OnOk result
+        (Appends (W.contents (inner_of writer.old)) (W.contents (inner_of writer.new))
+        (record_bytes line.time line.level line.source line.reading)) }
+    ensures begun { OnErr result
+        (AppendsBeginning (W.contents (inner_of writer.old)) (W.contents (inner_of writer.new))
+        (record_bytes line.time line.level line.source line.reading)) }
     ensures failed { OnErr result (IsTrue (has_failed writer.new)) }
 {
     line.time.serialize(writer)?;
@@ -39,8 +43,11 @@ pub fn write<W: Write>(line: Record, writer: &mut Watched<W>) -> io::Result<()>
 /// Reads the bytes of one record, and leaves what follows. A record that is there is refused only where the
 /// reader failed.
 pub fn read<R: Read>(reader: &mut Watched<R>) -> io::Result<Record>
-    ensures taken { IfOk result (λ x. Consumes (R.remaining (inner_of reader.old)) (R.remaining (inner_of reader.new)) (record_bytes x.time x.level x.source x.reading)) }
-    ensures why { OnErr result (FailedOrNoRecord (R.remaining (inner_of reader.old)) (has_failed reader.new)) }
+    ensures taken { IfOk result
+        (λ x. Consumes (R.remaining (inner_of reader.old)) (R.remaining (inner_of reader.new))
+        (record_bytes x.time x.level x.source x.reading)) }
+    ensures why { OnErr result
+        (FailedOrNoRecord (R.remaining (inner_of reader.old)) (has_failed reader.new)) }
 {
     let time = u40::deserialize_reader(reader)?;
     let level = u3::deserialize_reader(reader)?;

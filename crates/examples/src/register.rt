@@ -45,7 +45,8 @@ impl Control {
     /// The register's word that has these fields.
     // No two fields share a bit, so the sum puts them side by side.
     pub fn word(self) -> u32
-        ensures { pos result ≡ self.enable +ℤ pos 2 *ℤ self.prescaler +ℤ pos 16 *ℤ self.mode +ℤ pos 256 *ℤ self.reload }
+        ensures { pos result ≡ self.enable +ℤ pos 2 *ℤ self.prescaler +ℤ pos 16 *ℤ self.mode
+            +ℤ pos 256 *ℤ self.reload }
     {
         u32::from_(self.enable)
             + (u32::from_(self.prescaler) << 1)

@@ -4,8 +4,8 @@ ghost use Rattle.std.specs.Prelude.{◌≡◌, ◌+ℤ◌, ◌-ℤ◌, ◌*ℤ�
 ghost use Rattle.std.specs.List.{fold};
 ghost use Rattle.arbitrary_int.specs.BitList.{bits, val};
 ghost use Rattle.arbitrary_int.specs.Residue.{wrap};
-ghost use Rattle.arbitrary_int.specs.Saturation.{clamp};
-ghost use Rattle.arbitrary_int.specs.Total.{PartialsFit};
+ghost use Rattle.arbitrary_int.specs.Saturating.{clamp};
+ghost use Rattle.arbitrary_int.specs.Totals.{PartialsFit};
 
 use arbitrary_int::prelude::*;
 use arbitrary_int::try_sum;
@@ -49,7 +49,9 @@ pub fn millivolts(sample: i12) -> i32
 /// The sum of the samples, from the first on, and `None` where a partial sum is out of range: it tells an
 /// overflow, also one that later samples would undo.
 pub fn sum(samples: &[i12]) -> Option<i12>
-    ensures { MatchOption result (¬ (PartialsFit true 12 (λ a b. a +ℤ b) (pos 0) samples.now)) (λ x. PartialsFit true 12 (λ a b. a +ℤ b) (pos 0) samples.now × (x ≡ fold (λ a b. a +ℤ b) (pos 0) samples.now)) }
+    ensures { MatchOption result (¬ (PartialsFit true 12 (λ a b. a +ℤ b) (pos 0) samples.now))
+        (λ x. PartialsFit true 12 (λ a b. a +ℤ b) (pos 0) samples.now
+        × (x ≡ fold (λ a b. a +ℤ b) (pos 0) samples.now)) }
 {
     try_sum(samples.iter().copied())
 }

@@ -2,9 +2,9 @@
 //! steps that is moved to a wider type.
 
 ghost use Rattle.std.specs.Prelude.{◌≡◌, ◌*ℤ◌, true, map, length, Ok, All};
-ghost use Rattle.arbitrary_int.specs.Step.{StepWithin};
+ghost use Rattle.arbitrary_int.specs.Steps.{StepWithin};
 ghost use Rattle.arbitrary_int.specs.Residue.{wrap};
-ghost use Rattle.arbitrary_int.specs.Run.{RunOf};
+ghost use Rattle.arbitrary_int.specs.Runs.{RunOf};
 ghost use Rattle.arbitrary_int.specs.Widths.{RangeWithin, IsCheckedArithmetic};
 
 use arbitrary_int::prelude::*;
@@ -38,9 +38,11 @@ pub fn moved<A: FixedWidth, B: FixedWidth>(
     requires arithmetic { All IsCheckedArithmetic steps.now }
     requires range { RangeWithin A.IS_SIGNED A.BITS B.IS_SIGNED B.BITS }
     requires alike { map A.number registers.old ≡ map B.number wider.old }
-    ensures ending { result.0 ≡ (RunOf A.IS_SIGNED A.BITS steps.now (map A.number registers.old)).1 }
+    ensures ending { result.0
+        ≡ (RunOf A.IS_SIGNED A.BITS steps.now (map A.number registers.old)).1 }
     ensures same_ending { result.0 ≡ Ok tt → result.1 ≡ Ok tt }
-    ensures same_registers { result.0 ≡ Ok tt → map B.number wider.new ≡ map A.number registers.new }
+    ensures same_registers { result.0 ≡ Ok tt
+        → map B.number wider.new ≡ map A.number registers.new }
 {
     (run(steps, registers), run(steps, wider))
 }

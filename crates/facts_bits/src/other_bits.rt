@@ -9,7 +9,8 @@ use arbitrary_int::prelude::*;
 pub fn set(map: u24, place: u5) -> u24
     requires { place <ℤ pos 24 }
     ensures there { unsigned_abs result / 2 ^ unsigned_abs place % 2 ≡ 1 }
-    ensures others { (k : ℕ) → k ≢ unsigned_abs place → unsigned_abs result / 2 ^ k % 2 ≡ unsigned_abs map / 2 ^ k % 2 }
+    ensures others { (k : ℕ) → k ≢ unsigned_abs place
+        → unsigned_abs result / 2 ^ k % 2 ≡ unsigned_abs map / 2 ^ k % 2 }
 {
     map | (u24::new(1) << place.value())
 }
@@ -17,15 +18,18 @@ pub fn set(map: u24, place: u5) -> u24
 pub fn cleared(map: u24, place: u5) -> u24
     requires { place <ℤ pos 24 }
     ensures gone { unsigned_abs result / 2 ^ unsigned_abs place % 2 ≡ 0 }
-    ensures others { (k : ℕ) → k ≢ unsigned_abs place → unsigned_abs result / 2 ^ k % 2 ≡ unsigned_abs map / 2 ^ k % 2 }
+    ensures others { (k : ℕ) → k ≢ unsigned_abs place
+        → unsigned_abs result / 2 ^ k % 2 ≡ unsigned_abs map / 2 ^ k % 2 }
 {
     map & !(u24::new(1) << place.value())
 }
 
 pub fn turned(map: u24, place: u5) -> u24
     requires { place <ℤ pos 24 }
-    ensures turned { unsigned_abs result / 2 ^ unsigned_abs place % 2 ≡ 1 - unsigned_abs map / 2 ^ unsigned_abs place % 2 }
-    ensures others { (k : ℕ) → k ≢ unsigned_abs place → unsigned_abs result / 2 ^ k % 2 ≡ unsigned_abs map / 2 ^ k % 2 }
+    ensures turned { unsigned_abs result / 2 ^ unsigned_abs place % 2
+        ≡ 1 - unsigned_abs map / 2 ^ unsigned_abs place % 2 }
+    ensures others { (k : ℕ) → k ≢ unsigned_abs place
+        → unsigned_abs result / 2 ^ k % 2 ≡ unsigned_abs map / 2 ^ k % 2 }
 {
     map ^ (u24::new(1) << place.value())
 }

@@ -6,8 +6,10 @@ ghost use Rattle.arbitrary_int.specs.Range.{InRange, hi};
 use arbitrary_int::prelude::*;
 
 pub fn added_or_greatest<V: FixedWidth + ValidWidth>(a: V, b: V) -> V
-    ensures fits { InRange V.IS_SIGNED V.BITS (V.number a +ℤ V.number b) → V.number result ≡ V.number a +ℤ V.number b }
-    ensures ends { hi V.IS_SIGNED V.BITS <ℤ (V.number a +ℤ V.number b) → V.number result ≡ hi V.IS_SIGNED V.BITS }
+    ensures fits { InRange V.IS_SIGNED V.BITS (V.number a +ℤ V.number b)
+        → V.number result ≡ V.number a +ℤ V.number b }
+    ensures ends { hi V.IS_SIGNED V.BITS <ℤ (V.number a +ℤ V.number b)
+        → V.number result ≡ hi V.IS_SIGNED V.BITS }
 {
     match a.checked_add(b) {
         Some(sum) => sum,

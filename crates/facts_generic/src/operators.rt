@@ -92,8 +92,10 @@ pub fn added_to<V: FixedWidth + UnsignedInteger>(total: &mut V, x: V)
 }
 
 pub fn clamped_sum<V: FixedWidth + ValidWidth + UnsignedInteger>(x: V, y: V) -> V
-    ensures exact { let sum = V.number x +ℤ V.number y in sum ≤ℤ hi V.IS_SIGNED V.BITS → V.number result ≡ sum }
-    ensures above { let highest = hi V.IS_SIGNED V.BITS in highest <ℤ (V.number x +ℤ V.number y) → V.number result ≡ highest }
+    ensures exact { let sum = V.number x +ℤ V.number y in
+        sum ≤ℤ hi V.IS_SIGNED V.BITS → V.number result ≡ sum }
+    ensures above { let highest = hi V.IS_SIGNED V.BITS in
+        highest <ℤ (V.number x +ℤ V.number y) → V.number result ≡ highest }
 {
     if x > V::max_value() - y {
         V::max_value()

@@ -53,7 +53,8 @@ pub fn lowest_is_under_the_mask(register: u48, level: u7) -> bool
 #[tactic(auto, using(arbitrary_laws::proofs::Sets::masks))]
 pub fn other_bits_stay(map: u24, place: u5) -> u24
     requires { place <ℤ pos 24 }
-    ensures { (k : ℕ) → k ≢ unsigned_abs place → unsigned_abs result / 2 ^ k % 2 ≡ unsigned_abs map / 2 ^ k % 2 }
+    ensures { (k : ℕ) → k ≢ unsigned_abs place
+        → unsigned_abs result / 2 ^ k % 2 ≡ unsigned_abs map / 2 ^ k % 2 }
 {
     map | (u24::new(1) << place.value())
 }
@@ -79,7 +80,8 @@ pub fn complement_is_tested(map: u24, place: u8) -> bool
 
 #[tactic(auto, using(arbitrary_laws::proofs::Sets::fields))]
 pub fn six_fields(a: u7, b: u5, c: u5, d: u3, e: u5, f: u7) -> u32
-    ensures { pos result ≡ pos 33554432 *ℤ a +ℤ pos 1048576 *ℤ b +ℤ pos 32768 *ℤ c +ℤ pos 4096 *ℤ d +ℤ pos 128 *ℤ e +ℤ f }
+    ensures { pos result ≡ pos 33554432 *ℤ a +ℤ pos 1048576 *ℤ b +ℤ pos 32768 *ℤ c +ℤ pos 4096 *ℤ d
+        +ℤ pos 128 *ℤ e +ℤ f }
 {
     (u32::from_(a) << 25)
         | (u32::from_(b) << 20)

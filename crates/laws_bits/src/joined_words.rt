@@ -9,7 +9,8 @@ ghost use Rattle.arbitrary_int.specs.Residue.{Congruent, wrap};
 use arbitrary_int::prelude::*;
 
 pub fn three_above_a_number(second: u5, first: u5, target: u5) -> u32
-    ensures { pos result ≡ pos 1048576 *ℤ second +ℤ pos 32768 *ℤ first +ℤ pos 128 *ℤ target +ℤ pos 51 }
+    ensures { pos result ≡ pos 1048576 *ℤ second +ℤ pos 32768 *ℤ first +ℤ pos 128 *ℤ target
+        +ℤ pos 51 }
 {
     (second.as_u32() << 20) | (first.as_u32() << 15) | (target.as_u32() << 7) | 0x33
 }
@@ -35,7 +36,9 @@ pub fn seven(
     payload: u7,
     sequence: u16,
 ) -> u32
-    ensures { pos result ≡ pos 1073741824 *ℤ version +ℤ pos 536870912 *ℤ padding +ℤ pos 268435456 *ℤ extension +ℤ pos 16777216 *ℤ sources +ℤ pos 8388608 *ℤ marker +ℤ pos 65536 *ℤ payload +ℤ pos sequence }
+    ensures { pos result ≡ pos 1073741824 *ℤ version +ℤ pos 536870912 *ℤ padding
+        +ℤ pos 268435456 *ℤ extension +ℤ pos 16777216 *ℤ sources +ℤ pos 8388608 *ℤ marker
+        +ℤ pos 65536 *ℤ payload +ℤ pos sequence }
 {
     (version.as_u32() << 30)
         | (padding.as_u32() << 29)
@@ -47,7 +50,8 @@ pub fn seven(
 }
 
 pub fn eight(a: u4, b: u4, c: u4, d: u4, e: u4, f: u4, g: u4, h: u4) -> u32
-    ensures { pos result ≡ pos 268435456 *ℤ a +ℤ pos 16777216 *ℤ b +ℤ pos 1048576 *ℤ c +ℤ pos 65536 *ℤ d +ℤ pos 4096 *ℤ e +ℤ pos 256 *ℤ f +ℤ pos 16 *ℤ g +ℤ h }
+    ensures { pos result ≡ pos 268435456 *ℤ a +ℤ pos 16777216 *ℤ b +ℤ pos 1048576 *ℤ c
+        +ℤ pos 65536 *ℤ d +ℤ pos 4096 *ℤ e +ℤ pos 256 *ℤ f +ℤ pos 16 *ℤ g +ℤ h }
 {
     (a.as_u32() << 28)
         | (b.as_u32() << 24)
@@ -60,7 +64,8 @@ pub fn eight(a: u4, b: u4, c: u4, d: u4, e: u4, f: u4, g: u4, h: u4) -> u32
 }
 
 pub fn six_low_first(a: u6, b: u5, c: u5, d: u5, e: u5, f: u6) -> u32
-    ensures { pos result ≡ pos 67108864 *ℤ f +ℤ pos 2097152 *ℤ e +ℤ pos 65536 *ℤ d +ℤ pos 2048 *ℤ c +ℤ pos 64 *ℤ b +ℤ a }
+    ensures { pos result ≡ pos 67108864 *ℤ f +ℤ pos 2097152 *ℤ e +ℤ pos 65536 *ℤ d +ℤ pos 2048 *ℤ c
+        +ℤ pos 64 *ℤ b +ℤ a }
 {
     a.as_u32()
         | (b.as_u32() << 6)
@@ -71,19 +76,22 @@ pub fn six_low_first(a: u6, b: u5, c: u5, d: u5, e: u5, f: u6) -> u32
 }
 
 pub fn numbers_at_two_places(a: u6, b: u5, c: u3, d: u5) -> u32
-    ensures { pos result ≡ pos 2147483648 +ℤ pos 16777216 *ℤ d +ℤ pos 2097152 *ℤ c +ℤ pos 65536 *ℤ b +ℤ pos 8192 +ℤ a }
+    ensures { pos result ≡ pos 2147483648 +ℤ pos 16777216 *ℤ d +ℤ pos 2097152 *ℤ c +ℤ pos 65536 *ℤ b
+        +ℤ pos 8192 +ℤ a }
 {
     0x8000_0000 | (d.as_u32() << 24) | (c.as_u32() << 21) | (b.as_u32() << 16) | 0x2000 | a.as_u32()
 }
 
 pub fn parts_of_a_byte(target: u4, number: u8) -> u16
-    ensures { pos result ≡ pos 57344 +ℤ pos 256 *ℤ pos (number / 16) +ℤ pos 16 *ℤ target +ℤ pos (number % 16) }
+    ensures { pos result ≡ pos 57344 +ℤ pos 256 *ℤ pos (number / 16) +ℤ pos 16 *ℤ target
+        +ℤ pos (number % 16) }
 {
     0xE000 | (u16::from(number >> 4) << 8) | (target.as_u16() << 4) | u16::from(number & 15)
 }
 
 pub fn flags(a: bool, b: bool, c: bool, d: bool) -> u8
-    ensures { result ≡ (if a then 8 else 0) + (if b then 4 else 0) + (if c then 2 else 0) + (if d then 1 else 0) }
+    ensures { result ≡ (if a then 8 else 0) + (if b then 4 else 0) + (if c then 2 else 0)
+        + (if d then 1 else 0) }
 {
     (u8::from(a) << 3) | (u8::from(b) << 2) | (u8::from(c) << 1) | u8::from(d)
 }
@@ -105,7 +113,9 @@ pub struct Descriptor {
 
 impl Descriptor {
     pub fn pack(&self) -> u64
-        ensures { pos result ≡ pos 9223372036854775808 *ℤ self.now.interrupts +ℤ pos 4611686018427387904 *ℤ self.now.is_last +ℤ pos 281474976710656 *ℤ self.now.bytes +ℤ self.now.address }
+        ensures { pos result ≡ pos 9223372036854775808 *ℤ self.now.interrupts
+            +ℤ pos 4611686018427387904 *ℤ self.now.is_last +ℤ pos 281474976710656 *ℤ self.now.bytes
+            +ℤ self.now.address }
     {
         (self.interrupts.as_u64() << 63)
             | (self.is_last.as_u64() << 62)
@@ -126,7 +136,8 @@ pub struct Label {
 impl Label {
     // Behind a reference no call but `as_u32` says that a byte is one.
     pub fn pack(&self) -> u32
-        ensures { pos result ≡ pos 4096 *ℤ self.now.label +ℤ pos 512 *ℤ self.now.traffic +ℤ pos (if self.now.bottom then 256 else 0) +ℤ pos self.now.lifetime }
+        ensures { pos result ≡ pos 4096 *ℤ self.now.label +ℤ pos 512 *ℤ self.now.traffic
+            +ℤ pos (if self.now.bottom then 256 else 0) +ℤ pos self.now.lifetime }
     {
         (self.label.value() << 12)
             | (self.traffic.as_u32() << 9)
@@ -147,7 +158,8 @@ pub struct Instruction {
 
 impl Instruction {
     pub fn encode(self) -> u32
-        ensures { pos result ≡ pos 1048576 *ℤ self.number +ℤ pos 32768 *ℤ self.source +ℤ pos 4096 *ℤ self.function +ℤ pos 128 *ℤ self.target +ℤ self.operation }
+        ensures { pos result ≡ pos 1048576 *ℤ self.number +ℤ pos 32768 *ℤ self.source
+            +ℤ pos 4096 *ℤ self.function +ℤ pos 128 *ℤ self.target +ℤ self.operation }
     {
         (self.number.as_u32() << 20)
             | (self.source.as_u32() << 15)
@@ -180,7 +192,8 @@ pub fn decoded_of_encoded(instruction: Instruction) -> Instruction
 }
 
 pub fn signed_beside_fields(number: i12, source: u5, target: u5) -> u32
-    ensures { pos result ≡ pos 1048576 *ℤ wrap false 12 number +ℤ pos 32768 *ℤ source +ℤ pos 128 *ℤ target }
+    ensures { pos result ≡ pos 1048576 *ℤ wrap false 12 number +ℤ pos 32768 *ℤ source
+        +ℤ pos 128 *ℤ target }
 {
     (number.to_unsigned().as_u32() << 20) | (source.as_u32() << 15) | (target.as_u32() << 7)
 }

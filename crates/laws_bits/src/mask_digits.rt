@@ -7,13 +7,15 @@ ghost use Rattle.std.specs.Prelude.{◌≡◌, ◌↔◌, ◌<◌, ◌+◌, ◌*
 use arbitrary_int::prelude::*;
 
 pub fn both_set(flags: u9) -> bool
-    ensures { IsTrue result ↔ ((unsigned_abs flags / 2 % 2 ≡ 1) × (unsigned_abs flags / 16 % 2 ≡ 1)) }
+    ensures { IsTrue result
+        ↔ ((unsigned_abs flags / 2 % 2 ≡ 1) × (unsigned_abs flags / 16 % 2 ≡ 1)) }
 {
     flags & u9::new(0x12) == u9::new(0x12)
 }
 
 pub fn neither_set(flags: u24) -> bool
-    ensures { IsTrue result ↔ ((unsigned_abs flags / 128 % 2 ≡ 0) × (unsigned_abs flags / 65536 % 2 ≡ 0)) }
+    ensures { IsTrue result
+        ↔ ((unsigned_abs flags / 128 % 2 ≡ 0) × (unsigned_abs flags / 65536 % 2 ≡ 0)) }
 {
     flags & u24::new(0x1_0080) == u24::new(0)
 }
@@ -25,7 +27,8 @@ pub fn both_set_in_a_register(status: u32) -> bool
 }
 
 pub fn three_clear(status: u16) -> bool
-    ensures { IsTrue result ↔ ((status / 2 % 2 ≡ 0) × (status / 16 % 2 ≡ 0) × (status / 32768 ≡ 0)) }
+    ensures { IsTrue result
+        ↔ ((status / 2 % 2 ≡ 0) × (status / 16 % 2 ≡ 0) × (status / 32768 ≡ 0)) }
 {
     status & 0x8012 == 0
 }

@@ -13,7 +13,8 @@ pub fn sum_of_three<V: FixedWidth>(a: V, b: V, c: V) -> V
 }
 
 pub fn moved_by_a_difference<V: FixedWidth>(position: V, to: V, from: V) -> V
-    ensures { Congruent V.BITS (V.number result) (V.number position +ℤ V.number to -ℤ V.number from) }
+    ensures { Congruent V.BITS (V.number result)
+        (V.number position +ℤ V.number to -ℤ V.number from) }
 {
     position.wrapping_add(to.wrapping_sub(from))
 }
@@ -37,7 +38,8 @@ pub fn product_of_three(a: u24, b: u24, c: u24) -> u24
 }
 
 pub fn polynomial_of_any_type<V: FixedWidth>(a: V, b: V, c: V, x: V) -> V
-    ensures { Congruent V.BITS (V.number result) ((V.number a *ℤ V.number x +ℤ V.number b) *ℤ V.number x +ℤ V.number c) }
+    ensures { Congruent V.BITS (V.number result)
+        ((V.number a *ℤ V.number x +ℤ V.number b) *ℤ V.number x +ℤ V.number c) }
 {
     a.wrapping_mul(x)
         .wrapping_add(b)
@@ -46,7 +48,8 @@ pub fn polynomial_of_any_type<V: FixedWidth>(a: V, b: V, c: V, x: V) -> V
 }
 
 pub fn checksum_of_five<V: FixedWidth>(a: V, b: V, c: V, d: V, e: V) -> V
-    ensures { Congruent V.BITS (V.number result) (V.number a +ℤ V.number b +ℤ V.number c +ℤ V.number d +ℤ V.number e) }
+    ensures { Congruent V.BITS (V.number result)
+        (V.number a +ℤ V.number b +ℤ V.number c +ℤ V.number d +ℤ V.number e) }
 {
     a.wrapping_add(b)
         .wrapping_add(c)

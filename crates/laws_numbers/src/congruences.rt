@@ -38,7 +38,8 @@ pub fn even_offset(x: u4) -> i13
 }
 
 pub fn counted_in_two_words(low: &mut u16, high: &mut u13)
-    ensures { Congruent 29 (pos 65536 *ℤ high.new +ℤ pos low.new) (pos 65536 *ℤ high.old +ℤ pos low.old +ℤ pos 1) }
+    ensures { Congruent 29 (pos 65536 *ℤ high.new +ℤ pos low.new)
+        (pos 65536 *ℤ high.old +ℤ pos low.old +ℤ pos 1) }
 {
     if *low == u16::MAX {
         *low = 0;

@@ -2,7 +2,7 @@
 #![tactic(auto, using(arbitrary_laws::proofs::Sets::orders))]
 
 ghost use Rattle.std.specs.Prelude.{◌≡◌, true, IsTrue};
-ghost use Rattle.arbitrary_int.specs.Saturation.{clamp};
+ghost use Rattle.arbitrary_int.specs.Saturating.{clamp};
 
 use arbitrary_int::prelude::*;
 

@@ -1,6 +1,6 @@
 -- What the words of a record say of a struct of seven fields.
 use Rattle.std.specs.Prelude.{ℕ, ℤ, true, false, pos}
-use Rattle.bit_fields.specs.HasNumber.{HasNumber}
+use Rattle.bit_fields.specs.BitField.{HasNumber}
 use Rattle.laws_words.specs.declared.fields.Frame.{Frame}
 
 -- the word has each field of the frame in its place

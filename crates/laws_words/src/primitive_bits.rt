@@ -14,7 +14,8 @@ pub struct Port {
 impl Port {
     pub fn set(&mut self, pin: u4)
         ensures there { self.new.out / 2 ^ unsigned_abs pin % 2 ≡ 1 }
-        ensures others { (i : ℕ) → i ≢ unsigned_abs pin → self.new.out / 2 ^ i % 2 ≡ self.old.out / 2 ^ i % 2 }
+        ensures others { (i : ℕ) → i ≢ unsigned_abs pin
+            → self.new.out / 2 ^ i % 2 ≡ self.old.out / 2 ^ i % 2 }
         ensures direction { self.new.direction ≡ self.old.direction }
     {
         self.out |= 1 << pin.value();

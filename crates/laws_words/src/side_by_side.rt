@@ -70,7 +70,8 @@ pub fn colour_by_as(red: u5, green: u6, blue: u5) -> u16
 }
 
 pub fn four_by_as_low_first(operation: u7, target: u5, function: u3, source: u5) -> u32
-    ensures { pos result ≡ operation +ℤ pos 128 *ℤ target +ℤ pos 4096 *ℤ function +ℤ pos 32768 *ℤ source }
+    ensures { pos result ≡ operation +ℤ pos 128 *ℤ target +ℤ pos 4096 *ℤ function
+        +ℤ pos 32768 *ℤ source }
 {
     operation.as_u32()
         | (target.as_u32() << 7)
@@ -91,7 +92,8 @@ pub fn five_of_an_instruction(
     target: u5,
     function: u11,
 ) -> u32
-    ensures { pos result ≡ pos 67108864 *ℤ operation +ℤ pos 2097152 *ℤ source +ℤ pos 65536 *ℤ other +ℤ pos 2048 *ℤ target +ℤ function }
+    ensures { pos result ≡ pos 67108864 *ℤ operation +ℤ pos 2097152 *ℤ source +ℤ pos 65536 *ℤ other
+        +ℤ pos 2048 *ℤ target +ℤ function }
 {
     (u32::from_(operation) << 26)
         | (u32::from_(source) << 21)
@@ -149,7 +151,8 @@ pub fn four_in_their_own_type(a: u3, b: u6, c: u6, d: u6) -> u21
 }
 
 pub fn five_in_their_own_type(a: u7, b: u5, c: u5, d: u3, e: u12) -> u48
-    ensures { result ≡ pos 33554432 *ℤ a +ℤ pos 1048576 *ℤ b +ℤ pos 32768 *ℤ c +ℤ pos 4096 *ℤ d +ℤ e }
+    ensures { result ≡ pos 33554432 *ℤ a +ℤ pos 1048576 *ℤ b +ℤ pos 32768 *ℤ c +ℤ pos 4096 *ℤ d
+        +ℤ e }
 {
     (u48::from_(a) << 25)
         | (u48::from_(b) << 20)

@@ -56,7 +56,8 @@ pub fn jump_back(counter: u16, offset: i9) -> u16
 // ---- fields
 
 pub fn add_immediate(target: u5, source: u5, immediate: i12) -> u32
-    ensures { pos result ≡ wrap false 12 immediate *ℤ pos 1048576 +ℤ source *ℤ pos 32768 +ℤ target *ℤ pos 128 +ℤ pos 19 }
+    ensures { pos result ≡ wrap false 12 immediate *ℤ pos 1048576 +ℤ source *ℤ pos 32768
+        +ℤ target *ℤ pos 128 +ℤ pos 19 }
 {
     (u32::from(immediate.to_bits()) << 20)
         | (u32::from_(source) << 15)

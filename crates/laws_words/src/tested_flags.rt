@@ -18,7 +18,8 @@ pub fn reply(response: bool, opcode: u4, code: u4) -> u16
 }
 
 pub fn desired_reply(response: bool, opcode: u4, desired: bool, code: u4) -> u16
-    ensures { pos result ≡ pos (if response then 32768 else 0) +ℤ opcode *ℤ pos 2048 +ℤ pos (if desired then 256 else 0) +ℤ code }
+    ensures { pos result ≡ pos (if response then 32768 else 0) +ℤ opcode *ℤ pos 2048
+        +ℤ pos (if desired then 256 else 0) +ℤ code }
 {
     let mut word = u16::from(opcode.value()) << 11;
     if response {
@@ -31,7 +32,8 @@ pub fn desired_reply(response: bool, opcode: u4, desired: bool, code: u4) -> u16
 }
 
 pub fn frame(urgent: bool, level: u3, last: bool) -> u8
-    ensures { pos result ≡ pos (if urgent then 128 else 0) +ℤ level *ℤ pos 16 +ℤ pos (if last then 1 else 0) }
+    ensures { pos result ≡ pos (if urgent then 128 else 0) +ℤ level *ℤ pos 16
+        +ℤ pos (if last then 1 else 0) }
 {
     let mut word = u8::from(level) << 4;
     if urgent {

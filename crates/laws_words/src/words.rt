@@ -36,7 +36,8 @@ pub fn marked(x: u3, y: u3) -> u8
 }
 
 pub fn six_fields(op: u6, rs: u5, rt: u5, rd: u5, shift: u5, function: u6) -> u32
-    ensures { pos result ≡ op *ℤ pos 67108864 +ℤ rs *ℤ pos 2097152 +ℤ rt *ℤ pos 65536 +ℤ rd *ℤ pos 2048 +ℤ shift *ℤ pos 64 +ℤ function }
+    ensures { pos result ≡ op *ℤ pos 67108864 +ℤ rs *ℤ pos 2097152 +ℤ rt *ℤ pos 65536
+        +ℤ rd *ℤ pos 2048 +ℤ shift *ℤ pos 64 +ℤ function }
 {
     op.as_u32() << 26
         | rs.as_u32() << 21
@@ -73,7 +74,8 @@ pub fn single_precision(sign: u1, exponent: u8, mantissa: u23) -> u32
 }
 
 pub fn double_precision(sign: u1, exponent: u11, mantissa: u52) -> u64
-    ensures { pos result ≡ sign *ℤ pos 9223372036854775808 +ℤ exponent *ℤ pos 4503599627370496 +ℤ mantissa }
+    ensures { pos result ≡ sign *ℤ pos 9223372036854775808 +ℤ exponent *ℤ pos 4503599627370496
+        +ℤ mantissa }
 {
     (u64::from(sign) << 63) | (u64::from(exponent) << 52) | mantissa.value()
 }
@@ -99,7 +101,8 @@ pub fn pressure(high: u8, middle: u8, low: u8) -> u20
 // ---- below a number that is written out, and read back
 
 pub fn load_immediate(register: u4, byte: u8) -> u16
-    ensures { pos result ≡ pos 57344 +ℤ pos (byte / 16 * 256) +ℤ register *ℤ pos 16 +ℤ pos (byte % 16) }
+    ensures { pos result ≡ pos 57344 +ℤ pos (byte / 16 * 256) +ℤ register *ℤ pos 16
+        +ℤ pos (byte % 16) }
 {
     0xE000 | (u16::from(byte >> 4) << 8) | (u16::from(register) << 4) | u16::from(byte & 0x0F)
 }

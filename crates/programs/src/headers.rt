@@ -30,7 +30,8 @@ pub fn high_bit(x: u12) -> bool
 }
 
 pub fn encode(operation: u6, source: u5, target: u5, immediate: u16) -> u32
-    ensures { pos result ≡ pos 67108864 *ℤ operation +ℤ pos 2097152 *ℤ source +ℤ pos 65536 *ℤ target +ℤ pos immediate }
+    ensures { pos result ≡ pos 67108864 *ℤ operation +ℤ pos 2097152 *ℤ source +ℤ pos 65536 *ℤ target
+        +ℤ pos immediate }
 {
     (u32::from_(operation) << 26)
         + (u32::from_(source) << 21)
@@ -94,7 +95,8 @@ pub struct Pixel {
 }
 
 pub fn pixel_to_word(pixel: &Pixel) -> u16
-    ensures { pos result ≡ pos 2048 *ℤ pixel.now.red +ℤ pos 32 *ℤ pixel.now.green +ℤ pixel.now.blue }
+    ensures { pos result ≡ pos 2048 *ℤ pixel.now.red +ℤ pos 32 *ℤ pixel.now.green
+        +ℤ pixel.now.blue }
 {
     (pixel.red.as_u16() << 11) + (pixel.green.as_u16() << 5) + pixel.blue.as_u16()
 }

@@ -7,7 +7,7 @@ use Rattle.std.proofs.lemmas.Int.{ints}
 use Rattle.std.proofs.lemmas.List.{get_or-drop, length-drop, reverse-reverse}
 use Rattle.std.proofs.lemmas.Nat.{mod-pow-add, pow-add, pow_pos}
 use Rattle.arbitrary_base.specs.BitList.{bits, num}
-use Rattle.arbitrary_base.specs.Bytes.{BorshBytes, Canonical, bytes, bytes_number}
+use Rattle.arbitrary_base.specs.ByteLists.{BorshBytes, Canonical, bytes, bytes_number}
 use Rattle.arbitrary_base.specs.Range.{InRange}
 use Rattle.arbitrary_base.specs.Residue.{Congruent, residue, wrap}
 use Rattle.arbitrary_base.proofs.bit_lists.TwosComplement.{bits-residue, bits-wrap, num-bits_residue}

@@ -1,8 +1,8 @@
 -- One more read, and one more write.
 use Rattle.std.proofs.Common.{◌≡◌, ℕ, ◌+◌, ◌-◌, ◌≤◌, List, ◌++◌, length, take, drop, Option, sym, ap, ◌∙◌, subst, arith, length-append, length-take, take-add, take_all, length-drop, min}
 use Rattle.std.specs.Io.KnownBytes.{Appends, Consumes}
-use Rattle.arbitrary_base.specs.Stream.{AppendsBeginning}
-use Rattle.arbitrary_base.specs.Watching.{NoFailure}
+use Rattle.arbitrary_base.specs.Streams.{AppendsBeginning}
+use Rattle.arbitrary_base.specs.Watched.{NoFailure}
 use Rattle.arbitrary_base.specs.declared.watched.Watched.{Watched}
 use Rattle.std.proofs.KnownBytes.{Appends-trans, Consumes-trans}
 use Rattle.std.proofs.lemmas.List.{take-append-le, take_min}

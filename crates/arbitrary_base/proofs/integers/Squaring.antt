@@ -12,7 +12,7 @@ use Rattle.std.proofs.lemmas.Bool.Decides.{Decides-int_eq}
 use Rattle.std.proofs.lemmas.Nat.{pow_pos, mul-le}
 use Rattle.arbitrary_base.specs.Range.{lo, hi, InRange, range_end}
 use Rattle.arbitrary_base.specs.Residue.{wrap}
-use Rattle.arbitrary_base.specs.Saturation.{clamp}
+use Rattle.arbitrary_base.specs.Saturating.{clamp}
 use Rattle.arbitrary_base.proofs.integers.Ring.{mul_assoc_z}
 use Rattle.arbitrary_base.proofs.modular.Congruence.{pow_half, pow_le}
 use Rattle.arbitrary_base.proofs.modular.Residue.{wrap-of_in_range}

@@ -7,7 +7,7 @@ use Rattle.std.proofs.lemmas.Int.{ints}
 use Rattle.std.proofs.lemmas.Nat.{pow_pos}
 use Rattle.arbitrary_base.specs.Range.{InRange, lo}
 use Rattle.arbitrary_base.specs.Residue.{Congruent, residue, wrap}
-use Rattle.arbitrary_base.specs.Saturation.{clamp}
+use Rattle.arbitrary_base.specs.Saturating.{clamp}
 use Rattle.arbitrary_base.proofs.integers.Powers.{one-mul_z, power-one, power-suc}
 use Rattle.arbitrary_base.proofs.modular.Congruence.{Congruent-narrower, pow_half}
 use Rattle.arbitrary_base.proofs.modular.Residue.{residue-congruent, wrap-of_in_range, wrap-same}

@@ -5,7 +5,7 @@ ghost use Rattle.std.specs.Int.{int_pow};
 ghost use Rattle.std.specs.Int.Digits.{digits_of};
 ghost use Rattle.arbitrary_base.specs.Range.{InRange, in_range, lo, hi};
 ghost use Rattle.arbitrary_base.specs.Residue.{Congruent, wrap};
-ghost use Rattle.arbitrary_base.specs.Saturation.{clamp};
+ghost use Rattle.arbitrary_base.specs.Saturating.{clamp};
 ghost use Rattle.arbitrary_base.specs.Operation.{wrapped_product};
 
 use crate::low_bits::LowBits;
@@ -29,8 +29,8 @@ pub trait ProductCalls: Stored + LowBits {
             InRange Self.IS_SIGNED Self.BITS product → Self.number result ≡ product }
         ensures congruent { let product = Self.number self *ℤ Self.number rhs in
             Congruent Self.BITS (Self.number result) product }
-        ensures range { InRange Self.IS_SIGNED Self.BITS (Self.number self) }
-        ensures operand { InRange Self.IS_SIGNED Self.BITS (Self.number rhs) }
+        ensures self_in_range { InRange Self.IS_SIGNED Self.BITS (Self.number self) }
+        ensures rhs_in_range { InRange Self.IS_SIGNED Self.BITS (Self.number rhs) }
         ensures width { Self.valid }
     {
         Self::from_u128_bits(self.low_bits().wrapping_mul(rhs.low_bits()))
@@ -49,10 +49,10 @@ pub trait ProductCalls: Stored + LowBits {
         ensures below { let product = Self.number self *ℤ Self.number rhs in
             let lowest = lo Self.IS_SIGNED Self.BITS in
             product <ℤ lowest → Self.number result ≡ lowest }
-        ensures range { InRange Self.IS_SIGNED Self.BITS (Self.number self) }
-        ensures bounded { InRange Self.IS_SIGNED Self.BITS (Self.number result) }
+        ensures self_in_range { InRange Self.IS_SIGNED Self.BITS (Self.number self) }
+        ensures result_in_range { InRange Self.IS_SIGNED Self.BITS (Self.number result) }
         ensures swap { Self.number self *ℤ Self.number rhs ≡ Self.number rhs *ℤ Self.number self }
-        ensures operand { InRange Self.IS_SIGNED Self.BITS (Self.number rhs) }
+        ensures rhs_in_range { InRange Self.IS_SIGNED Self.BITS (Self.number rhs) }
         ensures width { Self.valid }
     {
         Self::from_storage(saturating::mul(self.to_storage(), rhs.to_storage(), Self::BITS))
@@ -64,8 +64,8 @@ pub trait ProductCalls: Stored + LowBits {
             let fits = InRange Self.IS_SIGNED Self.BITS product in
             SomeIff (option_map Self.number result) fits product }
         ensures swap { Self.number self *ℤ Self.number rhs ≡ Self.number rhs *ℤ Self.number self }
-        ensures range { InRange Self.IS_SIGNED Self.BITS (Self.number self) }
-        ensures operand { InRange Self.IS_SIGNED Self.BITS (Self.number rhs) }
+        ensures self_in_range { InRange Self.IS_SIGNED Self.BITS (Self.number self) }
+        ensures rhs_in_range { InRange Self.IS_SIGNED Self.BITS (Self.number rhs) }
         ensures width { Self.valid }
     {
         match checked::mul(self.to_storage(), rhs.to_storage(), Self::BITS) {
@@ -90,8 +90,8 @@ pub trait ProductCalls: Stored + LowBits {
         ensures congruent { let product = Self.number self *ℤ Self.number rhs in
             Congruent Self.BITS (Self.number result.0) product }
         ensures swap { Self.number self *ℤ Self.number rhs ≡ Self.number rhs *ℤ Self.number self }
-        ensures range { InRange Self.IS_SIGNED Self.BITS (Self.number self) }
-        ensures operand { InRange Self.IS_SIGNED Self.BITS (Self.number rhs) }
+        ensures self_in_range { InRange Self.IS_SIGNED Self.BITS (Self.number self) }
+        ensures rhs_in_range { InRange Self.IS_SIGNED Self.BITS (Self.number rhs) }
         ensures width { Self.valid }
     {
         let (product, overflow) = overflowing::mul(self.to_storage(), rhs.to_storage(), Self::BITS);
@@ -112,8 +112,8 @@ pub trait ProductCalls: Stored + LowBits {
         ensures itself { let number = Self.number in
             InRange Self.IS_SIGNED Self.BITS (pos 1) → number self ≡ number rhs
             → number result ≡ pos 1 }
-        ensures range { InRange Self.IS_SIGNED Self.BITS (Self.number self) }
-        ensures operand { InRange Self.IS_SIGNED Self.BITS (Self.number rhs) }
+        ensures self_in_range { InRange Self.IS_SIGNED Self.BITS (Self.number self) }
+        ensures rhs_in_range { InRange Self.IS_SIGNED Self.BITS (Self.number rhs) }
         ensures width { Self.valid }
     {
         Self::from_storage(wrapping::div(self.to_storage(), rhs.to_storage(), Self::BITS))
@@ -133,12 +133,12 @@ pub trait ProductCalls: Stored + LowBits {
         ensures below { let quotient = int_div (Self.number self) (Self.number rhs) in
             let lowest = lo Self.IS_SIGNED Self.BITS in
             quotient <ℤ lowest → Self.number result ≡ lowest }
-        ensures range { InRange Self.IS_SIGNED Self.BITS (Self.number self) }
-        ensures bounded { InRange Self.IS_SIGNED Self.BITS (Self.number result) }
+        ensures self_in_range { InRange Self.IS_SIGNED Self.BITS (Self.number self) }
+        ensures result_in_range { InRange Self.IS_SIGNED Self.BITS (Self.number result) }
         ensures itself { let number = Self.number in
             InRange Self.IS_SIGNED Self.BITS (pos 1) → number self ≡ number rhs
             → number result ≡ pos 1 }
-        ensures operand { InRange Self.IS_SIGNED Self.BITS (Self.number rhs) }
+        ensures rhs_in_range { InRange Self.IS_SIGNED Self.BITS (Self.number rhs) }
         ensures width { Self.valid }
     {
         Self::from_storage(saturating::div(self.to_storage(), rhs.to_storage(), Self::BITS))
@@ -151,8 +151,8 @@ pub trait ProductCalls: Stored + LowBits {
             SomeIff (option_map Self.number result) ((Self.number rhs ≢ pos 0) × fits) quotient }
         ensures itself { let quotient = int_div (Self.number self) (Self.number rhs) in
             Self.number rhs ≢ pos 0 → Self.number self ≡ Self.number rhs → quotient ≡ pos 1 }
-        ensures range { InRange Self.IS_SIGNED Self.BITS (Self.number self) }
-        ensures operand { InRange Self.IS_SIGNED Self.BITS (Self.number rhs) }
+        ensures self_in_range { InRange Self.IS_SIGNED Self.BITS (Self.number self) }
+        ensures rhs_in_range { InRange Self.IS_SIGNED Self.BITS (Self.number rhs) }
         ensures width { Self.valid }
     {
         match checked::div(self.to_storage(), rhs.to_storage(), Self::BITS) {
@@ -179,8 +179,8 @@ pub trait ProductCalls: Stored + LowBits {
         ensures itself { let number = Self.number in
             InRange Self.IS_SIGNED Self.BITS (pos 1) → number self ≡ number rhs
             → number result.0 ≡ pos 1 }
-        ensures range { InRange Self.IS_SIGNED Self.BITS (Self.number self) }
-        ensures operand { InRange Self.IS_SIGNED Self.BITS (Self.number rhs) }
+        ensures self_in_range { InRange Self.IS_SIGNED Self.BITS (Self.number self) }
+        ensures rhs_in_range { InRange Self.IS_SIGNED Self.BITS (Self.number rhs) }
         ensures width { Self.valid }
     {
         let (quotient, overflow) = overflowing::div(
@@ -204,8 +204,8 @@ pub trait ProductCalls: Stored + LowBits {
         ensures below { let power = int_pow (Self.number self) exp in
             let lowest = lo Self.IS_SIGNED Self.BITS in
             power <ℤ lowest → Self.number result ≡ lowest }
-        ensures range { InRange Self.IS_SIGNED Self.BITS (Self.number self) }
-        ensures bounded { InRange Self.IS_SIGNED Self.BITS (Self.number result) }
+        ensures self_in_range { InRange Self.IS_SIGNED Self.BITS (Self.number self) }
+        ensures result_in_range { InRange Self.IS_SIGNED Self.BITS (Self.number result) }
         ensures first { exp ≡ 1 → Self.number result ≡ Self.number self }
         ensures of_one { Self.number self ≡ pos 1 → Self.number result ≡ pos 1 }
         ensures of_zero { Self.number self ≡ pos 0 → 1 ≤ exp → Self.number result ≡ pos 0 }
@@ -230,8 +230,8 @@ pub trait ProductCalls: Stored + LowBits {
         ensures below { let power = int_pow (Self.number self) exp in
             let lowest = lo Self.IS_SIGNED Self.BITS in
             power <ℤ lowest → Self.number result.0 ≡ lowest }
-        ensures range { InRange Self.IS_SIGNED Self.BITS (Self.number self) }
-        ensures bounded { InRange Self.IS_SIGNED Self.BITS (Self.number result.0) }
+        ensures self_in_range { InRange Self.IS_SIGNED Self.BITS (Self.number self) }
+        ensures result_in_range { InRange Self.IS_SIGNED Self.BITS (Self.number result.0) }
         ensures first { exp ≡ 1 → Self.number result.0 ≡ Self.number self }
         ensures of_one { Self.number self ≡ pos 1 → Self.number result.0 ≡ pos 1 }
         ensures of_zero { Self.number self ≡ pos 0 → 1 ≤ exp → Self.number result.0 ≡ pos 0 }

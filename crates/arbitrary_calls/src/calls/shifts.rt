@@ -33,7 +33,7 @@ pub trait ShiftCalls: Stored + LowBits {
             let product = Self.number self *ℤ pos (2 ^ places) in
             (y : ℤ) → y ≡ product → Congruent Self.BITS (Self.number result) y }
         ensures none { amount % Self.BITS ≡ 0 → Self.number result ≡ Self.number self }
-        ensures operand { InRange Self.IS_SIGNED Self.BITS (Self.number self) }
+        ensures self_in_range { InRange Self.IS_SIGNED Self.BITS (Self.number self) }
         ensures width { Self.valid }
     {
         let storage = self.to_storage();
@@ -54,7 +54,7 @@ pub trait ShiftCalls: Stored + LowBits {
         ensures congruent { let product = Self.number self *ℤ pos (2 ^ amount) in
             IfSome result (λ r. Congruent Self.BITS (Self.number r) product) }
         ensures none { amount ≡ 0 → IfSome result (λ r. Self.number r ≡ Self.number self) }
-        ensures operand { InRange Self.IS_SIGNED Self.BITS (Self.number self) }
+        ensures self_in_range { InRange Self.IS_SIGNED Self.BITS (Self.number self) }
         ensures width { Self.valid }
     {
         let storage = self.to_storage();
@@ -80,7 +80,7 @@ pub trait ShiftCalls: Stored + LowBits {
             let product = Self.number self *ℤ pos (2 ^ places) in
             Congruent Self.BITS (Self.number result.0) product }
         ensures none { amount % Self.BITS ≡ 0 → Self.number result.0 ≡ Self.number self }
-        ensures operand { InRange Self.IS_SIGNED Self.BITS (Self.number self) }
+        ensures self_in_range { InRange Self.IS_SIGNED Self.BITS (Self.number self) }
         ensures width { Self.valid }
     {
         (self.wrapping_shl(amount), amount as usize >= Self::BITS)
@@ -99,10 +99,10 @@ pub trait ShiftCalls: Stored + LowBits {
         ensures low { (Self.number result *ℤ pos (2 ^ (amount % Self.BITS))) ≤ℤ Self.number self }
         ensures high { let places = amount % Self.BITS in let power = pos (2 ^ places) in
             (y : ℤ) → Self.number self ≡ y → y <ℤ (Self.number result *ℤ power +ℤ power) }
-        ensures range { let places = amount % Self.BITS in
+        ensures result_in_range { let places = amount % Self.BITS in
             InRange Self.IS_SIGNED (Self.BITS - places) (Self.number result) }
         ensures none { amount % Self.BITS ≡ 0 → Self.number result ≡ Self.number self }
-        ensures operand { InRange Self.IS_SIGNED Self.BITS (Self.number self) }
+        ensures self_in_range { InRange Self.IS_SIGNED Self.BITS (Self.number self) }
         ensures width { Self.valid }
     {
         let storage = self.to_storage();
@@ -122,10 +122,10 @@ pub trait ShiftCalls: Stored + LowBits {
         ensures low { IfSome result (λ r. (Self.number r *ℤ pos (2 ^ amount)) ≤ℤ Self.number self) }
         ensures high { let power = pos (2 ^ amount) in
             IfSome result (λ r. Self.number self <ℤ (Self.number r *ℤ power +ℤ power)) }
-        ensures range { let number = Self.number in
+        ensures result_in_range { let number = Self.number in
             IfSome result (λ r. InRange Self.IS_SIGNED (Self.BITS - amount) (number r)) }
         ensures none { amount ≡ 0 → IfSome result (λ r. Self.number r ≡ Self.number self) }
-        ensures operand { InRange Self.IS_SIGNED Self.BITS (Self.number self) }
+        ensures self_in_range { InRange Self.IS_SIGNED Self.BITS (Self.number self) }
         ensures width { Self.valid }
     {
         let storage = self.to_storage();
@@ -150,10 +150,10 @@ pub trait ShiftCalls: Stored + LowBits {
         ensures low { (Self.number result.0 *ℤ pos (2 ^ (amount % Self.BITS))) ≤ℤ Self.number self }
         ensures high { let places = amount % Self.BITS in let power = pos (2 ^ places) in
             Self.number self <ℤ (Self.number result.0 *ℤ power +ℤ power) }
-        ensures range { let places = amount % Self.BITS in
+        ensures result_in_range { let places = amount % Self.BITS in
             InRange Self.IS_SIGNED (Self.BITS - places) (Self.number result.0) }
         ensures none { amount % Self.BITS ≡ 0 → Self.number result.0 ≡ Self.number self }
-        ensures operand { InRange Self.IS_SIGNED Self.BITS (Self.number self) }
+        ensures self_in_range { InRange Self.IS_SIGNED Self.BITS (Self.number self) }
         ensures width { Self.valid }
     {
         (self.wrapping_shr(amount), amount as usize >= Self::BITS)
@@ -170,7 +170,7 @@ pub trait ShiftCalls: Stored + LowBits {
         ensures undo { let number = Self.number in let places = amount % Self.BITS in
             rotated_right Self.IS_SIGNED Self.BITS (number result) places ≡ number self }
         ensures round { amount % Self.BITS ≡ 0 → Self.number result ≡ Self.number self }
-        ensures range { InRange Self.IS_SIGNED Self.BITS (Self.number self) }
+        ensures self_in_range { InRange Self.IS_SIGNED Self.BITS (Self.number self) }
         ensures width { Self.valid }
     {
         Self::from_u128_bits(patterns::rotate_left(self.low_bits(), Self::BITS, amount))
@@ -187,7 +187,7 @@ pub trait ShiftCalls: Stored + LowBits {
         ensures undo { let number = Self.number in let places = amount % Self.BITS in
             rotated_left Self.IS_SIGNED Self.BITS (number result) places ≡ number self }
         ensures round { amount % Self.BITS ≡ 0 → Self.number result ≡ Self.number self }
-        ensures range { InRange Self.IS_SIGNED Self.BITS (Self.number self) }
+        ensures self_in_range { InRange Self.IS_SIGNED Self.BITS (Self.number self) }
         ensures width { Self.valid }
     {
         Self::from_u128_bits(patterns::rotate_right(self.low_bits(), Self::BITS, amount))
@@ -200,7 +200,7 @@ pub trait ShiftCalls: Stored + LowBits {
         ensures value { (y : ℤ) → Self.number self ≡ y → let list = bits Self.BITS y in
             Self.number result ≡ val Self.IS_SIGNED (reverse list) }
         ensures undo { reversed Self.IS_SIGNED Self.BITS (Self.number result) ≡ Self.number self }
-        ensures range { InRange Self.IS_SIGNED Self.BITS (Self.number self) }
+        ensures self_in_range { InRange Self.IS_SIGNED Self.BITS (Self.number self) }
         ensures width { Self.valid }
     {
         Self::from_u128_bits(patterns::reverse_bits(self.low_bits(), Self::BITS))

@@ -3,7 +3,7 @@
 ghost use Rattle.std.specs.Prelude.{not, ◌≡◌, ◌↔◌, ◌<ℤ◌, ◌+ℤ◌, ◌-ℤ◌, ℤ, pos, IsTrue, Some, SomeIff, option_map};
 ghost use Rattle.arbitrary_base.specs.Range.{InRange, in_range, lo, hi};
 ghost use Rattle.arbitrary_base.specs.Residue.{Congruent, wrap};
-ghost use Rattle.arbitrary_base.specs.Saturation.{clamp};
+ghost use Rattle.arbitrary_base.specs.Saturating.{clamp};
 ghost use Rattle.arbitrary_base.specs.Operation.{wrapped_difference, wrapped_sum};
 
 use crate::low_bits::LowBits;
@@ -29,8 +29,8 @@ pub trait SumCalls: Stored + LowBits {
             Congruent Self.BITS (Self.number result) sum }
         ensures undo { let number = Self.number in
             wrapped_difference Self.IS_SIGNED Self.BITS (number result) (number rhs) ≡ number self }
-        ensures range { InRange Self.IS_SIGNED Self.BITS (Self.number self) }
-        ensures operand { InRange Self.IS_SIGNED Self.BITS (Self.number rhs) }
+        ensures self_in_range { InRange Self.IS_SIGNED Self.BITS (Self.number self) }
+        ensures rhs_in_range { InRange Self.IS_SIGNED Self.BITS (Self.number rhs) }
         ensures width { Self.valid }
     {
         Self::from_u128_bits(self.low_bits().wrapping_add(rhs.low_bits()))
@@ -49,10 +49,10 @@ pub trait SumCalls: Stored + LowBits {
         ensures below { let sum = Self.number self +ℤ Self.number rhs in
             let lowest = lo Self.IS_SIGNED Self.BITS in
             sum <ℤ lowest → Self.number result ≡ lowest }
-        ensures range { InRange Self.IS_SIGNED Self.BITS (Self.number self) }
-        ensures bounded { InRange Self.IS_SIGNED Self.BITS (Self.number result) }
+        ensures self_in_range { InRange Self.IS_SIGNED Self.BITS (Self.number self) }
+        ensures result_in_range { InRange Self.IS_SIGNED Self.BITS (Self.number result) }
         ensures swap { Self.number self +ℤ Self.number rhs ≡ Self.number rhs +ℤ Self.number self }
-        ensures operand { InRange Self.IS_SIGNED Self.BITS (Self.number rhs) }
+        ensures rhs_in_range { InRange Self.IS_SIGNED Self.BITS (Self.number rhs) }
         ensures width { Self.valid }
     {
         Self::from_storage(saturating::add(self.to_storage(), rhs.to_storage(), Self::BITS))
@@ -66,8 +66,8 @@ pub trait SumCalls: Stored + LowBits {
         ensures swap { Self.number self +ℤ Self.number rhs ≡ Self.number rhs +ℤ Self.number self }
         ensures zero { let number = Self.number in
             number rhs ≡ pos 0 → option_map number result ≡ Some (number self) }
-        ensures range { InRange Self.IS_SIGNED Self.BITS (Self.number self) }
-        ensures operand { InRange Self.IS_SIGNED Self.BITS (Self.number rhs) }
+        ensures self_in_range { InRange Self.IS_SIGNED Self.BITS (Self.number self) }
+        ensures rhs_in_range { InRange Self.IS_SIGNED Self.BITS (Self.number rhs) }
         ensures width { Self.valid }
     {
         match checked::add(self.to_storage(), rhs.to_storage(), Self::BITS) {
@@ -92,8 +92,8 @@ pub trait SumCalls: Stored + LowBits {
         ensures congruent { let sum = Self.number self +ℤ Self.number rhs in
             Congruent Self.BITS (Self.number result.0) sum }
         ensures swap { Self.number self +ℤ Self.number rhs ≡ Self.number rhs +ℤ Self.number self }
-        ensures range { InRange Self.IS_SIGNED Self.BITS (Self.number self) }
-        ensures operand { InRange Self.IS_SIGNED Self.BITS (Self.number rhs) }
+        ensures self_in_range { InRange Self.IS_SIGNED Self.BITS (Self.number self) }
+        ensures rhs_in_range { InRange Self.IS_SIGNED Self.BITS (Self.number rhs) }
         ensures width { Self.valid }
     {
         let (sum, overflow) = overflowing::add(self.to_storage(), rhs.to_storage(), Self::BITS);
@@ -112,8 +112,8 @@ pub trait SumCalls: Stored + LowBits {
             Congruent Self.BITS (Self.number result) difference }
         ensures undo { let number = Self.number in
             wrapped_sum Self.IS_SIGNED Self.BITS (number result) (number rhs) ≡ number self }
-        ensures range { InRange Self.IS_SIGNED Self.BITS (Self.number self) }
-        ensures operand { InRange Self.IS_SIGNED Self.BITS (Self.number rhs) }
+        ensures self_in_range { InRange Self.IS_SIGNED Self.BITS (Self.number self) }
+        ensures rhs_in_range { InRange Self.IS_SIGNED Self.BITS (Self.number rhs) }
         ensures width { Self.valid }
     {
         Self::from_u128_bits(self.low_bits().wrapping_sub(rhs.low_bits()))
@@ -132,9 +132,9 @@ pub trait SumCalls: Stored + LowBits {
         ensures below { let difference = Self.number self -ℤ Self.number rhs in
             let lowest = lo Self.IS_SIGNED Self.BITS in
             difference <ℤ lowest → Self.number result ≡ lowest }
-        ensures range { InRange Self.IS_SIGNED Self.BITS (Self.number self) }
-        ensures bounded { InRange Self.IS_SIGNED Self.BITS (Self.number result) }
-        ensures operand { InRange Self.IS_SIGNED Self.BITS (Self.number rhs) }
+        ensures self_in_range { InRange Self.IS_SIGNED Self.BITS (Self.number self) }
+        ensures result_in_range { InRange Self.IS_SIGNED Self.BITS (Self.number result) }
+        ensures rhs_in_range { InRange Self.IS_SIGNED Self.BITS (Self.number rhs) }
         ensures width { Self.valid }
     {
         Self::from_storage(saturating::sub(self.to_storage(), rhs.to_storage(), Self::BITS))
@@ -147,8 +147,8 @@ pub trait SumCalls: Stored + LowBits {
             SomeIff (option_map Self.number result) fits difference }
         ensures zero { let number = Self.number in
             number rhs ≡ pos 0 → option_map number result ≡ Some (number self) }
-        ensures range { InRange Self.IS_SIGNED Self.BITS (Self.number self) }
-        ensures operand { InRange Self.IS_SIGNED Self.BITS (Self.number rhs) }
+        ensures self_in_range { InRange Self.IS_SIGNED Self.BITS (Self.number self) }
+        ensures rhs_in_range { InRange Self.IS_SIGNED Self.BITS (Self.number rhs) }
         ensures width { Self.valid }
     {
         match checked::sub(self.to_storage(), rhs.to_storage(), Self::BITS) {
@@ -173,8 +173,8 @@ pub trait SumCalls: Stored + LowBits {
             InRange Self.IS_SIGNED Self.BITS difference → Self.number result.0 ≡ difference }
         ensures congruent { let difference = Self.number self -ℤ Self.number rhs in
             Congruent Self.BITS (Self.number result.0) difference }
-        ensures range { InRange Self.IS_SIGNED Self.BITS (Self.number self) }
-        ensures operand { InRange Self.IS_SIGNED Self.BITS (Self.number rhs) }
+        ensures self_in_range { InRange Self.IS_SIGNED Self.BITS (Self.number self) }
+        ensures rhs_in_range { InRange Self.IS_SIGNED Self.BITS (Self.number rhs) }
         ensures width { Self.valid }
     {
         let (difference, overflow) = overflowing::sub(

@@ -23,11 +23,11 @@ where
     fn bitand(self, rhs: Int<T, BITS>) -> Int<T, BITS>
         ensures operation { result ≡ bitwise_and T.SIGNED BITS self rhs }
         ensures bits { result ≡ val T.SIGNED (bits_and (bits BITS self) (bits BITS rhs)) }
-        ensures operands { (val T.SIGNED (bits BITS self) ≡ self)
+        ensures operands_from_bits { (val T.SIGNED (bits BITS self) ≡ self)
             × (val T.SIGNED (bits BITS rhs) ≡ rhs) }
         ensures plain { (m n : ℕ) → self ≡ pos m → rhs ≡ pos n → result ≡ pos (bit_and m n) }
-        ensures left { (k : ℕ) → self ≡ pos k → (n : ℕ) × ((result ≡ pos n) × (n ≤ k)) }
-        ensures right { (k : ℕ) → rhs ≡ pos k → (n : ℕ) × ((result ≡ pos n) × (n ≤ k)) }
+        ensures at_most_self { (k : ℕ) → self ≡ pos k → (n : ℕ) × ((result ≡ pos n) × (n ≤ k)) }
+        ensures at_most_rhs { (k : ℕ) → rhs ≡ pos k → (n : ℕ) × ((result ≡ pos n) × (n ≤ k)) }
         ensures lowest { rhs ≡ pos 1 → result ≡ pos (unsigned_abs self % 2) }
     {
         Int::<T, BITS>::from_bits(bitwise::and(self.to_bits(), rhs.to_bits(), BITS))
@@ -45,11 +45,12 @@ where
     fn bitand_assign(&mut self, rhs: Int<T, BITS>)
         ensures operation { self.new ≡ bitwise_and T.SIGNED BITS self.old rhs }
         ensures bits { self.new ≡ val T.SIGNED (bits_and (bits BITS self.old) (bits BITS rhs)) }
-        ensures operands { (val T.SIGNED (bits BITS self.old) ≡ self.old)
+        ensures operands_from_bits { (val T.SIGNED (bits BITS self.old) ≡ self.old)
             × (val T.SIGNED (bits BITS rhs) ≡ rhs) }
         ensures plain { (m n : ℕ) → self.old ≡ pos m → rhs ≡ pos n → self.new ≡ pos (bit_and m n) }
-        ensures left { (k : ℕ) → self.old ≡ pos k → (n : ℕ) × ((self.new ≡ pos n) × (n ≤ k)) }
-        ensures right { (k : ℕ) → rhs ≡ pos k → (n : ℕ) × ((self.new ≡ pos n) × (n ≤ k)) }
+        ensures at_most_self { (k : ℕ) → self.old ≡ pos k
+            → (n : ℕ) × ((self.new ≡ pos n) × (n ≤ k)) }
+        ensures at_most_rhs { (k : ℕ) → rhs ≡ pos k → (n : ℕ) × ((self.new ≡ pos n) × (n ≤ k)) }
         ensures lowest { rhs ≡ pos 1 → self.new ≡ pos (unsigned_abs self.old % 2) }
     {
         *self = *self & rhs;
@@ -68,7 +69,7 @@ where
     fn bitor(self, rhs: Int<T, BITS>) -> Int<T, BITS>
         ensures operation { result ≡ bitwise_or T.SIGNED BITS self rhs }
         ensures bits { result ≡ val T.SIGNED (bits_or (bits BITS self) (bits BITS rhs)) }
-        ensures operands { (val T.SIGNED (bits BITS self) ≡ self)
+        ensures operands_from_bits { (val T.SIGNED (bits BITS self) ≡ self)
             × (val T.SIGNED (bits BITS rhs) ≡ rhs) }
         ensures plain { (m n : ℕ) → self ≡ pos m → rhs ≡ pos n → result ≡ pos (bit_or m n) }
     {
@@ -87,7 +88,7 @@ where
     fn bitor_assign(&mut self, rhs: Int<T, BITS>)
         ensures operation { self.new ≡ bitwise_or T.SIGNED BITS self.old rhs }
         ensures bits { self.new ≡ val T.SIGNED (bits_or (bits BITS self.old) (bits BITS rhs)) }
-        ensures operands { (val T.SIGNED (bits BITS self.old) ≡ self.old)
+        ensures operands_from_bits { (val T.SIGNED (bits BITS self.old) ≡ self.old)
             × (val T.SIGNED (bits BITS rhs) ≡ rhs) }
         ensures plain { (m n : ℕ) → self.old ≡ pos m → rhs ≡ pos n → self.new ≡ pos (bit_or m n) }
     {
@@ -107,7 +108,7 @@ where
     fn bitxor(self, rhs: Int<T, BITS>) -> Int<T, BITS>
         ensures operation { result ≡ bitwise_xor T.SIGNED BITS self rhs }
         ensures bits { result ≡ val T.SIGNED (bits_xor (bits BITS self) (bits BITS rhs)) }
-        ensures operands { (val T.SIGNED (bits BITS self) ≡ self)
+        ensures operands_from_bits { (val T.SIGNED (bits BITS self) ≡ self)
             × (val T.SIGNED (bits BITS rhs) ≡ rhs) }
         ensures plain { (m n : ℕ) → self ≡ pos m → rhs ≡ pos n → result ≡ pos (bit_xor m n) }
         ensures same { self ≡ rhs → result ≡ pos 0 }
@@ -128,7 +129,7 @@ where
     fn bitxor_assign(&mut self, rhs: Int<T, BITS>)
         ensures operation { self.new ≡ bitwise_xor T.SIGNED BITS self.old rhs }
         ensures bits { self.new ≡ val T.SIGNED (bits_xor (bits BITS self.old) (bits BITS rhs)) }
-        ensures operands { (val T.SIGNED (bits BITS self.old) ≡ self.old)
+        ensures operands_from_bits { (val T.SIGNED (bits BITS self.old) ≡ self.old)
             × (val T.SIGNED (bits BITS rhs) ≡ rhs) }
         ensures plain { (m n : ℕ) → self.old ≡ pos m → rhs ≡ pos n → self.new ≡ pos (bit_xor m n) }
         ensures same { self.old ≡ rhs → self.new ≡ pos 0 }
@@ -150,7 +151,7 @@ where
     fn not(self) -> Int<T, BITS>
         ensures operation { result ≡ bitwise_not T.SIGNED BITS self }
         ensures bits { result ≡ val T.SIGNED (map not (bits BITS self)) }
-        ensures operand { val T.SIGNED (bits BITS self) ≡ self }
+        ensures self_from_bits { val T.SIGNED (bits BITS self) ≡ self }
         ensures number { result ≡ neg_ℤ self -ℤ pos 1 }
     {
         Int::<T, BITS>::from_bits(bitwise::not(self.to_bits(), BITS))

@@ -20,11 +20,11 @@ impl<T: UnsignedStorage, const BITS: usize> BitAnd<UInt<T, BITS>> for UInt<T, BI
     fn bitand(self, rhs: UInt<T, BITS>) -> UInt<T, BITS>
         ensures operation { result ≡ bitwise_and T.SIGNED BITS self rhs }
         ensures bits { result ≡ val T.SIGNED (bits_and (bits BITS self) (bits BITS rhs)) }
-        ensures operands { (val T.SIGNED (bits BITS self) ≡ self)
+        ensures operands_from_bits { (val T.SIGNED (bits BITS self) ≡ self)
             × (val T.SIGNED (bits BITS rhs) ≡ rhs) }
         ensures plain { result ≡ pos (bit_and (unsigned_abs self) (unsigned_abs rhs)) }
-        ensures left { result ≤ℤ self }
-        ensures right { result ≤ℤ rhs }
+        ensures at_most_self { result ≤ℤ self }
+        ensures at_most_rhs { result ≤ℤ rhs }
     {
         UInt::new(bitwise::and(self.value(), rhs.value(), BITS))
     }
@@ -37,11 +37,11 @@ impl<T: UnsignedStorage, const BITS: usize> BitAndAssign<UInt<T, BITS>> for UInt
     fn bitand_assign(&mut self, rhs: UInt<T, BITS>)
         ensures operation { self.new ≡ bitwise_and T.SIGNED BITS self.old rhs }
         ensures bits { self.new ≡ val T.SIGNED (bits_and (bits BITS self.old) (bits BITS rhs)) }
-        ensures operands { (val T.SIGNED (bits BITS self.old) ≡ self.old)
+        ensures operands_from_bits { (val T.SIGNED (bits BITS self.old) ≡ self.old)
             × (val T.SIGNED (bits BITS rhs) ≡ rhs) }
         ensures plain { self.new ≡ pos (bit_and (unsigned_abs self.old) (unsigned_abs rhs)) }
-        ensures left { self.new ≤ℤ self.old }
-        ensures right { self.new ≤ℤ rhs }
+        ensures at_most_self { self.new ≤ℤ self.old }
+        ensures at_most_rhs { self.new ≤ℤ rhs }
     {
         *self = *self & rhs;
     }
@@ -56,11 +56,11 @@ impl<T: UnsignedStorage, const BITS: usize> BitOr<UInt<T, BITS>> for UInt<T, BIT
     fn bitor(self, rhs: UInt<T, BITS>) -> UInt<T, BITS>
         ensures operation { result ≡ bitwise_or T.SIGNED BITS self rhs }
         ensures bits { result ≡ val T.SIGNED (bits_or (bits BITS self) (bits BITS rhs)) }
-        ensures operands { (val T.SIGNED (bits BITS self) ≡ self)
+        ensures operands_from_bits { (val T.SIGNED (bits BITS self) ≡ self)
             × (val T.SIGNED (bits BITS rhs) ≡ rhs) }
         ensures plain { result ≡ pos (bit_or (unsigned_abs self) (unsigned_abs rhs)) }
-        ensures left { self ≤ℤ result }
-        ensures right { rhs ≤ℤ result }
+        ensures at_least_self { self ≤ℤ result }
+        ensures at_least_rhs { rhs ≤ℤ result }
     {
         UInt::new(bitwise::or(self.value(), rhs.value(), BITS))
     }
@@ -73,11 +73,11 @@ impl<T: UnsignedStorage, const BITS: usize> BitOrAssign<UInt<T, BITS>> for UInt<
     fn bitor_assign(&mut self, rhs: UInt<T, BITS>)
         ensures operation { self.new ≡ bitwise_or T.SIGNED BITS self.old rhs }
         ensures bits { self.new ≡ val T.SIGNED (bits_or (bits BITS self.old) (bits BITS rhs)) }
-        ensures operands { (val T.SIGNED (bits BITS self.old) ≡ self.old)
+        ensures operands_from_bits { (val T.SIGNED (bits BITS self.old) ≡ self.old)
             × (val T.SIGNED (bits BITS rhs) ≡ rhs) }
         ensures plain { self.new ≡ pos (bit_or (unsigned_abs self.old) (unsigned_abs rhs)) }
-        ensures left { self.old ≤ℤ self.new }
-        ensures right { rhs ≤ℤ self.new }
+        ensures at_least_self { self.old ≤ℤ self.new }
+        ensures at_least_rhs { rhs ≤ℤ self.new }
     {
         *self = *self | rhs;
     }
@@ -92,7 +92,7 @@ impl<T: UnsignedStorage, const BITS: usize> BitXor<UInt<T, BITS>> for UInt<T, BI
     fn bitxor(self, rhs: UInt<T, BITS>) -> UInt<T, BITS>
         ensures operation { result ≡ bitwise_xor T.SIGNED BITS self rhs }
         ensures bits { result ≡ val T.SIGNED (bits_xor (bits BITS self) (bits BITS rhs)) }
-        ensures operands { (val T.SIGNED (bits BITS self) ≡ self)
+        ensures operands_from_bits { (val T.SIGNED (bits BITS self) ≡ self)
             × (val T.SIGNED (bits BITS rhs) ≡ rhs) }
         ensures plain { result ≡ pos (bit_xor (unsigned_abs self) (unsigned_abs rhs)) }
         ensures same { self ≡ rhs → result ≡ pos 0 }
@@ -109,7 +109,7 @@ impl<T: UnsignedStorage, const BITS: usize> BitXorAssign<UInt<T, BITS>> for UInt
     fn bitxor_assign(&mut self, rhs: UInt<T, BITS>)
         ensures operation { self.new ≡ bitwise_xor T.SIGNED BITS self.old rhs }
         ensures bits { self.new ≡ val T.SIGNED (bits_xor (bits BITS self.old) (bits BITS rhs)) }
-        ensures operands { (val T.SIGNED (bits BITS self.old) ≡ self.old)
+        ensures operands_from_bits { (val T.SIGNED (bits BITS self.old) ≡ self.old)
             × (val T.SIGNED (bits BITS rhs) ≡ rhs) }
         ensures plain { self.new ≡ pos (bit_xor (unsigned_abs self.old) (unsigned_abs rhs)) }
         ensures same { self.old ≡ rhs → self.new ≡ pos 0 }
@@ -128,7 +128,7 @@ impl<T: UnsignedStorage, const BITS: usize> Not for UInt<T, BITS> {
     fn not(self) -> UInt<T, BITS>
         ensures operation { result ≡ bitwise_not T.SIGNED BITS self }
         ensures bits { result ≡ val T.SIGNED (map not (bits BITS self)) }
-        ensures operand { val T.SIGNED (bits BITS self) ≡ self }
+        ensures self_from_bits { val T.SIGNED (bits BITS self) ≡ self }
         ensures number { result ≡ pos (2 ^ BITS) -ℤ pos 1 -ℤ self }
     {
         UInt::new(bitwise::not(self.value(), BITS))

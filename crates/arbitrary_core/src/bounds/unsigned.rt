@@ -2,7 +2,7 @@
 
 ghost use Rattle.std.specs.Prelude.{◌≡◌, ◌<ℤ◌, ◌+ℤ◌, ◌-ℤ◌, pos, refl};
 ghost use Rattle.arbitrary_base.specs.Range.{lo, hi, InRange};
-ghost use Rattle.arbitrary_base.specs.Saturation.{clamp};
+ghost use Rattle.arbitrary_base.specs.Saturating.{clamp};
 ghost use Rattle.arbitrary_base.proofs.storages.CheckedSum.{in_range-of_wrap, wrap-zero};
 ghost use Rattle.arbitrary_base.proofs.storages.RangeEnds.{bounds, low_fits, high_fits, saturates};
 
@@ -47,9 +47,9 @@ impl<T: UnsignedStorage + HasWidth<BITS>, const BITS: usize> SaturatingAdd for U
         ensures exact { InRange T.SIGNED BITS (self.now +ℤ v.now) → result ≡ self.now +ℤ v.now }
         ensures above { hi T.SIGNED BITS <ℤ (self.now +ℤ v.now) → result ≡ hi T.SIGNED BITS }
         ensures below { (self.now +ℤ v.now) <ℤ lo T.SIGNED BITS → result ≡ lo T.SIGNED BITS }
-        ensures range { InRange T.SIGNED BITS self.now }
-        ensures bounded { InRange T.SIGNED BITS result }
-        ensures operand { InRange T.SIGNED BITS v.now }
+        ensures self_in_range { InRange T.SIGNED BITS self.now }
+        ensures result_in_range { InRange T.SIGNED BITS result }
+        ensures v_in_range { InRange T.SIGNED BITS v.now }
     {
         UInt::<T, BITS>::new(saturating::add(self.value(), v.value(), BITS))
     }
@@ -66,9 +66,9 @@ impl<T: UnsignedStorage + HasWidth<BITS>, const BITS: usize> SaturatingSub for U
         ensures exact { InRange T.SIGNED BITS (self.now -ℤ v.now) → result ≡ self.now -ℤ v.now }
         ensures above { hi T.SIGNED BITS <ℤ (self.now -ℤ v.now) → result ≡ hi T.SIGNED BITS }
         ensures below { (self.now -ℤ v.now) <ℤ lo T.SIGNED BITS → result ≡ lo T.SIGNED BITS }
-        ensures range { InRange T.SIGNED BITS self.now }
-        ensures bounded { InRange T.SIGNED BITS result }
-        ensures operand { InRange T.SIGNED BITS v.now }
+        ensures self_in_range { InRange T.SIGNED BITS self.now }
+        ensures result_in_range { InRange T.SIGNED BITS result }
+        ensures v_in_range { InRange T.SIGNED BITS v.now }
     {
         UInt::<T, BITS>::new(saturating::sub(self.value(), v.value(), BITS))
     }

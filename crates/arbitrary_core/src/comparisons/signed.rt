@@ -88,8 +88,8 @@ where
 {
     /// The greater of two numbers.
     pub fn max(self, other: Self) -> Self
-        ensures left { self ≤ℤ result }
-        ensures right { other ≤ℤ result }
+        ensures at_least_self { self ≤ℤ result }
+        ensures at_least_other { other ≤ℤ result }
         ensures either { (result ≡ self) ⊎ (result ≡ other) }
     {
         if self < other { other } else { self }
@@ -97,8 +97,8 @@ where
 
     /// The lesser of two numbers.
     pub fn min(self, other: Self) -> Self
-        ensures left { result ≤ℤ self }
-        ensures right { result ≤ℤ other }
+        ensures at_most_self { result ≤ℤ self }
+        ensures at_most_other { result ≤ℤ other }
         ensures either { (result ≡ self) ⊎ (result ≡ other) }
     {
         if other < self { other } else { self }

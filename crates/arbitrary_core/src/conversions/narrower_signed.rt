@@ -19,7 +19,7 @@ where
     S::Unsigned: UnsignedOf<S>,
     T::Unsigned: UnsignedOf<T>,
     ensures value { result ≡ value }
-    ensures range { InRange true BITS value }
+    ensures value_in_range { InRange true BITS value }
 {
     Int::<T, BITS>::new(stored(value))
 }
@@ -32,7 +32,7 @@ where
 
     fn from(value: Int<i16, BITS>) -> Int<i8, BITS>
         ensures value { result ≡ value.entry }
-        ensures range { InRange true BITS value.entry }
+        ensures value_in_range { InRange true BITS value.entry }
     {
         stored_in(value)
     }
@@ -46,7 +46,7 @@ where
 
     fn from(value: Int<i32, BITS>) -> Int<i8, BITS>
         ensures value { result ≡ value.entry }
-        ensures range { InRange true BITS value.entry }
+        ensures value_in_range { InRange true BITS value.entry }
     {
         stored_in(value)
     }
@@ -60,7 +60,7 @@ where
 
     fn from(value: Int<i64, BITS>) -> Int<i8, BITS>
         ensures value { result ≡ value.entry }
-        ensures range { InRange true BITS value.entry }
+        ensures value_in_range { InRange true BITS value.entry }
     {
         stored_in(value)
     }
@@ -74,7 +74,7 @@ where
 
     fn from(value: Int<i128, BITS>) -> Int<i8, BITS>
         ensures value { result ≡ value.entry }
-        ensures range { InRange true BITS value.entry }
+        ensures value_in_range { InRange true BITS value.entry }
     {
         stored_in(value)
     }
@@ -88,7 +88,7 @@ where
 
     fn from(value: Int<i32, BITS>) -> Int<i16, BITS>
         ensures value { result ≡ value.entry }
-        ensures range { InRange true BITS value.entry }
+        ensures value_in_range { InRange true BITS value.entry }
     {
         stored_in(value)
     }
@@ -102,7 +102,7 @@ where
 
     fn from(value: Int<i64, BITS>) -> Int<i16, BITS>
         ensures value { result ≡ value.entry }
-        ensures range { InRange true BITS value.entry }
+        ensures value_in_range { InRange true BITS value.entry }
     {
         stored_in(value)
     }
@@ -116,7 +116,7 @@ where
 
     fn from(value: Int<i128, BITS>) -> Int<i16, BITS>
         ensures value { result ≡ value.entry }
-        ensures range { InRange true BITS value.entry }
+        ensures value_in_range { InRange true BITS value.entry }
     {
         stored_in(value)
     }
@@ -130,7 +130,7 @@ where
 
     fn from(value: Int<i64, BITS>) -> Int<i32, BITS>
         ensures value { result ≡ value.entry }
-        ensures range { InRange true BITS value.entry }
+        ensures value_in_range { InRange true BITS value.entry }
     {
         stored_in(value)
     }
@@ -144,7 +144,7 @@ where
 
     fn from(value: Int<i128, BITS>) -> Int<i32, BITS>
         ensures value { result ≡ value.entry }
-        ensures range { InRange true BITS value.entry }
+        ensures value_in_range { InRange true BITS value.entry }
     {
         stored_in(value)
     }
@@ -158,7 +158,7 @@ where
 
     fn from(value: Int<i128, BITS>) -> Int<i64, BITS>
         ensures value { result ≡ value.entry }
-        ensures range { InRange true BITS value.entry }
+        ensures value_in_range { InRange true BITS value.entry }
     {
         stored_in(value)
     }

@@ -14,7 +14,7 @@ fn stored_in<S: UnsignedStorage, T: UnsignedStorage + HasWidth<BITS>, const BITS
     value: UInt<S, BITS>,
 ) -> UInt<T, BITS>
     ensures value { result ≡ value }
-    ensures range { InRange false BITS value }
+    ensures value_in_range { InRange false BITS value }
 {
     UInt::<T, BITS>::new(stored(value))
 }
@@ -27,7 +27,7 @@ where
 
     fn from(value: UInt<u16, BITS>) -> UInt<u8, BITS>
         ensures value { result ≡ value.entry }
-        ensures range { InRange false BITS value.entry }
+        ensures value_in_range { InRange false BITS value.entry }
     {
         stored_in(value)
     }
@@ -41,7 +41,7 @@ where
 
     fn from(value: UInt<u32, BITS>) -> UInt<u8, BITS>
         ensures value { result ≡ value.entry }
-        ensures range { InRange false BITS value.entry }
+        ensures value_in_range { InRange false BITS value.entry }
     {
         stored_in(value)
     }
@@ -55,7 +55,7 @@ where
 
     fn from(value: UInt<u64, BITS>) -> UInt<u8, BITS>
         ensures value { result ≡ value.entry }
-        ensures range { InRange false BITS value.entry }
+        ensures value_in_range { InRange false BITS value.entry }
     {
         stored_in(value)
     }
@@ -69,7 +69,7 @@ where
 
     fn from(value: UInt<u128, BITS>) -> UInt<u8, BITS>
         ensures value { result ≡ value.entry }
-        ensures range { InRange false BITS value.entry }
+        ensures value_in_range { InRange false BITS value.entry }
     {
         stored_in(value)
     }
@@ -83,7 +83,7 @@ where
 
     fn from(value: UInt<u32, BITS>) -> UInt<u16, BITS>
         ensures value { result ≡ value.entry }
-        ensures range { InRange false BITS value.entry }
+        ensures value_in_range { InRange false BITS value.entry }
     {
         stored_in(value)
     }
@@ -97,7 +97,7 @@ where
 
     fn from(value: UInt<u64, BITS>) -> UInt<u16, BITS>
         ensures value { result ≡ value.entry }
-        ensures range { InRange false BITS value.entry }
+        ensures value_in_range { InRange false BITS value.entry }
     {
         stored_in(value)
     }
@@ -111,7 +111,7 @@ where
 
     fn from(value: UInt<u128, BITS>) -> UInt<u16, BITS>
         ensures value { result ≡ value.entry }
-        ensures range { InRange false BITS value.entry }
+        ensures value_in_range { InRange false BITS value.entry }
     {
         stored_in(value)
     }
@@ -125,7 +125,7 @@ where
 
     fn from(value: UInt<u64, BITS>) -> UInt<u32, BITS>
         ensures value { result ≡ value.entry }
-        ensures range { InRange false BITS value.entry }
+        ensures value_in_range { InRange false BITS value.entry }
     {
         stored_in(value)
     }
@@ -139,7 +139,7 @@ where
 
     fn from(value: UInt<u128, BITS>) -> UInt<u32, BITS>
         ensures value { result ≡ value.entry }
-        ensures range { InRange false BITS value.entry }
+        ensures value_in_range { InRange false BITS value.entry }
     {
         stored_in(value)
     }
@@ -153,7 +153,7 @@ where
 
     fn from(value: UInt<u128, BITS>) -> UInt<u64, BITS>
         ensures value { result ≡ value.entry }
-        ensures range { InRange false BITS value.entry }
+        ensures value_in_range { InRange false BITS value.entry }
     {
         stored_in(value)
     }

@@ -19,7 +19,7 @@ pub(super) fn stored<
 where
     S::Unsigned: UnsignedOf<S>,
     ensures value { T.number result ≡ value }
-    ensures range { InRange true BITS value }
+    ensures value_in_range { InRange true BITS value }
 {
     cast(value.value(), T::WIDTH)
 }
@@ -49,7 +49,7 @@ where
     S::Unsigned: UnsignedOf<S>,
     T::Unsigned: UnsignedOf<T>,
     ensures value { result ≡ value }
-    ensures range { InRange true FROM value }
+    ensures value_in_range { InRange true FROM value }
 {
     Int::<T, BITS>::new(cast(value.value(), BITS))
 }
@@ -63,7 +63,7 @@ where
 
     fn from(value: Int<T, BITS>) -> i8
         ensures value { result ≡ value }
-        ensures range { InRange true BITS value }
+        ensures value_in_range { InRange true BITS value }
     {
         stored(value)
     }
@@ -78,7 +78,7 @@ where
 
     fn from(value: Int<T, BITS>) -> i16
         ensures value { result ≡ value }
-        ensures range { InRange true BITS value }
+        ensures value_in_range { InRange true BITS value }
     {
         stored(value)
     }
@@ -93,7 +93,7 @@ where
 
     fn from(value: Int<T, BITS>) -> i32
         ensures value { result ≡ value }
-        ensures range { InRange true BITS value }
+        ensures value_in_range { InRange true BITS value }
     {
         stored(value)
     }
@@ -108,7 +108,7 @@ where
 
     fn from(value: Int<T, BITS>) -> i64
         ensures value { result ≡ value }
-        ensures range { InRange true BITS value }
+        ensures value_in_range { InRange true BITS value }
     {
         stored(value)
     }
@@ -123,7 +123,7 @@ where
 
     fn from(value: Int<T, BITS>) -> i128
         ensures value { result ≡ value }
-        ensures range { InRange true BITS value }
+        ensures value_in_range { InRange true BITS value }
     {
         stored(value)
     }
@@ -208,7 +208,7 @@ where
 
     fn from(value: Int<i8, FROM>) -> Int<i16, BITS>
         ensures value { result ≡ value.entry }
-        ensures range { InRange true FROM value.entry }
+        ensures value_in_range { InRange true FROM value.entry }
     {
         widened(value)
     }
@@ -223,7 +223,7 @@ where
 
     fn from(value: Int<i8, FROM>) -> Int<i32, BITS>
         ensures value { result ≡ value.entry }
-        ensures range { InRange true FROM value.entry }
+        ensures value_in_range { InRange true FROM value.entry }
     {
         widened(value)
     }
@@ -238,7 +238,7 @@ where
 
     fn from(value: Int<i16, FROM>) -> Int<i32, BITS>
         ensures value { result ≡ value.entry }
-        ensures range { InRange true FROM value.entry }
+        ensures value_in_range { InRange true FROM value.entry }
     {
         widened(value)
     }
@@ -253,7 +253,7 @@ where
 
     fn from(value: Int<i8, FROM>) -> Int<i64, BITS>
         ensures value { result ≡ value.entry }
-        ensures range { InRange true FROM value.entry }
+        ensures value_in_range { InRange true FROM value.entry }
     {
         widened(value)
     }
@@ -268,7 +268,7 @@ where
 
     fn from(value: Int<i16, FROM>) -> Int<i64, BITS>
         ensures value { result ≡ value.entry }
-        ensures range { InRange true FROM value.entry }
+        ensures value_in_range { InRange true FROM value.entry }
     {
         widened(value)
     }
@@ -283,7 +283,7 @@ where
 
     fn from(value: Int<i32, FROM>) -> Int<i64, BITS>
         ensures value { result ≡ value.entry }
-        ensures range { InRange true FROM value.entry }
+        ensures value_in_range { InRange true FROM value.entry }
     {
         widened(value)
     }
@@ -298,7 +298,7 @@ where
 
     fn from(value: Int<i8, FROM>) -> Int<i128, BITS>
         ensures value { result ≡ value.entry }
-        ensures range { InRange true FROM value.entry }
+        ensures value_in_range { InRange true FROM value.entry }
     {
         widened(value)
     }
@@ -313,7 +313,7 @@ where
 
     fn from(value: Int<i16, FROM>) -> Int<i128, BITS>
         ensures value { result ≡ value.entry }
-        ensures range { InRange true FROM value.entry }
+        ensures value_in_range { InRange true FROM value.entry }
     {
         widened(value)
     }
@@ -328,7 +328,7 @@ where
 
     fn from(value: Int<i32, FROM>) -> Int<i128, BITS>
         ensures value { result ≡ value.entry }
-        ensures range { InRange true FROM value.entry }
+        ensures value_in_range { InRange true FROM value.entry }
     {
         widened(value)
     }
@@ -343,7 +343,7 @@ where
 
     fn from(value: Int<i64, FROM>) -> Int<i128, BITS>
         ensures value { result ≡ value.entry }
-        ensures range { InRange true FROM value.entry }
+        ensures value_in_range { InRange true FROM value.entry }
     {
         widened(value)
     }

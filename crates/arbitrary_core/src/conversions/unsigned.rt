@@ -15,7 +15,7 @@ pub(super) fn stored<S: UnsignedStorage, T: UnsignedStorage + HasWidth<BITS>, co
     value: UInt<S, BITS>,
 ) -> T
     ensures value { T.number result ≡ value }
-    ensures range { InRange false BITS value }
+    ensures value_in_range { InRange false BITS value }
 {
     cast(value.value(), T::WIDTH)
 }
@@ -40,7 +40,7 @@ fn widened<
     const BITS: usize,
 >(value: UInt<S, FROM>) -> UInt<T, BITS>
     ensures value { result ≡ value }
-    ensures range { InRange false FROM value }
+    ensures value_in_range { InRange false FROM value }
 {
     UInt::<T, BITS>::new(cast(value.value(), BITS))
 }
@@ -53,7 +53,7 @@ where
 
     fn from(value: UInt<T, BITS>) -> u8
         ensures value { pos result ≡ value }
-        ensures range { InRange false BITS value }
+        ensures value_in_range { InRange false BITS value }
     {
         stored(value)
     }
@@ -67,7 +67,7 @@ where
 
     fn from(value: UInt<T, BITS>) -> u16
         ensures value { pos result ≡ value }
-        ensures range { InRange false BITS value }
+        ensures value_in_range { InRange false BITS value }
     {
         stored(value)
     }
@@ -81,7 +81,7 @@ where
 
     fn from(value: UInt<T, BITS>) -> u32
         ensures value { pos result ≡ value }
-        ensures range { InRange false BITS value }
+        ensures value_in_range { InRange false BITS value }
     {
         stored(value)
     }
@@ -95,7 +95,7 @@ where
 
     fn from(value: UInt<T, BITS>) -> u64
         ensures value { pos result ≡ value }
-        ensures range { InRange false BITS value }
+        ensures value_in_range { InRange false BITS value }
     {
         stored(value)
     }
@@ -109,7 +109,7 @@ where
 
     fn from(value: UInt<T, BITS>) -> u128
         ensures value { pos result ≡ value }
-        ensures range { InRange false BITS value }
+        ensures value_in_range { InRange false BITS value }
     {
         stored(value)
     }
@@ -184,7 +184,7 @@ where
 
     fn from(value: UInt<u8, FROM>) -> UInt<u16, BITS>
         ensures value { result ≡ value.entry }
-        ensures range { InRange false FROM value.entry }
+        ensures value_in_range { InRange false FROM value.entry }
     {
         widened(value)
     }
@@ -199,7 +199,7 @@ where
 
     fn from(value: UInt<u8, FROM>) -> UInt<u32, BITS>
         ensures value { result ≡ value.entry }
-        ensures range { InRange false FROM value.entry }
+        ensures value_in_range { InRange false FROM value.entry }
     {
         widened(value)
     }
@@ -214,7 +214,7 @@ where
 
     fn from(value: UInt<u16, FROM>) -> UInt<u32, BITS>
         ensures value { result ≡ value.entry }
-        ensures range { InRange false FROM value.entry }
+        ensures value_in_range { InRange false FROM value.entry }
     {
         widened(value)
     }
@@ -229,7 +229,7 @@ where
 
     fn from(value: UInt<u8, FROM>) -> UInt<u64, BITS>
         ensures value { result ≡ value.entry }
-        ensures range { InRange false FROM value.entry }
+        ensures value_in_range { InRange false FROM value.entry }
     {
         widened(value)
     }
@@ -244,7 +244,7 @@ where
 
     fn from(value: UInt<u16, FROM>) -> UInt<u64, BITS>
         ensures value { result ≡ value.entry }
-        ensures range { InRange false FROM value.entry }
+        ensures value_in_range { InRange false FROM value.entry }
     {
         widened(value)
     }
@@ -259,7 +259,7 @@ where
 
     fn from(value: UInt<u32, FROM>) -> UInt<u64, BITS>
         ensures value { result ≡ value.entry }
-        ensures range { InRange false FROM value.entry }
+        ensures value_in_range { InRange false FROM value.entry }
     {
         widened(value)
     }
@@ -274,7 +274,7 @@ where
 
     fn from(value: UInt<u8, FROM>) -> UInt<u128, BITS>
         ensures value { result ≡ value.entry }
-        ensures range { InRange false FROM value.entry }
+        ensures value_in_range { InRange false FROM value.entry }
     {
         widened(value)
     }
@@ -289,7 +289,7 @@ where
 
     fn from(value: UInt<u16, FROM>) -> UInt<u128, BITS>
         ensures value { result ≡ value.entry }
-        ensures range { InRange false FROM value.entry }
+        ensures value_in_range { InRange false FROM value.entry }
     {
         widened(value)
     }
@@ -304,7 +304,7 @@ where
 
     fn from(value: UInt<u32, FROM>) -> UInt<u128, BITS>
         ensures value { result ≡ value.entry }
-        ensures range { InRange false FROM value.entry }
+        ensures value_in_range { InRange false FROM value.entry }
     {
         widened(value)
     }
@@ -319,7 +319,7 @@ where
 
     fn from(value: UInt<u64, FROM>) -> UInt<u128, BITS>
         ensures value { result ≡ value.entry }
-        ensures range { InRange false FROM value.entry }
+        ensures value_in_range { InRange false FROM value.entry }
     {
         widened(value)
     }

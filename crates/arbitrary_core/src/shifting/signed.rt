@@ -32,7 +32,7 @@ where
         ensures congruent { let places = unsigned_abs (S.amount amount) in
             Congruent BITS result (self *ℤ pos (2 ^ places)) }
         ensures none { unsigned_abs (S.amount amount) ≡ 0 → result ≡ self }
-        ensures operand { InRange T.SIGNED BITS self }
+        ensures self_in_range { InRange T.SIGNED BITS self }
     {
         Int::<T, BITS>::from_bits(shifts::shl(self.to_bits(), amount.to_amount(), BITS))
     }
@@ -57,8 +57,8 @@ where
         ensures congruent { let places = unsigned_abs (S.amount amount) in
             Congruent BITS self.new (self.old *ℤ pos (2 ^ places)) }
         ensures none { unsigned_abs (S.amount amount) ≡ 0 → self.new ≡ self.old }
-        ensures range { InRange T.SIGNED BITS self.new }
-        ensures operand { InRange T.SIGNED BITS self.old }
+        ensures result_in_range { InRange T.SIGNED BITS self.new }
+        ensures self_in_range { InRange T.SIGNED BITS self.old }
     {
         *self = *self << amount;
     }
@@ -87,8 +87,8 @@ where
         ensures high { let places = unsigned_abs (S.amount amount) in
             let power = pos (2 ^ places) in
             self <ℤ (result *ℤ power +ℤ power) }
-        ensures range { InRange T.SIGNED (BITS - unsigned_abs (S.amount amount)) result }
-        ensures operand { InRange T.SIGNED BITS self }
+        ensures result_in_range { InRange T.SIGNED (BITS - unsigned_abs (S.amount amount)) result }
+        ensures self_in_range { InRange T.SIGNED BITS self }
     {
         Int::<T, BITS>::new(shifts::shr(self.value(), amount.to_amount(), BITS))
     }
@@ -116,8 +116,9 @@ where
         ensures high { let places = unsigned_abs (S.amount amount) in
             let power = pos (2 ^ places) in
             self.old <ℤ (self.new *ℤ power +ℤ power) }
-        ensures range { InRange T.SIGNED (BITS - unsigned_abs (S.amount amount)) self.new }
-        ensures operand { InRange T.SIGNED BITS self.old }
+        ensures result_in_range { InRange T.SIGNED
+            (BITS - unsigned_abs (S.amount amount)) self.new }
+        ensures self_in_range { InRange T.SIGNED BITS self.old }
     {
         *self = *self >> amount;
     }

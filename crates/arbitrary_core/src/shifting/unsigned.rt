@@ -30,7 +30,7 @@ impl<T: UnsignedStorage, const BITS: usize, S: ShiftAmount> Shl<S> for UInt<T, B
             result ≡ pos (unsigned_abs self * 2 ^ places % 2 ^ BITS) }
         ensures congruent { let places = unsigned_abs (S.amount amount) in
             Congruent BITS result (self *ℤ pos (2 ^ places)) }
-        ensures operand { InRange T.SIGNED BITS self }
+        ensures self_in_range { InRange T.SIGNED BITS self }
     {
         UInt::new(shifts::shl(self.value(), amount.to_amount(), BITS))
     }
@@ -52,7 +52,7 @@ impl<T: UnsignedStorage, const BITS: usize, S: ShiftAmount> ShlAssign<S> for UIn
             self.new ≡ pos (unsigned_abs self.old * 2 ^ places % 2 ^ BITS) }
         ensures congruent { let places = unsigned_abs (S.amount amount) in
             Congruent BITS self.new (self.old *ℤ pos (2 ^ places)) }
-        ensures operand { InRange T.SIGNED BITS self.old }
+        ensures self_in_range { InRange T.SIGNED BITS self.old }
     {
         *self = *self << amount;
     }
@@ -75,7 +75,7 @@ impl<T: UnsignedStorage, const BITS: usize, S: ShiftAmount> Shr<S> for UInt<T, B
             let list = bits BITS self in
             result ≡ val T.SIGNED (moved_right list places (fill T.SIGNED list)) }
         ensures quotient { result ≡ int_div self (pos (2 ^ unsigned_abs (S.amount amount))) }
-        ensures operand { InRange T.SIGNED BITS self }
+        ensures self_in_range { InRange T.SIGNED BITS self }
     {
         UInt::new(shifts::shr(self.value(), amount.to_amount(), BITS))
     }
@@ -96,7 +96,7 @@ impl<T: UnsignedStorage, const BITS: usize, S: ShiftAmount> ShrAssign<S> for UIn
             let list = bits BITS self.old in
             self.new ≡ val T.SIGNED (moved_right list places (fill T.SIGNED list)) }
         ensures quotient { self.new ≡ int_div self.old (pos (2 ^ unsigned_abs (S.amount amount))) }
-        ensures operand { InRange T.SIGNED BITS self.old }
+        ensures self_in_range { InRange T.SIGNED BITS self.old }
     {
         *self = *self >> amount;
     }

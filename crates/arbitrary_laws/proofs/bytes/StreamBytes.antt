@@ -6,7 +6,7 @@ use lib.Pointwise.{bytes_decides, pointwise}
 use Rattle.std.proofs.Common.{ap, arith, refl, sym, ◌∙◌}
 use Rattle.std.proofs.Math.Seq.{take-append_seam}
 use Rattle.std.proofs.lemmas.List.{reverse-reverse, take_all}
-use Rattle.arbitrary_base.specs.Bytes.{BorshBytes, bytes, bytes_number}
+use Rattle.arbitrary_base.specs.ByteLists.{BorshBytes, bytes, bytes_number}
 use Rattle.arbitrary_base.specs.Range.{InRange}
 use Rattle.arbitrary_base.specs.Residue.{wrap}
 use Rattle.arbitrary_base.proofs.bytes.NumberOfBytes.{Borsh-canonical, bytes-wrap, length-Borsh, wrap-Borsh, wrap-bytes_number}

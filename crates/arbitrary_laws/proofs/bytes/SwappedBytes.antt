@@ -10,7 +10,7 @@ use Rattle.std.proofs.lemmas.Bool.{cases_lt}
 use Rattle.std.proofs.lemmas.Bool.Decides.{Decides-int_eq, same_from_decides}
 use Rattle.std.proofs.lemmas.List.{append-nil, drop-append-le, drop_at, get_or-reverse, get_or_past, length-reverse, map-append, reverse-append, take-append-drop, take-append-le, take_all, take_at}
 use Rattle.arbitrary_base.specs.BitList.{bits, num, val}
-use Rattle.arbitrary_base.specs.Bytes.{bytes, bytes_number}
+use Rattle.arbitrary_base.specs.ByteLists.{bytes, bytes_number}
 use Rattle.arbitrary_base.specs.Operation.{bitwise_and, bitwise_not, bitwise_or, bitwise_xor, reversed}
 use Rattle.arbitrary_base.specs.Range.{InRange}
 use Rattle.arbitrary_base.specs.Residue.{residue, wrap}

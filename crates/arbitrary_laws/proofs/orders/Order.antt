@@ -11,7 +11,7 @@ use Rattle.std.proofs.lemmas.Nat.{pow_pos}
 use Rattle.arbitrary_base.specs.BitList.{bits, fill, num}
 use Rattle.arbitrary_base.specs.Operation.{bitwise_and, bitwise_or, bitwise_xor, shifted_right}
 use Rattle.arbitrary_base.specs.Range.{InRange, hi, lo}
-use Rattle.arbitrary_base.specs.Saturation.{clamp}
+use Rattle.arbitrary_base.specs.Saturating.{clamp}
 use Rattle.arbitrary_base.proofs.bit_lists.Pointwise.{pointwise}
 use Rattle.arbitrary_base.proofs.bit_lists.SignBit.{last-natural, last-not}
 use Rattle.arbitrary_base.proofs.bit_lists.StdBitwise.{num-and_right}

@@ -1,8 +1,8 @@
 -- The first number of a range, and the last.
 use Rattle.std.specs.Prelude.{List, [], pos, ℤ, ◌++◌, ◌+ℤ◌, ◌-ℤ◌, ◌∷◌, ◌≡◌, ◌≤ℤ◌}
 use Rattle.std.proofs.Common.{ap, refl, ◌∙◌}
-use Rattle.arbitrary_int.proofs.Rows.{numbers-first, numbers-last}
-use Rattle.arbitrary_int.specs.Row.{numbers}
+use Rattle.arbitrary_int.proofs.Stepping.{numbers-first, numbers-last}
+use Rattle.arbitrary_int.specs.Ranges.{numbers}
 
 pub numbers-head : (a b : ℤ) → a ≤ℤ b → numbers a b ≡ a ∷ numbers (a +ℤ pos 1) b
 numbers-head a b h = numbers-first a b (a +ℤ pos 1) h refl

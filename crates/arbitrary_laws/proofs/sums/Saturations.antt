@@ -6,7 +6,7 @@ use Rattle.std.proofs.lemmas.Bool.Decides.{Decides-int_eq}
 use Rattle.std.proofs.lemmas.Int.{ints}
 use Rattle.std.proofs.lemmas.Nat.{pow_pos}
 use Rattle.arbitrary_base.specs.Range.{InRange, hi, lo}
-use Rattle.arbitrary_base.specs.Saturation.{clamp}
+use Rattle.arbitrary_base.specs.Saturating.{clamp}
 use Rattle.arbitrary_base.proofs.storages.CheckedSum.{three_ways}
 use Rattle.arbitrary_base.proofs.storages.Clamp.{clamp-above, clamp-below, clamp-fits}
 

@@ -2,7 +2,7 @@
 use Rattle.std.specs.Prelude.{◌≡◌, ℕ, pos, negsuc, false, ◌*◌, ◌%◌, ◌^◌, ◌≤◌}
 use Rattle.std.specs.Int.{bytes_low_first}
 use Rattle.std.proofs.Common.{refl, sym, ◌∙◌, arith}
-use Rattle.arbitrary_base.specs.Bytes.{bytes}
+use Rattle.arbitrary_base.specs.ByteLists.{bytes}
 use Rattle.arbitrary_base.specs.Residue.{residue}
 use Rattle.arbitrary_base.proofs.bytes.NumberOfBytes.{bytes-wrap}
 use Rattle.arbitrary_laws.proofs.written.KnownNumbers.{negative_digits, wrap-of_positive, wrap-of_negative, signed_wrap-of_positive, signed_wrap-of_negative}

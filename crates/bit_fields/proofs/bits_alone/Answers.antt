@@ -13,7 +13,7 @@ pub returns-else-IS_SIGNED-clause-value : goal.returns-else-IS_SIGNED-clause-val
 returns-else-IS_SIGNED-clause-value g c =
     let w = g.met.F.Numbered.width_law c.to_u128_bits-pattern.ensures.width in
     residue-same g.F.Numbered.IS_SIGNED g.F.Numbered.BITS 128 c.to_u128_bits-pattern.result (g.F.Numbered.number c.args.value) (sym c.IS_SIGNED.ensures ∙ c.if-IS_SIGNED.false) w.0 w.1
-    c.to_u128_bits-pattern.ensures.range c.to_u128_bits-pattern.ensures.value
+    c.to_u128_bits-pattern.ensures.self_in_range c.to_u128_bits-pattern.ensures.value
 
 pub returns-else-IS_SIGNED-clause-short : goal.returns-else-IS_SIGNED-clause-short
 returns-else-IS_SIGNED-clause-short g c =

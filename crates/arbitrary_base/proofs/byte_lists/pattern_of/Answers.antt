@@ -1,6 +1,6 @@
 use Rattle.std.proofs.Common.{List, get_or, Fits, w8, ◌∙◌, ◌<◌, ℕ, length, arith, ap, sym, subst, ◌-◌, ◌*◌, ◌^◌}
 use Rattle.std.specs.Prelude.{pos}
-use Rattle.arbitrary_base.specs.Bytes.{bytes}
+use Rattle.arbitrary_base.specs.ByteLists.{bytes}
 use Rattle.arbitrary_base.proofs.bytes.NumberOfBytes.{room, whole, bytes-number, bytes_number-lt}
 use Rattle.arbitrary_base.proofs.byte_lists.pattern_of.Goals as goal
 

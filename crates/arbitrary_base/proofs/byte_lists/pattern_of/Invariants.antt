@@ -1,5 +1,5 @@
 use Rattle.std.proofs.Common.{◌≡◌, ◌≤◌, drop, length}
-use Rattle.arbitrary_base.specs.Bytes.{bytes_number}
+use Rattle.arbitrary_base.specs.ByteLists.{bytes_number}
 use Rattle.arbitrary_base.proofs.byte_lists.pattern_of.Given as goal
 
 abbrev pub invariant-loop-i : goal.invariant-loop-i

@@ -8,4 +8,4 @@ returns-then-is_turned g c =
 
 pub returns-else-is_turned : goal.returns-else-is_turned
 returns-else-is_turned g c =
-    div-checks g.T.Storage.SIGNED c.args.bits (g.T.Storage.number c.args.x) (g.T.Storage.number c.args.y) (g.T.Storage.number c.div-quotient.result) c.requires.width c.requires.x_in c.requires.y_in c.div-quotient.ensures.value (sym c.is_turned.ensures ∙ c.if-is_turned.false)
+    div-checks g.T.Storage.SIGNED c.args.bits (g.T.Storage.number c.args.x) (g.T.Storage.number c.args.y) (g.T.Storage.number c.div-quotient.result) c.requires.width c.requires.x_in_range c.requires.y_in_range c.div-quotient.ensures.value (sym c.is_turned.ensures ∙ c.if-is_turned.false)

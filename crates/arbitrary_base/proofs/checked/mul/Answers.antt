@@ -4,7 +4,7 @@ use Rattle.arbitrary_base.proofs.checked.mul.Goals as goal
 
 pub from_i64-requires : goal.from_i64-requires
 from_i64-requires g c = record {
-  range = InRange-wider g.T.Storage.SIGNED c.args.bits g.T.Storage.WIDTH _ c.requires.width c.requires.storage (c.is_number_of.ensures.0 c.if-is_number_of.true);
+  x_in_range = InRange-wider g.T.Storage.SIGNED c.args.bits g.T.Storage.WIDTH _ c.requires.width c.requires.storage (c.is_number_of.ensures.0 c.if-is_number_of.true);
 }
 
 pub returns-then-overflow : goal.returns-then-overflow

@@ -5,12 +5,12 @@ use Rattle.arbitrary_base.proofs.checked.sub.Goals as goal
 pub returns-then-is_within : goal.returns-then-is_within
 returns-then-is_within g c =
     let room : c.args.bits < g.T.Storage.WIDTH = omega (arith, c.WIDTH.ensures, c.if-bits-WIDTH.true) in
-    (sub-tells g.T.Storage.SIGNED c.args.bits g.T.Storage.WIDTH _ _ _ c.requires.width room c.requires.x_in c.requires.y_in c.wrapping_sub-difference.ensures).0
+    (sub-tells g.T.Storage.SIGNED c.args.bits g.T.Storage.WIDTH _ _ _ c.requires.width room c.requires.x_in_range c.requires.y_in_range c.wrapping_sub-difference.ensures).0
     (c.is_within.ensures.0 c.if-is_within.true)
 
 pub returns-else-is_within : goal.returns-else-is_within
 returns-else-is_within g c =
     let room : c.args.bits < g.T.Storage.WIDTH = omega (arith, c.WIDTH.ensures, c.if-bits-WIDTH.true) in
     none-told g.T.Storage.SIGNED c.args.bits _ _ _
-    (sub-tells g.T.Storage.SIGNED c.args.bits g.T.Storage.WIDTH _ _ _ c.requires.width room c.requires.x_in c.requires.y_in c.wrapping_sub-difference.ensures)
+    (sub-tells g.T.Storage.SIGNED c.args.bits g.T.Storage.WIDTH _ _ _ c.requires.width room c.requires.x_in_range c.requires.y_in_range c.wrapping_sub-difference.ensures)
     c.is_within.ensures c.if-is_within.false

@@ -10,5 +10,5 @@ pub returns-then-bits-WIDTH-clause-overflow : goal.returns-then-bits-WIDTH-claus
 returns-then-bits-WIDTH-clause-overflow g c =
     let room : c.args.bits < g.T.Storage.WIDTH = omega (arith, c.WIDTH.ensures, c.if-bits-WIDTH.true) in
     overflow-told g.T.Storage.SIGNED c.args.bits _ _ _
-    (sub-tells g.T.Storage.SIGNED c.args.bits g.T.Storage.WIDTH _ _ _ c.requires.width room c.requires.x_in c.requires.y_in c.wrapping_sub-difference.ensures)
+    (sub-tells g.T.Storage.SIGNED c.args.bits g.T.Storage.WIDTH _ _ _ c.requires.width room c.requires.x_in_range c.requires.y_in_range c.wrapping_sub-difference.ensures)
     c.is_within.ensures

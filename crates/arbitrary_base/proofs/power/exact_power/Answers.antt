@@ -14,7 +14,7 @@ pub returns-in_err-square-clause-value : goal.returns-in_err-square-clause-value
 returns-in_err-square-clause-value g c =
     let n = g.T.Storage.number in
     let first = begun (n c.args.x) _ c.args.exp (omega arith) c.one-product.ensures in
-    rw c.from_residual.ensures (square-beyond _ _ first c.if-exp-gt1.true c.requires.range c.in_err-square.ensures.product)
+    rw c.from_residual.ensures (square-beyond _ _ first c.if-exp-gt1.true c.requires.x_in_range c.in_err-square.ensures.product)
 
 pub returns-then-equal-clause-value : goal.returns-then-equal-clause-value
 returns-then-equal-clause-value g c =
@@ -51,7 +51,7 @@ loop-left-init g c =
           elim w.if-exp-eq1-2.branch [
             | then-exp-eq1-2 v ↦ (
               odd-turn _ _ _ first w.if-exp-gt1.true v.if-exp-eq1-2.true (ap n v.product-is ∙ one-times _ _ one) square.1 (omega arith),
-              InRange-equal {x = n c.args.x} (ap n v.product-is) c.requires.range,
+              InRange-equal {x = n c.args.x} (ap n v.product-is) c.requires.x_in_range,
             )
             | else-exp-eq1-2 v ↦ (
               even-turn _ _ _ first w.if-exp-gt1.true v.if-exp-eq1-2.false (ap n v.product-is) square.1 (omega arith),
@@ -63,7 +63,7 @@ loop-left-init g c =
             product_in = next.1;
             base_in = InRange-equal {x = n c.args.x *ℤ n c.args.x} square.1 square.0;
           })
-      | else-exp-gt1 w ↦ rw (w.count-is, w.product-is, w.base-is, w.left-is, c.requires.started) record { squaring = first; product_in = one_in; base_in = c.requires.range }
+      | else-exp-gt1 w ↦ rw (w.count-is, w.product-is, w.base-is, w.left-is, c.requires.started) record { squaring = first; product_in = one_in; base_in = c.requires.x_in_range }
     ]
 
 pub multiply-requires-in-loop-left-clause-room : goal.multiply-requires-in-loop-left-clause-room

@@ -9,13 +9,13 @@ use Rattle.arbitrary_base.proofs.saturating.mul.Goals as goal
 
 pub from_i64-requires : goal.from_i64-requires
 from_i64-requires g c = record {
-  range = subst (λ (v : ℤ). InRange g.T.Storage.SIGNED g.T.Storage.WIDTH v) (sym (to_z-of_z {w = w64} {z = c.clamped.result} (record { sfits = c.clamped.type_inv })))
+  x_in_range = subst (λ (v : ℤ). InRange g.T.Storage.SIGNED g.T.Storage.WIDTH v) (sym (to_z-of_z {w = w64} {z = c.clamped.result} (record { sfits = c.clamped.type_inv })))
       (InRange-wider g.T.Storage.SIGNED c.args.bits g.T.Storage.WIDTH c.clamped.result c.requires.width c.requires.storage (clamp-InRange g.T.Storage.SIGNED c.args.bits _ _ c.requires.width c.clamped.ensures));
 }
 
-pub returns-then-WIDTH-le16-clause-range : goal.returns-then-WIDTH-le16-clause-range
-returns-then-WIDTH-le16-clause-range g c =
+pub returns-then-WIDTH-le16-clause-result_in_range : goal.returns-then-WIDTH-le16-clause-result_in_range
+returns-then-WIDTH-le16-clause-result_in_range g c =
     clamp-InRange g.T.Storage.SIGNED c.args.bits _ _ c.requires.width (c.from_i64.ensures ∙ to_z-of_z {w = w64} {z = c.clamped.result} (record { sfits = c.clamped.type_inv }) ∙ c.clamped.ensures)
 
-pub returns-in-None-clause-range : goal.returns-in-None-clause-range
-returns-in-None-clause-range g c = end-InRange g.T.Storage.SIGNED c.args.bits _ _ c.requires.width c.end.ensures
+pub returns-in-None-clause-result_in_range : goal.returns-in-None-clause-result_in_range
+returns-in-None-clause-result_in_range g c = end-InRange g.T.Storage.SIGNED c.args.bits _ _ c.requires.width c.end.ensures

@@ -1,10 +1,10 @@
 use Rattle.std.proofs.Common.{◌≡◌, ℤ, subst}
-use Rattle.arbitrary_base.specs.Saturation.{clamp}
+use Rattle.arbitrary_base.specs.Saturating.{clamp}
 use Rattle.arbitrary_base.proofs.storages.CheckedSum.{sub-from_zero, zero-InRange}
 use Rattle.arbitrary_base.proofs.saturating.neg.Goals as goal
 
-pub sub-requires-clause-x_in : goal.sub-requires-clause-x_in
-sub-requires-clause-x_in g c = zero-InRange g.T.Storage.SIGNED c.args.bits _ c.requires.width c.zero.ensures
+pub sub-requires-clause-x_in_range : goal.sub-requires-clause-x_in_range
+sub-requires-clause-x_in_range g c = zero-InRange g.T.Storage.SIGNED c.args.bits _ c.requires.width c.zero.ensures
 
 pub returns-clause-value : goal.returns-clause-value
 returns-clause-value g c = subst (λ (e : ℤ). g.T.Storage.number c.sub.result ≡ clamp g.T.Storage.SIGNED c.args.bits e) (sub-from_zero (g.T.Storage.number c.args.x) _ c.zero.ensures) c.sub.ensures.value

@@ -1,5 +1,5 @@
 use Rattle.std.proofs.Common.{arith, ap, sym, ◌∙◌, ◌<◌}
-use Rattle.arbitrary_base.specs.Saturation.{clamp}
+use Rattle.arbitrary_base.specs.Saturating.{clamp}
 use Rattle.arbitrary_base.proofs.storages.Clamp.{clamp-InRange}
 use Rattle.arbitrary_base.proofs.storages.SpareBit.{difference-stays}
 use Rattle.arbitrary_base.proofs.saturating.sub.Goals as goal
@@ -8,7 +8,7 @@ pub returns-then-bits-WIDTH-clause-value : goal.returns-then-bits-WIDTH-clause-v
 returns-then-bits-WIDTH-clause-value g c =
     let room : c.args.bits < g.T.Storage.WIDTH = omega (arith, c.WIDTH.ensures, c.if-bits-WIDTH.true) in
     c.clamped.ensures ∙ ap (clamp g.T.Storage.SIGNED c.args.bits)
-    (difference-stays g.T.Storage.SIGNED c.args.bits g.T.Storage.WIDTH _ _ _ (sym c.SIGNED.ensures ∙ c.if-SIGNED.true) c.requires.width room c.requires.x_in c.requires.y_in c.wrapping_sub.ensures)
+    (difference-stays g.T.Storage.SIGNED c.args.bits g.T.Storage.WIDTH _ _ _ (sym c.SIGNED.ensures ∙ c.if-SIGNED.true) c.requires.width room c.requires.x_in_range c.requires.y_in_range c.wrapping_sub.ensures)
 
-pub returns-then-bits-WIDTH-clause-range : goal.returns-then-bits-WIDTH-clause-range
-returns-then-bits-WIDTH-clause-range g c = clamp-InRange g.T.Storage.SIGNED c.args.bits _ _ c.requires.width c.clamped.ensures
+pub returns-then-bits-WIDTH-clause-result_in_range : goal.returns-then-bits-WIDTH-clause-result_in_range
+returns-then-bits-WIDTH-clause-result_in_range g c = clamp-InRange g.T.Storage.SIGNED c.args.bits _ _ c.requires.width c.clamped.ensures

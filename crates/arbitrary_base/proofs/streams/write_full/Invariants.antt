@@ -1,6 +1,6 @@
 use Rattle.std.proofs.Common.{length, ◌-◌, ◌≤◌, take}
 use Rattle.std.specs.Io.KnownBytes.{Appends}
-use Rattle.arbitrary_base.specs.Watching.{inner_of, NoFailure}
+use Rattle.arbitrary_base.specs.Watched.{inner_of, NoFailure}
 use Rattle.arbitrary_base.proofs.streams.write_full.Given as goal
 
 abbrev pub invariant-loop-at : goal.invariant-loop-at

@@ -1,5 +1,5 @@
 use Rattle.std.proofs.Common.{◌∙◌, sym, subst}
-use Rattle.arbitrary_base.specs.Bytes.{Canonical}
+use Rattle.arbitrary_base.specs.ByteLists.{Canonical}
 use Rattle.arbitrary_base.proofs.bytes.NumberOfBytes.{Borsh-canonical, Borsh-unique}
 use Rattle.arbitrary_int.proofs.byte_laws.through_borsh_bytes.Goals as goal
 
@@ -11,4 +11,4 @@ returns-in_err-read g c = absurd (c.in_err-read.ensures.bytes (subst (Canonical 
 
 pub returns : goal.returns
 returns g c =
-    Borsh-unique _ _ _ _ (g.met.V.Numbered.width_law c.to_u128_bits-known.ensures.width).0 c.to_u128_bits-read.ensures.range c.to_u128_bits-known.ensures.range (c.in_ok-read.ensures.bytes.1 ∙ c.to_borsh_bytes-count.ensures.bytes)
+    Borsh-unique _ _ _ _ (g.met.V.Numbered.width_law c.to_u128_bits-known.ensures.width).0 c.to_u128_bits-read.ensures.self_in_range c.to_u128_bits-known.ensures.self_in_range (c.in_ok-read.ensures.bytes.1 ∙ c.to_borsh_bytes-count.ensures.bytes)

@@ -1,5 +1,5 @@
 use Rattle.std.proofs.Common.{◌≡◌, length, map, drop}
-use Rattle.arbitrary_int.specs.Run.{RunOf, later}
+use Rattle.arbitrary_int.specs.Runs.{RunOf, later}
 use Rattle.arbitrary_int.proofs.runs.run.Given as goal
 
 abbrev pub invariant-loop-at : goal.invariant-loop-at

@@ -1,6 +1,6 @@
 use Rattle.std.specs.Prelude.{◌≡◌, ◌+ℤ◌, pos, map}
 use Rattle.std.specs.List.{fold}
-use Rattle.arbitrary_int.specs.Total.{PartialsFit}
+use Rattle.arbitrary_int.specs.Totals.{PartialsFit}
 use Rattle.arbitrary_int.proofs.totals.try_sum.Given as goal
 
 abbrev pub invariant-loop-item : goal.invariant-loop-item

@@ -11,7 +11,7 @@ returns-clause-bits g c =
 pub returns-clause-read_back : goal.returns-clause-read_back
 returns-clause-read_back g c =
     read-back c.args.self.now.bits c.args.start g.F.Numbered.BITS c.replaced-self.result (g.F.Numbered.number c.args.value) (returns-clause-bits g c) c.requires
-    g.F.Numbered.IS_SIGNED (g.met.F.Numbered.width_law c.bits_alone.ensures.width).0 c.bits_alone.ensures.range
+    g.F.Numbered.IS_SIGNED (g.met.F.Numbered.width_law c.bits_alone.ensures.width).0 c.bits_alone.ensures.value_in_range
 
 pub returns-clause-below : goal.returns-clause-below
 returns-clause-below g c =
@@ -46,4 +46,4 @@ pub returns-clause-plain : goal.returns-clause-plain
 returns-clause-plain g c =
     let small : c.args.self.now.bits < 2 ^ 128 = search rules in
     number-plain c.args.self.now.bits c.args.start g.F.Numbered.BITS c.replaced-self.result (g.F.Numbered.number c.args.value) (returns-clause-bits g c) c.requires g.F.Numbered.IS_SIGNED small
-    (g.met.F.Numbered.width_law c.bits_alone.ensures.width).0 c.bits_alone.ensures.range
+    (g.met.F.Numbered.width_law c.bits_alone.ensures.width).0 c.bits_alone.ensures.value_in_range

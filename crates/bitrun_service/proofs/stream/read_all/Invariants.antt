@@ -1,6 +1,6 @@
 use Rattle.std.proofs.Common.{◌≤◌, vec_len}
 use Rattle.std.specs.Io.KnownBytes.{Consumes}
-use Rattle.arbitrary_int.specs.Watching.{inner_of}
+use Rattle.arbitrary_int.specs.Watched.{inner_of}
 use Rattle.bitrun_service.proofs.stream.read_all.Given as goal
 
 abbrev pub invariant-loop : goal.invariant-loop

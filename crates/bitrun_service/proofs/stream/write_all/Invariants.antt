@@ -1,6 +1,6 @@
 use Rattle.std.proofs.Common.{◌≤◌, ◌-◌, length, take}
 use Rattle.std.specs.Io.KnownBytes.{Appends}
-use Rattle.arbitrary_int.specs.Watching.{inner_of}
+use Rattle.arbitrary_int.specs.Watched.{inner_of}
 use Rattle.bitrun_service.proofs.stream.write_all.Given as goal
 
 abbrev pub invariant-loop-at : goal.invariant-loop-at

@@ -2,7 +2,7 @@
 -- (`records-same` of Records.antt).
 use Rattle.std.specs.Prelude.{◌≡◌, ◌++◌, []}
 use Rattle.std.proofs.Common.{rules, sym, append-nil, ◌∙◌}
-use Rattle.arbitrary_int.specs.Watching.{inner_of}
+use Rattle.arbitrary_int.specs.Watched.{inner_of}
 use Rattle.examples.specs.Journal.{record_bytes}
 use Rattle.examples.proofs.Records.{records-same}
 use Rattle.examples.proofs.journal.written_and_read.Goals as goal

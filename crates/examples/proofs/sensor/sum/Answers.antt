@@ -4,7 +4,7 @@ use Rattle.std.proofs.Common.{subst}
 use Rattle.std.proofs.lemmas.List.{map-id}
 use Rattle.std.proofs.lemmas.Iterator.{YieldsList-from_slice}
 use Rattle.std.proofs.lemmas.Iterator.Consumers.{YieldsList-from_copied}
-use Rattle.arbitrary_int.specs.Total.{PartialsFit}
+use Rattle.arbitrary_int.specs.Totals.{PartialsFit}
 use Rattle.arbitrary_int.proofs.TotalSteps.{total-of_list}
 use Rattle.examples.proofs.sensor.sum.Goals as goal
 

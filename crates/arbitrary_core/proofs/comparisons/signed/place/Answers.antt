@@ -6,12 +6,12 @@ pub returns-clause-above : goal.returns-clause-above
 returns-clause-above g c u =
     place-above g.T.Storage.SIGNED g.T.Unsigned.Storage.SIGNED g.row.BITS g.T.Storage.WIDTH g.T.Unsigned.Storage.WIDTH c.args.x _ _ _ _
     g.met.T.SignedStorage.signed_law g.met.T.Unsigned.UnsignedStorage.unsigned_law c.to_bits-bits.ensures.width.0 c.to_bits-bits.ensures.width.1
-    g.met.T.Unsigned.UnsignedOf.unsigned_width_law c.to_bits-bits.ensures.self_range c.to_bits-bits.ensures.value (c.new-least.ensures ∙ c.lowest.ensures.value)
+    g.met.T.Unsigned.UnsignedOf.unsigned_width_law c.to_bits-bits.ensures.self_in_range c.to_bits-bits.ensures.value (c.new-least.ensures ∙ c.lowest.ensures.value)
     c.to_bits.ensures.value c.wrapping_sub.ensures u
 
 pub returns-clause-below : goal.returns-clause-below
 returns-clause-below g c u =
     place-below g.T.Storage.SIGNED g.T.Unsigned.Storage.SIGNED g.row.BITS g.T.Storage.WIDTH g.T.Unsigned.Storage.WIDTH c.args.x _ _ _ _
     g.met.T.SignedStorage.signed_law g.met.T.Unsigned.UnsignedStorage.unsigned_law c.to_bits-bits.ensures.width.0 c.to_bits-bits.ensures.width.1
-    g.met.T.Unsigned.UnsignedOf.unsigned_width_law c.to_bits-bits.ensures.self_range c.to_bits-bits.ensures.value (c.new-least.ensures ∙ c.lowest.ensures.value)
+    g.met.T.Unsigned.UnsignedOf.unsigned_width_law c.to_bits-bits.ensures.self_in_range c.to_bits-bits.ensures.value (c.new-least.ensures ∙ c.lowest.ensures.value)
     c.to_bits.ensures.value c.wrapping_sub.ensures u

@@ -6,4 +6,4 @@ pub returns-clause-value : goal.returns-clause-value
 returns-clause-value g c =
     let one_sign = g.met.S.UnsignedStorage.unsigned_law ∙ sym g.met.T.UnsignedStorage.unsigned_law in
     let valid = g.met.T.HasWidth.valid_law in
-    kept _ _ g.row.BITS _ _ _ _ one_sign (valid.0) (valid.1) c.value.ensures.range c.value.ensures.number (search rules)
+    kept _ _ g.row.BITS _ _ _ _ one_sign (valid.0) (valid.1) c.value.ensures.self_in_range c.value.ensures.number (search rules)

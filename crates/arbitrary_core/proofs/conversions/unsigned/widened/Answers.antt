@@ -7,4 +7,4 @@ returns-clause-value g c =
     let one_sign = g.met.S.UnsignedStorage.unsigned_law ∙ sym g.met.T.UnsignedStorage.unsigned_law in
     let width = c.value.ensures.width in
     let room = le_trans (width.1) g.met.S.FitsIn.fits_law in
-    kept _ _ g.row.FROM g.row.BITS _ _ _ one_sign (width.0) room c.value.ensures.range c.value.ensures.number (c.new.ensures ∙ c.cast.ensures.value)
+    kept _ _ g.row.FROM g.row.BITS _ _ _ one_sign (width.0) room c.value.ensures.self_in_range c.value.ensures.number (c.new.ensures ∙ c.cast.ensures.value)

@@ -6,5 +6,5 @@ pub invariant_of-result : goal.invariant_of-result
 invariant_of-result g c = (
   c.requires.width,
   wrap-in_range g.T.Storage.SIGNED g.row.BITS _ (c.requires.width.0),
-  pattern-stays g.T.Storage.SIGNED g.T.Unsigned.Storage.SIGNED g.row.BITS _ g.met.T.Unsigned.UnsignedStorage.unsigned_law (c.requires.width.0) c.requires.range,
+  pattern-stays g.T.Storage.SIGNED g.T.Unsigned.Storage.SIGNED g.row.BITS _ g.met.T.Unsigned.UnsignedStorage.unsigned_law (c.requires.width.0) c.requires.bits_in_range,
 )

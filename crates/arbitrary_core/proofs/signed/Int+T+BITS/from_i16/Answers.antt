@@ -4,4 +4,4 @@ use Rattle.arbitrary_core.proofs.signed.Int+T+BITS.from_i16.Goals as goal
 
 pub returns : goal.returns
 returns g c =
-    c.new.ensures ∙ wrapped-exact g.T.Storage.SIGNED g.row.BITS c.args.value _ (c.requires.width.0) c.requires.range (search rules)
+    c.new.ensures ∙ wrapped-exact g.T.Storage.SIGNED g.row.BITS c.args.value _ (c.requires.width.0) c.requires.value_in_range (search rules)

@@ -6,4 +6,4 @@ pub new-requires : goal.new-requires
 new-requires g c =
     let above = c.requires.above in
     let some : 1 ≤ g.row.R = omega arith in
-    (search rules, ((some, c.requires.width), widened g.T.Storage.SIGNED g.row.BITS g.row.R _ _ (c.value.ensures.width.0) c.requires.above c.value.ensures.range c.value.ensures.number))
+    (search rules, ((some, c.requires.width), widened g.T.Storage.SIGNED g.row.BITS g.row.R _ _ (c.value.ensures.width.0) c.requires.above c.value.ensures.self_in_range c.value.ensures.number))

@@ -5,4 +5,4 @@ pub returns-clause-operation : goal.returns-clause-operation
 returns-clause-operation g c = negated-is _ _ _ _ (cc)
 
 pub returns-clause-undo : goal.returns-clause-undo
-returns-clause-undo g c = negated-undone _ _ _ _ c.value.ensures.width.0 c.value.ensures.range (cc)
+returns-clause-undo g c = negated-undone _ _ _ _ c.value.ensures.width.0 c.value.ensures.self_in_range (cc)

@@ -1,7 +1,7 @@
 use Rattle.std.proofs.Common.{◌≡◌, ◌<◌, ◌*◌, ◌^◌, ◌∙◌, rules, ap, subst, ℕ, length}
 use Rattle.std.specs.Prelude.{pos}
 use Rattle.arbitrary_base.specs.Residue.{wrap}
-use Rattle.arbitrary_base.specs.Bytes.{bytes_number}
+use Rattle.arbitrary_base.specs.ByteLists.{bytes_number}
 use Rattle.arbitrary_base.proofs.bytes.NumberOfBytes.{bytes-wrap, wrap-number_of, unsigned-number_of}
 use Rattle.arbitrary_base.proofs.modular.ExactOrCongruent.{wrapped-congruent}
 use Rattle.arbitrary_int.proofs.byte_orders.ByteOrders.from_le_bytes.Goals as goal

@@ -10,11 +10,11 @@ returns-clause-bytes g c =
 
 pub returns-clause-unsigned : goal.returns-clause-unsigned
 returns-clause-unsigned g c u =
-    number_of-unsigned _ _ _ _ _ g.met.Self.ByteOrders.width_law (g.met.Self.Numbered.width_law c.to_u128_bits.ensures.width).0 c.to_u128_bits.ensures.range (returns-clause-bytes g c) u
+    number_of-unsigned _ _ _ _ _ g.met.Self.ByteOrders.width_law (g.met.Self.Numbered.width_law c.to_u128_bits.ensures.width).0 c.to_u128_bits.ensures.self_in_range (returns-clause-bytes g c) u
 
 pub returns-clause-plain : goal.returns-clause-plain
 returns-clause-plain g c u i h =
-    byte-at _ _ _ _ _ _ g.met.Self.ByteOrders.width_law c.to_u128_bits.ensures.range (returns-clause-bytes g c) u h
+    byte-at _ _ _ _ _ _ g.met.Self.ByteOrders.width_law c.to_u128_bits.ensures.self_in_range (returns-clause-bytes g c) u h
 
 pub returns-clause-signed : goal.returns-clause-signed
 returns-clause-signed g c u = number_of-signed _ _ _ _ g.met.Self.ByteOrders.width_law (returns-clause-bytes g c)

@@ -17,7 +17,7 @@ returns g c =
     let A = g.T.Numbered.BITS in
     let x = g.T.Numbered.number c.args.value in
     let h = (g.met.T.Numbered.width_law c.to_u128_bits.ensures.width).0 in
-    let f = c.to_u128_bits.ensures.range in
+    let f = c.to_u128_bits.ensures.self_in_range in
     let exact = λ (i : InRange s B x). wrapped-exact s B _ _ some.0 i e in
     let congruent = wrapped-congruent s B _ _ e in
     record {
@@ -31,6 +31,6 @@ returns g c =
       congruent = λ y d. subst (λ (z : ℤ). Congruent B (g.Self.Numbered.number c.from_u128_bits.result) z) d congruent;
       congruent_to = λ y l d. Congruent-trans B _ x y congruent (Congruent-narrower B A x y l d);
       congruent_signed = congruent-signed g.T.Numbered.IS_SIGNED s B _ _ congruent;
-      range = c.to_u128_bits.ensures.range;
+      value_in_range = c.to_u128_bits.ensures.self_in_range;
       width = c.to_u128_bits.ensures.width;
     }

@@ -17,4 +17,4 @@ pub returns-clause-plain : goal.returns-clause-plain
 returns-clause-plain g c d =
     let x = g.Self.Numbered.number c.args.self in
     let v : c.count_ones.result ≡ count_by (λ b. b) (bits g.Self.Numbered.BITS (pos c.low_bits.result)) = cc in
-    v ∙ ap (count_by (λ b. b)) (bits-residue g.Self.Numbered.BITS c.low_bits.result x c.low_bits.ensures.value) ∙ popcount-plain _ _ x c.low_bits.ensures.range d
+    v ∙ ap (count_by (λ b. b)) (bits-residue g.Self.Numbered.BITS c.low_bits.result x c.low_bits.ensures.value) ∙ popcount-plain _ _ x c.low_bits.ensures.self_in_range d

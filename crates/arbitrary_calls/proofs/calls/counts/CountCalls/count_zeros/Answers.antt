@@ -13,5 +13,5 @@ returns-clause-plain g c d =
     let v : c.count_ones.result ≡ count_by (λ b. b) (bits B (pos c.low_bits-pattern.result)) = cc in
     let e : count_by (λ b. b) (bits B x) ≡ c.count_ones.result =
     sym (v ∙ ap (count_by (λ b. b)) (bits-residue B c.low_bits-pattern.result x c.low_bits-pattern.ensures.value)) in
-    let digits : count_by (λ b. b) (bits B x) ≡ count_ones (unsigned_abs x) = popcount-plain _ _ x c.low_bits-pattern.ensures.range d in
+    let digits : count_by (λ b. b) (bits B x) ≡ count_ones (unsigned_abs x) = popcount-plain _ _ x c.low_bits-pattern.ensures.self_in_range d in
     omega (arith, popcount-fit B x, c.BITS.ensures, e, digits)

@@ -12,10 +12,10 @@ pub returns-clause-below : goal.returns-clause-below
 returns-clause-below g c f = let t = g.met.Self.Stored.sign_law in clamped-below g.Self.Numbered.IS_SIGNED g.Self.Numbered.BITS _ _ f (cc)
 
 pub returns-clause-first : goal.returns-clause-first
-returns-clause-first g c d = let t = g.met.Self.Stored.sign_law in clamped-first _ _ c.args.exp _ _ c.to_storage.ensures.range (cc) d
+returns-clause-first g c d = let t = g.met.Self.Stored.sign_law in clamped-first _ _ c.args.exp _ _ c.to_storage.ensures.self_in_range (cc) d
 
 pub returns-clause-of_one : goal.returns-clause-of_one
-returns-clause-of_one g c d = let t = g.met.Self.Stored.sign_law in clamped-of_one _ _ c.args.exp _ _ c.to_storage.ensures.range (cc) d
+returns-clause-of_one g c d = let t = g.met.Self.Stored.sign_law in clamped-of_one _ _ c.args.exp _ _ c.to_storage.ensures.self_in_range (cc) d
 
 pub returns-clause-of_zero : goal.returns-clause-of_zero
-returns-clause-of_zero g c d l = let t = g.met.Self.Stored.sign_law in clamped-of_zero _ _ c.args.exp _ _ c.to_storage.ensures.range (cc) d l
+returns-clause-of_zero g c d l = let t = g.met.Self.Stored.sign_law in clamped-of_zero _ _ c.args.exp _ _ c.to_storage.ensures.self_in_range (cc) d l

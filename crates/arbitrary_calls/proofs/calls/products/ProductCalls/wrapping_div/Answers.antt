@@ -8,7 +8,7 @@ returns-clause-exact g c f = let t = g.met.Self.Stored.sign_law in wrapped-exact
 pub returns-clause-of_least : goal.returns-clause-of_least
 returns-clause-of_least g c d n =
     let t = g.met.Self.Stored.sign_law in
-    wrapped-of_least _ _ _ _ _ c.to_storage.ensures.some c.to_storage.ensures.range c.to_storage-2.ensures.range (cc) (cc) n
+    wrapped-of_least _ _ _ _ _ c.to_storage.ensures.some c.to_storage.ensures.self_in_range c.to_storage-2.ensures.self_in_range (cc) (cc) n
 
 pub returns-clause-itself : goal.returns-clause-itself
 returns-clause-itself g c f d =

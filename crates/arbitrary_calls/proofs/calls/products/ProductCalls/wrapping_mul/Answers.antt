@@ -13,7 +13,7 @@ returns g c =
       value = e;
       exact = λ f. wrapped-exact _ _ _ _ o f e;
       congruent = wrapped-congruent _ _ _ _ e;
-      range = c.low_bits.ensures.range;
-      operand = c.low_bits-2.ensures.range;
+      self_in_range = c.low_bits.ensures.self_in_range;
+      rhs_in_range = c.low_bits-2.ensures.self_in_range;
       width = c.low_bits.ensures.width;
     }

@@ -18,7 +18,7 @@ pub returns-then-amount-BITS-clause-plain : goal.returns-then-amount-BITS-clause
 returns-then-amount-BITS-clause-plain g c d =
     let t = g.met.Self.Stored.sign_law in
     let l : c.args.amount < g.Self.Numbered.BITS = omega arith in
-    let r = subst (λ (s : Bool). InRange s g.Self.Numbered.BITS (g.Self.Numbered.number c.args.self)) t c.to_storage-storage.ensures.range in
+    let r = subst (λ (s : Bool). InRange s g.Self.Numbered.BITS (g.Self.Numbered.number c.args.self)) t c.to_storage-storage.ensures.self_in_range in
     let e : g.Self.Numbered.number c.from_storage.result ≡ val g.Self.Numbered.IS_SIGNED (shl (bits g.Self.Numbered.BITS (g.Self.Numbered.number c.args.self)) c.args.amount) = cc in
     shl-plain _ _ _ _ _ d c.to_storage-storage.ensures.some l r e
 
@@ -32,6 +32,6 @@ returns-then-amount-BITS-clause-congruent g c =
 pub returns-then-amount-BITS-clause-none : goal.returns-then-amount-BITS-clause-none
 returns-then-amount-BITS-clause-none g c z =
     let t = g.met.Self.Stored.sign_law in
-    let r = subst (λ (s : Bool). InRange s g.Self.Numbered.BITS (g.Self.Numbered.number c.args.self)) t c.to_storage-storage.ensures.range in
+    let r = subst (λ (s : Bool). InRange s g.Self.Numbered.BITS (g.Self.Numbered.number c.args.self)) t c.to_storage-storage.ensures.self_in_range in
     let e : g.Self.Numbered.number c.from_storage.result ≡ val g.Self.Numbered.IS_SIGNED (shl (bits g.Self.Numbered.BITS (g.Self.Numbered.number c.args.self)) c.args.amount) = cc in
     e ∙ sym (left-is _ _ _ _) ∙ ap (shifted_left g.Self.Numbered.IS_SIGNED g.Self.Numbered.BITS _) z ∙ shifted_left-none _ _ _ c.to_storage-storage.ensures.some r

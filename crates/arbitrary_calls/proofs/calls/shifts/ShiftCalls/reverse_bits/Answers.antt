@@ -13,7 +13,7 @@ returns g c =
     record {
       operation = e ∙ sym (reversed-is _ _ _);
       value = λ y d. subst (λ (y : ℤ). g.Self.Numbered.number c.from_u128_bits.result ≡ val g.Self.Numbered.IS_SIGNED (reverse (bits g.Self.Numbered.BITS y))) d e;
-      undo = reverse-undoes _ _ _ _ _ c.low_bits.ensures.some c.low_bits.ensures.range e (reversed-is _ _ _);
-      range = c.low_bits.ensures.range;
+      undo = reverse-undoes _ _ _ _ _ c.low_bits.ensures.some c.low_bits.ensures.self_in_range e (reversed-is _ _ _);
+      self_in_range = c.low_bits.ensures.self_in_range;
       width = c.low_bits.ensures.width;
     }

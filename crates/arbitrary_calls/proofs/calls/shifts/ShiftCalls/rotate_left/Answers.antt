@@ -18,8 +18,8 @@ returns g c =
     record {
       operation = e ∙ sym (rotl-is _ _ _ _);
       value = λ y d. subst (λ (y : ℤ). g.Self.Numbered.number c.from_u128_bits.result ≡ val g.Self.Numbered.IS_SIGNED (slice_rotate_right (bits g.Self.Numbered.BITS y) (c.args.amount % g.Self.Numbered.BITS))) d e;
-      undo = rotr-undoes _ _ (c.args.amount % g.Self.Numbered.BITS) _ _ _ o l c.low_bits.ensures.range e (rotr-is _ _ _ _);
-      round = λ z. e ∙ sym (rotl-is _ _ _ _) ∙ ap (rotated_left g.Self.Numbered.IS_SIGNED g.Self.Numbered.BITS _) z ∙ rotated_left-none _ _ _ o c.low_bits.ensures.range;
-      range = c.low_bits.ensures.range;
+      undo = rotr-undoes _ _ (c.args.amount % g.Self.Numbered.BITS) _ _ _ o l c.low_bits.ensures.self_in_range e (rotr-is _ _ _ _);
+      round = λ z. e ∙ sym (rotl-is _ _ _ _) ∙ ap (rotated_left g.Self.Numbered.IS_SIGNED g.Self.Numbered.BITS _) z ∙ rotated_left-none _ _ _ o c.low_bits.ensures.self_in_range;
+      self_in_range = c.low_bits.ensures.self_in_range;
       width = c.low_bits.ensures.width;
     }

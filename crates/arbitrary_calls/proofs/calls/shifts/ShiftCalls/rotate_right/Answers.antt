@@ -18,8 +18,8 @@ returns g c =
     record {
       operation = e ∙ sym (rotr-is _ _ _ _);
       value = λ y d. subst (λ (y : ℤ). g.Self.Numbered.number c.from_u128_bits.result ≡ val g.Self.Numbered.IS_SIGNED (rotr (bits g.Self.Numbered.BITS y) (c.args.amount % g.Self.Numbered.BITS))) d e;
-      undo = rotl-undoes _ _ (c.args.amount % g.Self.Numbered.BITS) _ _ _ o l c.low_bits.ensures.range e (rotl-is _ _ _ _);
-      round = λ z. e ∙ sym (rotr-is _ _ _ _) ∙ ap (rotated_right g.Self.Numbered.IS_SIGNED g.Self.Numbered.BITS _) z ∙ rotated_right-none _ _ _ o c.low_bits.ensures.range;
-      range = c.low_bits.ensures.range;
+      undo = rotl-undoes _ _ (c.args.amount % g.Self.Numbered.BITS) _ _ _ o l c.low_bits.ensures.self_in_range e (rotl-is _ _ _ _);
+      round = λ z. e ∙ sym (rotr-is _ _ _ _) ∙ ap (rotated_right g.Self.Numbered.IS_SIGNED g.Self.Numbered.BITS _) z ∙ rotated_right-none _ _ _ o c.low_bits.ensures.self_in_range;
+      self_in_range = c.low_bits.ensures.self_in_range;
       width = c.low_bits.ensures.width;
     }

@@ -14,7 +14,7 @@ returns g c =
     let t = g.met.Self.Stored.sign_law in
     let o = c.to_storage-storage.ensures.some in
     let l : c.args.amount % g.Self.Numbered.BITS < g.Self.Numbered.BITS = omega arith in
-    let r = subst (λ (s : Bool). InRange s g.Self.Numbered.BITS (g.Self.Numbered.number c.args.self)) t c.to_storage-storage.ensures.range in
+    let r = subst (λ (s : Bool). InRange s g.Self.Numbered.BITS (g.Self.Numbered.number c.args.self)) t c.to_storage-storage.ensures.self_in_range in
     let e : g.Self.Numbered.number c.from_storage.result ≡ val g.Self.Numbered.IS_SIGNED (shl (bits g.Self.Numbered.BITS (g.Self.Numbered.number c.args.self)) (c.args.amount % g.Self.Numbered.BITS)) = cc in
     record {
       operation = e ∙ sym (left-is _ _ _ _);
@@ -23,6 +23,6 @@ returns g c =
       exact = λ f. shl-stays _ _ _ _ _ o l f e;
       congruent = λ y d. subst (Congruent g.Self.Numbered.BITS (g.Self.Numbered.number c.from_storage.result)) (sym d) (shl-congruent _ _ _ _ _ o l e);
       none = λ z. e ∙ sym (left-is _ _ _ _) ∙ ap (shifted_left g.Self.Numbered.IS_SIGNED g.Self.Numbered.BITS _) z ∙ shifted_left-none _ _ _ o r;
-      operand = r;
+      self_in_range = r;
       width = c.to_storage-storage.ensures.width;
     }

@@ -14,8 +14,8 @@ returns g c =
       value = e;
       exact = λ f. wrapped-exact _ _ _ _ o f e;
       congruent = wrapped-congruent _ _ _ _ e;
-      undo = sub-undoes _ _ _ (g.Self.Numbered.number c.args.rhs) _ _ o c.low_bits.ensures.range e (difference-is _ _ _ _);
-      range = c.low_bits.ensures.range;
-      operand = c.low_bits-2.ensures.range;
+      undo = sub-undoes _ _ _ (g.Self.Numbered.number c.args.rhs) _ _ o c.low_bits.ensures.self_in_range e (difference-is _ _ _ _);
+      self_in_range = c.low_bits.ensures.self_in_range;
+      rhs_in_range = c.low_bits-2.ensures.self_in_range;
       width = c.low_bits.ensures.width;
     }

@@ -12,8 +12,8 @@ use Rattle.arbitrary_core.proofs.bitwise.signed.IntBitAnd.bitand.Goals as goal
 pub returns : goal.returns
 returns g c =
     let w = c.to_bits.ensures.width.0 in
-    let x = c.to_bits.ensures.self_range in
-    let y = c.to_bits-2.ensures.self_range in
+    let x = c.to_bits.ensures.self_in_range in
+    let y = c.to_bits-2.ensures.self_in_range in
     let p = bits-stays g.row.BITS c.args.self _ c.to_bits.ensures.value in
     let q = bits-stays g.row.BITS c.args.rhs _ c.to_bits-2.ensures.value in
     let n = length-and _ _ (same_length g.row.BITS c.args.self c.args.rhs) ∙ length-bits g.row.BITS c.args.self in
@@ -21,9 +21,9 @@ returns g c =
     record {
       operation = e ∙ sym (and-is _ _ _ _);
       bits = e;
-      operands = (sym (of-bits _ _ _ c.to_bits.ensures.width.0 c.to_bits.ensures.self_range), sym (of-bits _ _ _ c.to_bits-2.ensures.width.0 c.to_bits-2.ensures.self_range));
+      operands_from_bits = (sym (of-bits _ _ _ c.to_bits.ensures.width.0 c.to_bits.ensures.self_in_range), sym (of-bits _ _ _ c.to_bits-2.ensures.width.0 c.to_bits-2.ensures.self_in_range));
       plain = naturals bit_and _ _ _ (and-plain _ _ _ _ _ w x y e);
-      left = at_most _ _ (and-left _ _ _ _ _ w x e);
-      right = at_most _ _ (and-right _ _ _ _ _ w y e);
+      at_most_self = at_most _ _ (and-left _ _ _ _ _ w x e);
+      at_most_rhs = at_most _ _ (and-right _ _ _ _ _ w y e);
       lowest = λ d. and-by_one _ _ _ _ _ w y (e ∙ sym (and-is _ _ _ _)) d;
     }

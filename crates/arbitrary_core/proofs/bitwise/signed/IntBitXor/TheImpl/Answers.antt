@@ -1,4 +1,4 @@
 use Rattle.arbitrary_core.proofs.bitwise.signed.IntBitXor.TheImpl.Goals as goal
 
 pub bitxor-tells : goal.bitxor-tells
-bitxor-tells g c = (c.ensures.bits, c.ensures.operands.0, c.ensures.operands.1)
+bitxor-tells g c = (c.ensures.bits, c.ensures.operands_from_bits.0, c.ensures.operands_from_bits.1)

@@ -12,8 +12,8 @@ use Rattle.arbitrary_core.proofs.bitwise.signed.IntBitXor.bitxor.Goals as goal
 pub returns : goal.returns
 returns g c =
     let w = c.to_bits.ensures.width.0 in
-    let x = c.to_bits.ensures.self_range in
-    let y = c.to_bits-2.ensures.self_range in
+    let x = c.to_bits.ensures.self_in_range in
+    let y = c.to_bits-2.ensures.self_in_range in
     let p = bits-stays g.row.BITS c.args.self _ c.to_bits.ensures.value in
     let q = bits-stays g.row.BITS c.args.rhs _ c.to_bits-2.ensures.value in
     let n = length-xor _ _ (same_length g.row.BITS c.args.self c.args.rhs) ∙ length-bits g.row.BITS c.args.self in
@@ -21,7 +21,7 @@ returns g c =
     record {
       operation = e ∙ sym (xor-is _ _ _ _);
       bits = e;
-      operands = (sym (of-bits _ _ _ c.to_bits.ensures.width.0 c.to_bits.ensures.self_range), sym (of-bits _ _ _ c.to_bits-2.ensures.width.0 c.to_bits-2.ensures.self_range));
+      operands_from_bits = (sym (of-bits _ _ _ c.to_bits.ensures.width.0 c.to_bits.ensures.self_in_range), sym (of-bits _ _ _ c.to_bits-2.ensures.width.0 c.to_bits-2.ensures.self_in_range));
       plain = naturals bit_xor _ _ _ (xor-plain _ _ _ _ _ w x y e);
       same = xor-same _ _ _ _ _ w e;
       undo = xor-undoes _ _ _ c.args.rhs _ _ w x e (xor-is _ _ _ _);

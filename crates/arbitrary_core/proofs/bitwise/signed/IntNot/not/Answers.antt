@@ -16,6 +16,6 @@ returns g c =
     record {
       operation = e ∙ sym (not-is _ _ _);
       bits = e;
-      operand = sym (of-bits _ _ _ c.to_bits.ensures.width.0 c.to_bits.ensures.self_range);
-      number = not-signed _ _ _ _ g.met.T.SignedStorage.signed_law w c.to_bits.ensures.self_range e;
+      self_from_bits = sym (of-bits _ _ _ c.to_bits.ensures.width.0 c.to_bits.ensures.self_in_range);
+      number = not-signed _ _ _ _ g.met.T.SignedStorage.signed_law w c.to_bits.ensures.self_in_range e;
     }

@@ -1,4 +1,4 @@
 use Rattle.arbitrary_core.proofs.bitwise.unsigned.UIntBitAnd.TheImpl.Goals as goal
 
 pub bitand-tells : goal.bitand-tells
-bitand-tells g c = (c.ensures.bits, c.ensures.operands.0, c.ensures.operands.1)
+bitand-tells g c = (c.ensures.bits, c.ensures.operands_from_bits.0, c.ensures.operands_from_bits.1)

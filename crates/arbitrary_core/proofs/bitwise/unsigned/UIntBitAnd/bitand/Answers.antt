@@ -9,16 +9,16 @@ pub returns : goal.returns
 returns g c =
     let u = g.met.T.UnsignedStorage.unsigned_law in
     let w = c.value.ensures.width.0 in
-    let x = c.value.ensures.range in
-    let y = c.value-2.ensures.range in
+    let x = c.value.ensures.self_in_range in
+    let y = c.value-2.ensures.self_in_range in
     let a = not_below_zero _ _ _ u x in
     let b = not_below_zero _ _ _ u y in
     let e : c.new.result ≡ val g.T.Storage.SIGNED (bits_and (bits g.row.BITS c.args.self) (bits g.row.BITS c.args.rhs)) = cc in
     record {
       operation = e ∙ sym (and-is _ _ _ _);
       bits = e;
-      operands = (sym (of-bits _ _ _ c.value.ensures.width.0 c.value.ensures.range), sym (of-bits _ _ _ c.value-2.ensures.width.0 c.value-2.ensures.range));
+      operands_from_bits = (sym (of-bits _ _ _ c.value.ensures.width.0 c.value.ensures.self_in_range), sym (of-bits _ _ _ c.value-2.ensures.width.0 c.value-2.ensures.self_in_range));
       plain = and-plain _ _ _ _ _ w x y e a b;
-      left = (and-left _ _ _ _ _ w x e a).1;
-      right = (and-right _ _ _ _ _ w y e b).1;
+      at_most_self = (and-left _ _ _ _ _ w x e a).1;
+      at_most_rhs = (and-right _ _ _ _ _ w y e b).1;
     }

@@ -11,16 +11,16 @@ pub returns : goal.returns
 returns g c =
     let u = g.met.T.UnsignedStorage.unsigned_law in
     let w = c.value.ensures.width.0 in
-    let x = c.value.ensures.range in
-    let y = c.value-2.ensures.range in
+    let x = c.value.ensures.self_in_range in
+    let y = c.value-2.ensures.self_in_range in
     let a = not_below_zero _ _ _ u x in
     let b = not_below_zero _ _ _ u y in
     let e : c.new.result ≡ val g.T.Storage.SIGNED (bits_or (bits g.row.BITS c.args.self) (bits g.row.BITS c.args.rhs)) = cc in
     record {
       operation = e ∙ sym (or-is _ _ _ _);
       bits = e;
-      operands = (sym (of-bits _ _ _ c.value.ensures.width.0 c.value.ensures.range), sym (of-bits _ _ _ c.value-2.ensures.width.0 c.value-2.ensures.range));
+      operands_from_bits = (sym (of-bits _ _ _ c.value.ensures.width.0 c.value.ensures.self_in_range), sym (of-bits _ _ _ c.value-2.ensures.width.0 c.value-2.ensures.self_in_range));
       plain = or-plain _ _ _ _ _ w x y e a b;
-      left = or-keeps _ _ _ _ _ u w x (e ∙ sym (or-is _ _ _ _));
-      right = or-keeps _ _ _ _ _ u w y (e ∙ sym (or-is _ _ _ _) ∙ bitwise_or-commutes _ _ _ _);
+      at_least_self = or-keeps _ _ _ _ _ u w x (e ∙ sym (or-is _ _ _ _));
+      at_least_rhs = or-keeps _ _ _ _ _ u w y (e ∙ sym (or-is _ _ _ _) ∙ bitwise_or-commutes _ _ _ _);
     }

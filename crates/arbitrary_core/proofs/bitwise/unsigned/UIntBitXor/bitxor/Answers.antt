@@ -10,15 +10,15 @@ pub returns : goal.returns
 returns g c =
     let u = g.met.T.UnsignedStorage.unsigned_law in
     let w = c.value.ensures.width.0 in
-    let x = c.value.ensures.range in
-    let y = c.value-2.ensures.range in
+    let x = c.value.ensures.self_in_range in
+    let y = c.value-2.ensures.self_in_range in
     let a = not_below_zero _ _ _ u x in
     let b = not_below_zero _ _ _ u y in
     let e : c.new.result ≡ val g.T.Storage.SIGNED (bits_xor (bits g.row.BITS c.args.self) (bits g.row.BITS c.args.rhs)) = cc in
     record {
       operation = e ∙ sym (xor-is _ _ _ _);
       bits = e;
-      operands = (sym (of-bits _ _ _ c.value.ensures.width.0 c.value.ensures.range), sym (of-bits _ _ _ c.value-2.ensures.width.0 c.value-2.ensures.range));
+      operands_from_bits = (sym (of-bits _ _ _ c.value.ensures.width.0 c.value.ensures.self_in_range), sym (of-bits _ _ _ c.value-2.ensures.width.0 c.value-2.ensures.self_in_range));
       plain = xor-plain _ _ _ _ _ w x y e a b;
       same = xor-same _ _ _ _ _ w e;
       undo = xor-undoes _ _ _ c.args.rhs _ _ w x e (xor-is _ _ _ _);

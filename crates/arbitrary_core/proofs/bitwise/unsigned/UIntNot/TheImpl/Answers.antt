@@ -1,4 +1,4 @@
 use Rattle.arbitrary_core.proofs.bitwise.unsigned.UIntNot.TheImpl.Goals as goal
 
 pub not-tells : goal.not-tells
-not-tells g c = (c.ensures.bits, c.ensures.operand)
+not-tells g c = (c.ensures.bits, c.ensures.self_from_bits)

@@ -11,6 +11,6 @@ returns g c =
     record {
       operation = e ∙ sym (not-is _ _ _);
       bits = e;
-      operand = sym (of-bits _ _ _ c.value.ensures.width.0 c.value.ensures.range);
-      number = not-unsigned _ _ _ _ g.met.T.UnsignedStorage.unsigned_law c.value.ensures.width.0 c.value.ensures.range e;
+      self_from_bits = sym (of-bits _ _ _ c.value.ensures.width.0 c.value.ensures.self_in_range);
+      number = not-unsigned _ _ _ _ g.met.T.UnsignedStorage.unsigned_law c.value.ensures.width.0 c.value.ensures.self_in_range e;
     }

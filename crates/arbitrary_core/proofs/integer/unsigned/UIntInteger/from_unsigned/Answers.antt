@@ -6,7 +6,7 @@ use Rattle.arbitrary_core.proofs.integer.unsigned.UIntInteger.from_unsigned.Goal
 
 pub returns : goal.returns
 returns g c =
-    let e = wrap-stays g.T.Storage.SIGNED g.row.BITS _ _ _ (c.value.ensures.width.0) c.value.ensures.range c.value.ensures.number c.new.ensures in
+    let e = wrap-stays g.T.Storage.SIGNED g.row.BITS _ _ _ (c.value.ensures.width.0) c.value.ensures.self_in_range c.value.ensures.number c.new.ensures in
     let k = wrapped-congruent g.T.Storage.SIGNED g.row.BITS _ _ e in
     record {
       value = e;

@@ -6,6 +6,6 @@ use Rattle.arbitrary_core.proofs.integer.unsigned.UIntInteger.to_unsigned.Goals 
 
 pub returns : goal.returns
 returns g c =
-    let e = wrap-kept_at g.T.Storage.SIGNED false g.row.BITS _ _ _ g.met.T.UnsignedStorage.unsigned_law (c.value.ensures.width.0) c.value.ensures.range c.value.ensures.number c.new.ensures in
+    let e = wrap-kept_at g.T.Storage.SIGNED false g.row.BITS _ _ _ g.met.T.UnsignedStorage.unsigned_law (c.value.ensures.width.0) c.value.ensures.self_in_range c.value.ensures.number c.new.ensures in
     let k = wrapped-congruent false g.row.BITS _ _ e in
-    record { value = e; congruent = k; congruent_to = λ y f. Congruent-trans g.row.BITS _ _ y k f; range = c.value.ensures.range }
+    record { value = e; congruent = k; congruent_to = λ y f. Congruent-trans g.row.BITS _ _ y k f; self_in_range = c.value.ensures.self_in_range }

@@ -7,4 +7,4 @@ pub returns-clause-operation : goal.returns-clause-operation
 returns-clause-operation g c = (cc) ∙ sym (difference-is _ _ c.args.self.now c.args.v.now)
 
 pub returns-clause-undo : goal.returns-clause-undo
-returns-clause-undo g c = add-undoes _ _ c.new.result c.args.v.now _ _ c.value.ensures.width.0 c.value.ensures.range (cc) (sum-is _ _ _ _)
+returns-clause-undo g c = add-undoes _ _ c.new.result c.args.v.now _ _ c.value.ensures.width.0 c.value.ensures.self_in_range (cc) (sum-is _ _ _ _)

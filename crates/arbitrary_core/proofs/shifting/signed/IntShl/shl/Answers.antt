@@ -27,6 +27,6 @@ returns g c =
       operation = e ∙ sym (left-is _ _ _ _);
       bits = e;
       congruent = shl-congruent _ _ _ _ _ w l e;
-      none = λ z. e ∙ sym (left-is _ _ _ _) ∙ ap (shifted_left g.T.Storage.SIGNED g.row.BITS _) z ∙ shifted_left-none _ _ _ w c.to_bits.ensures.self_range;
-      operand = c.to_bits.ensures.self_range;
+      none = λ z. e ∙ sym (left-is _ _ _ _) ∙ ap (shifted_left g.T.Storage.SIGNED g.row.BITS _) z ∙ shifted_left-none _ _ _ w c.to_bits.ensures.self_in_range;
+      self_in_range = c.to_bits.ensures.self_in_range;
     }

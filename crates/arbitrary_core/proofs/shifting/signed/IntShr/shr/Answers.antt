@@ -11,7 +11,7 @@ use Rattle.arbitrary_core.proofs.shifting.signed.IntShr.shr.Goals as goal
 pub returns : goal.returns
 returns g c =
     let w = c.value.ensures.width.0 in
-    let x = c.value.ensures.range in
+    let x = c.value.ensures.self_in_range in
     let k : c.to_amount.result ≡ unsigned_abs (g.S.ShiftAmount.amount c.args.amount) = ap unsigned_abs c.to_amount.ensures in
     let l : unsigned_abs (g.S.ShiftAmount.amount c.args.amount) < g.row.BITS =
     let low = c.requires.0 in let high = c.requires.1 in let a = c.to_amount.ensures in omega (arith, ints) in
@@ -21,6 +21,6 @@ returns g c =
       bits = e;
       low = shr-low _ _ _ _ _ w l x e;
       high = shr-high _ _ _ _ _ w l x e;
-      range = shr-range _ _ _ _ _ w l x e;
-      operand = x;
+      result_in_range = shr-range _ _ _ _ _ w l x e;
+      self_in_range = x;
     }

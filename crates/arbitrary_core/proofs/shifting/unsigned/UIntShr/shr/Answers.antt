@@ -11,7 +11,7 @@ use Rattle.arbitrary_core.proofs.shifting.unsigned.UIntShr.shr.Goals as goal
 pub returns : goal.returns
 returns g c =
     let w = c.value.ensures.width.0 in
-    let x = c.value.ensures.range in
+    let x = c.value.ensures.self_in_range in
     let k : c.to_amount.result ≡ unsigned_abs (g.S.ShiftAmount.amount c.args.amount) = ap unsigned_abs c.to_amount.ensures in
     let l : unsigned_abs (g.S.ShiftAmount.amount c.args.amount) < g.row.BITS =
     let low = c.requires.0 in let high = c.requires.1 in let a = c.to_amount.ensures in omega (arith, ints) in
@@ -20,5 +20,5 @@ returns g c =
       operation = e ∙ sym (right-is _ _ _ _);
       bits = e;
       quotient = shr-quotient _ _ _ _ _ g.met.T.UnsignedStorage.unsigned_law w l x e;
-      operand = x;
+      self_in_range = x;
     }

@@ -1,6 +1,6 @@
 -- What a list of steps does, by whole numbers and bit lists. No storage comes into it.
 use Rattle.std.specs.Prelude.{ℕ, ℤ, Bool, ◌+◌, List, [], ◌∷◌, Result, Ok, Err, ⊤}
-use Rattle.arbitrary_int.specs.Step.{meaning}
+use Rattle.arbitrary_int.specs.Steps.{meaning}
 use Rattle.arbitrary_int.specs.declared.steps.Step.{Step}
 use Rattle.arbitrary_int.specs.declared.steps.Stop.{Stop}
 

@@ -6,7 +6,7 @@ use Rattle.std.specs.Int.{int_pow}
 use Rattle.std.specs.Ordering.{int_eq}
 use Rattle.std.specs.Result.{result_map_both}
 use Rattle.arbitrary_base.specs.Residue.{wrap}
-use Rattle.arbitrary_base.specs.Saturation.{clamp}
+use Rattle.arbitrary_base.specs.Saturating.{clamp}
 use Rattle.arbitrary_base.specs.Operation.{bitwise_and, bitwise_not, bitwise_or, bitwise_xor, reversed, rotated_left, rotated_right, shifted_left, shifted_right}
 use Rattle.arbitrary_int.specs.declared.steps.TwoOp.{TwoOp}
 use Rattle.arbitrary_int.specs.declared.steps.TwoOp.TheVariants.{WrappingAdd, WrappingSub, WrappingMul, WrappingDiv, SaturatingAdd, SaturatingSub, SaturatingMul, SaturatingDiv, CheckedAdd, CheckedSub, CheckedMul, CheckedDiv, And, Or, Xor}

@@ -8,7 +8,7 @@ use Rattle.arbitrary_base.specs.Range.{InRange}
 use Rattle.arbitrary_base.specs.Residue.{Congruent, wrap}
 use Rattle.arbitrary_base.proofs.modular.Congruence.{Congruent-add, Congruent-sub, Congruent-refl, span, pow_le}
 use Rattle.arbitrary_base.proofs.modular.Residue.{wrap-congruent, wrap-same, wrap-of_in_range}
-use Rattle.arbitrary_int.specs.Row.{numbers, left}
+use Rattle.arbitrary_int.specs.Ranges.{numbers, values_left}
 
 -- a wrapped sum or difference with the truncation of a number
 pub moved_up : (s : Bool) (B : ℕ) (x y m z : ℤ) → 1 ≤ B → InRange s B (x +ℤ y) → m ≡ wrap s B y → z ≡ wrap s B (x +ℤ m) → z ≡ x +ℤ y
@@ -143,22 +143,22 @@ pub ruleset ends = (in_up)
 
 -- ---- what a call of a range's `next` or `next_back` leaves
 
-pub left-first : (d : Bool) (a b c : ℤ) → d ≡ false → a <ℤ b → c ≡ a +ℤ pos 1 → left d a b ≡ a ∷ left d c b
+pub left-first : (d : Bool) (a b c : ℤ) → d ≡ false → a <ℤ b → c ≡ a +ℤ pos 1 → values_left d a b ≡ a ∷ values_left d c b
 left-first true a b c e h f = absurd (cc)
 left-first false a b c e h f = numbers-first a b c (omega (arith, ints)) f
 
-pub left-last : (d : Bool) (a b c : ℤ) → d ≡ false → a <ℤ b → c ≡ b -ℤ pos 1 → left d a b ≡ left d a c ++ b ∷ []
+pub left-last : (d : Bool) (a b c : ℤ) → d ≡ false → a <ℤ b → c ≡ b -ℤ pos 1 → values_left d a b ≡ values_left d a c ++ b ∷ []
 left-last true a b c e h f = absurd (cc)
 left-last false a b c e h f = numbers-last a b c (omega (arith, ints)) f
 
-pub left-one : (d : Bool) (a b : ℤ) → d ≡ false → a ≡ b → left d a b ≡ a ∷ left true a b
+pub left-one : (d : Bool) (a b : ℤ) → d ≡ false → a ≡ b → values_left d a b ≡ a ∷ values_left true a b
 left-one true a b e h = absurd (cc)
 left-one false a b e h = numbers-one a b h
 
-pub left-one_back : (d : Bool) (a b : ℤ) → d ≡ false → a ≡ b → left d a b ≡ left true a b ++ b ∷ []
+pub left-one_back : (d : Bool) (a b : ℤ) → d ≡ false → a ≡ b → values_left d a b ≡ values_left true a b ++ b ∷ []
 left-one_back true a b e h = absurd (cc)
 left-one_back false a b e h = numbers-one_back a b h
 
-pub left-none : (d : Bool) (a b : ℤ) → b <ℤ a → left d a b ≡ []
+pub left-none : (d : Bool) (a b : ℤ) → b <ℤ a → values_left d a b ≡ []
 left-none true a b h = refl
 left-none false a b h = numbers-none a b h

@@ -9,8 +9,8 @@ abbrev pub numbers : ℤ → ℤ → List ℤ
 numbers a b = map (λ k. a +ℤ pos k) (range_with_len 0 (int_gap a (b +ℤ pos 1)))
 
 -- those that a range from a to b still has to give: none once it is done
-abbrev pub left : Bool → ℤ → ℤ → List ℤ
-left done a b = if done then [] else numbers a b
+abbrev pub values_left : Bool → ℤ → ℤ → List ℤ
+values_left done a b = if done then [] else numbers a b
 
 -- a run's items are the numbers from a to b: those at the front, and all, a and b among them, where the run is whole
 abbrev pub CountsUp : {S A : Type 0} {next : S → Option A → S → Type 0} → Run next → (A → ℤ) → ℤ → ℤ → Type 0
