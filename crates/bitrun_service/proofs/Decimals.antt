@@ -1,5 +1,5 @@
 -- The digits of a number, the last ones first.
-use Rattle.std.proofs.Common.{◌≡◌, ℕ, ◌+◌, ◌*◌, ◌/◌, ◌%◌, ◌^◌, ◌<◌, ◌≤◌, [], ◌∷◌, ◌++◌, length, ℤ, pos, negsuc, ◌≤ℤ◌, ◌<ℤ◌, true, false, true≢false, int_le, int_lt, unsigned_abs, refl, sym, ◌∙◌, arith, add-one, mul_assoc}
+use Rattle.std.proofs.Common.{◌≡◌, ℕ, ◌+◌, ◌*◌, ◌/◌, ◌%◌, ◌^◌, ◌<◌, ◌≤◌, [], ◌∷◌, ◌++◌, length, ℤ, pos, negsuc, ◌≤ℤ◌, ◌<ℤ◌, true, false, true≢false, int_le, int_lt, unsigned_abs, refl, sym, ap, ◌∙◌, arith, add-one, mul_assoc, length-append}
 use lib.Dec.{leb-zero}
 use Rattle.std.specs.Fmt.{decimal, signed_decimal}
 use Rattle.std.proofs.lemmas.Fmt.{decimal_digit, decimal_step_wide, length-decimal-le_wide}
@@ -19,6 +19,15 @@ low-step high k left some small within fits =
     let whole : (high * 10 ^ k * 10 + left) / 10 ≡ high * 10 ^ k + left / 10 = omega arith in
     let last : (high * 10 ^ k * 10 + left) % 10 ≡ left % 10 = omega arith in
     rw more (decimal_step_wide (high * 10 ^ k * 10 + left) (omega arith) (omega arith) ∙ rw (whole, last) refl)
+
+-- the last digit
+pub last_digit : (n : ℕ) → 10 ≤ n → n < 2 ^ 64 → (decimal n ≡ decimal (n / 10) ++ (48 + n % 10) ∷ []) × (length (decimal n) ≡ length (decimal (n / 10)) + 1)
+last_digit n some fits =
+    let digits = decimal_step_wide n some (omega (arith, fits)) in
+    (digits, omega (arith, ap length digits, length-append (decimal (n / 10)) ((48 + n % 10) ∷ [])))
+
+pub first_digit : (n : ℕ) → n < 10 → (decimal n ≡ (48 + n) ∷ []) × (length (decimal n) ≡ 1)
+first_digit n small = let digits = decimal_digit n small in (digits, ap length digits)
 
 -- a number of 120 bits has 37 digits at most
 pub length-decimal : (n : ℕ) → n < 2 ^ 120 → length (decimal n) ≤ 37

@@ -2,19 +2,17 @@
 use Rattle.std.specs.Prelude.{◌≢◌, ℕ, ◌≤◌, ◌<◌, Bool, List, length, Option, IfSome, Result, IfErr, OnOk, IsErrOf, IsTrue, ⊤}
 use Rattle.std.specs.Io.KnownBytes.{Appends, Keeps, IsAtEnd}
 use Rattle.bitrun_service.specs.Output.{IsOutput}
-use Rattle.bitrun_text.specs.Form.{BadLine, HasForm}
-use Rattle.bitrun_text.specs.Text.{word_lines}
+use Rattle.bitrun_text.specs.Form.{BadLine}
 use Rattle.arbitrary_int.specs.Streams.{AppendsBeginning}
 use Rattle.bitrun_text.specs.declared.fault.Fault.{Fault}
 use Rattle.bitrun_text.specs.declared.fault.Fault.TheVariants.{Line, TooLong, Read, Write}
 
 -- `held` is the input, all that the reader held before, and `left` what it holds afterwards; `before` and `after` are
--- what the writer took; the flags tell afterwards whether a call failed
+-- what the writer took; the flags tell afterwards whether a call failed. An input with an output has no bad line, by
+-- `laws::every_line_is_fine`
 pub record Serves (held left : Option (List ℕ)) (reader_failed : Bool) (before after : Option (List ℕ)) (writer_failed : Bool) (result : Result ⊤ Fault) : Type 0 where
   -- what is written is the output, and nothing else
   pub outputs : OnOk result (IfSome held (λ input. (text : List ℕ) × IsOutput input text × Appends before after text))
-  -- each line is there where it must be, and has its form
-  pub no_bad_line : OnOk result (IfSome held (λ input. (i : ℕ) → HasForm (word_lines input) i))
   pub all_read : OnOk result (IsAtEnd left)
   pub short : OnOk result (IfSome held (λ input. length input ≤ 65536))
   -- each fault comes where it is due, and nothing is written before it, a writer's fault aside
@@ -25,5 +23,4 @@ pub record Serves (held left : Option (List ℕ)) (reader_failed : Bool) (before
   -- after a writer's fault a beginning of the output is written, and nothing else
   pub write_failed : IsErrOf result Write → IsTrue writer_failed
   pub read_before : IsErrOf result Write → IsAtEnd left
-  pub good_before : IsErrOf result Write → IfSome held (λ input. (i : ℕ) → HasForm (word_lines input) i)
   pub cut_short : IsErrOf result Write → IfSome held (λ input. (text : List ℕ) × IsOutput input text × AppendsBeginning before after text)

@@ -3,7 +3,6 @@
 ghost use Rattle.std.specs.Prelude.{◌≡◌, ◌≤◌, ◌<◌, ◌+◌, ◌*◌, ◌^◌, ◌++◌, ℕ, drop, length, decimal, unsigned_abs, OnOk};
 ghost use Rattle.std.specs.Fmt.{signed_decimal};
 
-use itoa::write_digits;
 use std::alloc::{AllocError, Allocator};
 
 /// The longest text: a minus sign and 39 digits.
@@ -51,6 +50,24 @@ fn write_decimal(number: u128, buffer: &mut [u8; LONGEST]) -> usize
     }
     write_low_digits((number % EIGHTEEN_DIGITS) as u64, buffer);
     write_digits((number / EIGHTEEN_DIGITS) as u64, buffer, LONGEST - 18)
+}
+
+/// Writes the digits so that they end at the place, and tells where they start.
+fn write_digits(number: u64, buffer: &mut [u8; LONGEST], end: usize) -> usize
+    requires { (length (decimal number) ≤ end) × (end ≤ 40) }
+    ensures start { result + length (decimal number) ≡ end }
+    ensures written { drop result buffer.new ≡ decimal number ++ drop end buffer.old }
+{
+    let mut left = number;
+    let mut at = end;
+    while left >= 10 {
+        at -= 1;
+        buffer[at] = b'0' + (left % 10) as u8;
+        left /= 10;
+    }
+    at -= 1;
+    buffer[at] = b'0' + left as u8;
+    at
 }
 
 /// Writes the last 18 digits of a number at the end of the buffer.

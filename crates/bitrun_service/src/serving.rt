@@ -29,7 +29,6 @@ pub fn serve<R: Read, W: Write>(
 }
 
 /// `serve`, with memory from any allocator.
-#[tactic(auto, using(crate::proofs::WholeOutputs::output_is_fine))]
 pub fn serve_in<A: Allocator, R: Read, W: Write>(
     alloc: &A,
     reader: &mut Watched<R>,

@@ -1,57 +1,57 @@
--- A line names the step whose name it begins with, and whose operands follow a blank after the name (`line_named`).
---
--- That the name is a whole word is known from the text after it alone, which begins with a blank (`Ends`).
-use Rattle.std.proofs.Common.{◌≡◌, ℕ, zero, suc, one-add, ◌<◌, ◌≤◌, true, List, [], ◌∷◌, ◌++◌, length, take, drop, get_or, Some, refl, sym, ap, ◌∙◌, inl, inr, arith}
-use Rattle.std.specs.Int.{w32, from_be_bytes, to_be_bytes}
-use Rattle.std.specs.List.{position_or_len, before_first}
+-- A line names the step whose name it begins with, and whose operands follow.
+use Rattle.std.proofs.Common.{◌≡◌, ℕ, suc, one-add, ◌<◌, ◌≤◌, true, not, ◌&&◌, Bool, List, [], ◌∷◌, ◌++◌, length, take, drop, get_or, Some, None, option_map, bytes_eq, refl, sym, ap, ◌∙◌, inl, inr, arith, length-take}
+use Rattle.std.specs.List.{find, position_or_len, before_first}
 use Rattle.std.proofs.Math.Seq.{take-append_seam, drop-append_seam}
-use Rattle.std.proofs.lemmas.Nat.{be_bytes_4}
-use Rattle.std.proofs.lemmas.List.{take-append-drop}
+use Rattle.std.proofs.lemmas.List.{take-append-drop, drop_more}
+use Rattle.std.proofs.lemmas.Slice.Eq.{bytes_eq-Decides}
 use Rattle.std.proofs.lemmas.Bool.{cases_Bool, cases_lt}
 use Rattle.std.proofs.lemmas.Bool.Decides.{nat_tests}
 use Rattle.arbitrary_int.specs.declared.steps.Step.{Step}
-use Rattle.bitrun_text.specs.Text.{is_blank, is_solid, ends_word, words_of, word_lines, Left, left_of}
-use Rattle.bitrun_text.specs.Operation.{operation_named, step_named, step_with}
+use Rattle.bitrun_text.specs.Text.{is_blank, ends_word, words_of, word_lines, Left, left_of}
+use Rattle.bitrun_text.specs.Operation.{operation_rows, operation_named, step_named, step_with}
 use Rattle.bitrun_text.specs.declared.operation.Operation.{Operation}
-use Rattle.bitrun_text.specs.Fast.{is_whole, IsName, BeginsWithName, EndsLine, NamesLine}
-use Rattle.bitrun_text.proofs.Families.{no_letter}
-use Rattle.bitrun_text.proofs.Lines.{left-blank, left-blanks, left-word, word_taken, no_word_taken, ends-there}
-use Rattle.bitrun_text.proofs.Operands.{take-take}
+use Rattle.bitrun_text.specs.Fast.{Ends, EndsLine, NamesLine}
+use Rattle.bitrun_text.proofs.Lines.{left-blank, left-word, left-line}
 
 -- ---- the name
 
-first_four : (text : List ℕ) → 4 ≤ length text → take 4 text ≡ get_or text 0 0 ∷ get_or text 1 0 ∷ get_or text 2 0 ∷ get_or text 3 0 ∷ []
-first_four [] h = absurd (omega arith)
-first_four (a ∷ []) h = absurd (omega arith)
-first_four (a ∷ b ∷ []) h = absurd (omega arith)
-first_four (a ∷ b ∷ c ∷ []) h = absurd (omega arith)
-first_four (a ∷ b ∷ c ∷ d ∷ rest) h = refl
+-- no word ends within the bytes
+abbrev is_whole : List ℕ → Bool
+is_whole [] = true
+is_whole (byte ∷ bytes) = not (ends_word byte) && is_whole bytes
 
-four_below : (a b c d : ℕ) → a < 256 → b < 256 → c < 256 → d < 256 → (i : ℕ) → get_or (a ∷ b ∷ c ∷ d ∷ []) i 0 < 256
-four_below a b c d p q r s zero = p
-four_below a b c d p q r s (suc zero) = q
-four_below a b c d p q r s (suc (suc zero)) = r
-four_below a b c d p q r s (suc (suc (suc zero))) = s
-four_below a b c d p q r s (suc (suc (suc (suc i)))) = omega arith
+-- each name is a whole word
+abbrev are_whole : List (List ℕ × Operation) → Bool
+are_whole [] = true
+are_whole (row ∷ rows) = is_whole row.0 && are_whole rows
 
-pub begins_with_name : (text : List ℕ) (word size : ℕ) (operation : Operation) → 4 ≤ length text → ((i : ℕ) → get_or text i 0 < 256)
-    → word ≡ from_be_bytes w32 (get_or text 0 0 ∷ get_or text 1 0 ∷ get_or text 2 0 ∷ get_or text 3 0 ∷ [])
-    → IsName (take size (to_be_bytes w32 word)) operation → size ≤ 4 → BeginsWithName text operation (drop size text)
-begins_with_name text word size operation long bytes is names short =
-    let four = get_or text 0 0 ∷ get_or text 1 0 ∷ get_or text 2 0 ∷ get_or text 3 0 ∷ [] in
-    let same : to_be_bytes w32 word ≡ take 4 text = be_bytes_4 four word refl (four_below _ _ _ _ (bytes 0) (bytes 1) (bytes 2) (bytes 3)) is ∙ sym (first_four text long) in
-    let name : take size (to_be_bytes w32 word) ≡ take size text = ap (take size) same ∙ take-take size 4 text short in
-    record {
-      name = take size (to_be_bytes w32 word);
-      split = sym (take-append-drop size text) ∙ ap (λ (l : List ℕ). l ++ drop size text) (sym name);
-      is_name = names;
-    }
+found_whole : (name : List ℕ) (rows : List (List ℕ × Operation)) (operation : Operation) → are_whole rows ≡ true
+    → option_map (λ row. row.1) (find (λ row. bytes_eq name row.0) rows) ≡ Some operation → is_whole name ≡ true
+found_whole name [] operation whole found = absurd cc
+found_whole name (row ∷ rows) operation whole found =
+    elim (cases_Bool (bytes_eq name row.0)) [
+      | inl same ↦ (let e : name ≡ row.0 = (bytes_eq-Decides name row.0).0 same in rw e (and_first (is_whole row.0) (are_whole rows) whole))
+      | inr other ↦ found_whole name rows operation (and_second (is_whole row.0) (are_whole rows) whole) (rw other at found)
+    ]
+  where
+    and_first : (a b : Bool) → a && b ≡ true → a ≡ true
+    and_first true b e = refl
+    and_first false b e = absurd cc
+
+    and_second : (a b : Bool) → a && b ≡ true → b ≡ true
+    and_second true b e = e
+    and_second false b e = absurd cc
+
+name_whole : (name : List ℕ) (operation : Operation) → operation_named name ≡ Some operation → is_whole name ≡ true
+unfolding operation_named
+name_whole name operation named = found_whole name operation_rows operation refl named
+
+name_some : (name : List ℕ) (operation : Operation) → operation_named name ≡ Some operation → 0 < length name
+unfolding operation_named
+name_some [] operation named = absurd cc
+name_some (byte ∷ bytes) operation named = omega arith
 
 -- ---- words
-
--- the text goes on with something that ends a word
-abbrev pub Ends : List ℕ → Type 0
-Ends text = position_or_len ends_word text ≡ 0
 
 word_size : (name rest : List ℕ) → is_whole name ≡ true → Ends rest → position_or_len ends_word (name ++ rest) ≡ length name
 word_size [] rest whole ends = ends
@@ -61,7 +61,7 @@ word_size (byte ∷ bytes) rest whole ends =
       | inr solid ↦ (let h : is_whole bytes ≡ true = rw solid at whole in rw (solid, one-add) (ap suc (word_size bytes rest h ends)))
     ]
 
--- the rest of a text that begins with a whole word
+-- what is left of a text that begins with a whole word
 word_left : (name rest : List ℕ) → is_whole name ≡ true → 0 < length name → Ends rest
     → left_of (name ++ rest) ≡ record { words = name ∷ (left_of rest).words; later = (left_of rest).later }
 word_left name rest whole some ends =
@@ -70,69 +70,62 @@ word_left name rest whole some ends =
     let follows : drop (position_or_len ends_word (name ++ rest)) (name ++ rest) ≡ rest = rw size (drop-append_seam name rest) in
     left-word (name ++ rest) (omega (arith, some, ap length word)) ∙ rw (word, follows) refl
 
-module _ (text solid word : List ℕ) (skipped : solid ≡ drop (position_or_len is_solid text) text) where
-  -- a word with which the text begins is the first one of the line
-  pub word_there : (rest : List ℕ) → is_whole word ≡ true → 0 < length word → solid ≡ word ++ rest → Ends rest
-      → left_of text ≡ record { words = word ∷ (left_of rest).words; later = (left_of rest).later }
-  word_there rest whole some split ends = sym (left-blanks text) ∙ ap left_of (sym skipped ∙ split) ∙ word_left word rest whole some ends
+-- after the name a blank stands, and the words from there on are operands of the step
+pub line_named : (count : ℕ) (text rest : List ℕ) (size : ℕ) (operation : Operation) (step : Step) → Ends (drop size text)
+    → operation_named (take size text) ≡ Some operation → step_with count operation (left_of (drop size text)).words ≡ Some step
+    → word_lines rest ≡ (left_of (drop size text)).later → NamesLine count text step rest
+unfolding step_named
+line_named count text rest size operation step ends named operands later =
+    let name = take size text in
+    let left = word_left name (drop size text) (name_whole name operation named) (name_some name operation named) ends in
+    let taken = ap left_of (sym (take-append-drop size text)) ∙ left in
+    record {
+      names = rw (taken, named, operands) refl;
+      later = later ∙ sym (ap (λ (l : Left). l.later) taken);
+    }
 
-  -- and a word with which it doesn't begin is not
-  pub other_word : ((rest : List ℕ) → solid ≡ word ++ rest → Ends rest → ⊥) → (words : List (List ℕ)) → (left_of text).words ≡ word ∷ words → ⊥
-  other_word other words first =
-      let end = position_or_len ends_word solid in
-      let found = before_first ends_word solid in
-      let rest = drop end solid in
-      elim (cases_lt 0 (length found)) [
-        | inl some ↦
-            let taken = ap (λ (left : Left). left.words) (word_taken text solid found rest skipped refl refl some) in
-            let same : found ≡ word = first_same (sym taken ∙ first) in
-            other rest (sym (take-append-drop end solid) ∙ ap (λ (l : List ℕ). l ++ rest) same) (ends-there solid)
-        | inr none ↦
-            let nothing = no_word_taken text solid found rest skipped refl refl (omega (arith, none)) in
-            let empty : (left_of text).words ≡ [] = ap (λ (left : Left). left.words) (sym nothing.0) ∙ nothing.1 in
-            absurd cc
-      ]
-    where
-      first_same : {X : Type 0} {x y : X} {xs ys : List X} → x ∷ xs ≡ y ∷ ys → x ≡ y
-      first_same e = cc
+-- ---- where a word ends
 
-named_some : (name : List ℕ) (operation : Operation) → operation_named name ≡ Some operation → 0 < length name
-named_some [] operation e = absurd (let none = no_letter in cc (none, e))
-named_some (x ∷ xs) operation e = omega arith
+pub blank_ends : (text : List ℕ) (at : ℕ) → at < length text → is_blank (get_or text at 0) ≡ true → Ends (drop at text)
+blank_ends text at within blank =
+    let end : ends_word (get_or text at 0) ≡ true = ends (get_or text at 0) blank in
+    rw (drop_more text at 0 within, end) refl
+  where
+    ends : (byte : ℕ) → is_blank byte ≡ true → ends_word byte ≡ true
+    ends byte blank = grind (arith, nat_tests)
 
-pub name_left : (text rest : List ℕ) (operation : Operation) (begins : BeginsWithName text operation rest) → Ends rest
-    → left_of text ≡ record { words = begins.name ∷ (left_of rest).words; later = (left_of rest).later }
-name_left text rest operation begins ends =
-    let some : 0 < length begins.name = named_some begins.name operation begins.is_name.names in
-    ap left_of begins.split ∙ word_left begins.name rest begins.is_name.whole some ends
+pub blank_passed : (text : List ℕ) (at : ℕ) → at < length text → is_blank (get_or text at 0) ≡ true → left_of (drop (at + 1) text) ≡ left_of (drop at text)
+blank_passed text at within blank = sym (ap left_of (drop_more text at 0 within) ∙ left-blank (get_or text at 0) (drop (at + 1) text) blank)
 
-pub blank_ends : (blank : ℕ) (more : List ℕ) → is_blank blank ≡ true → Ends (blank ∷ more)
-blank_ends blank more e = let end : ends_word blank ≡ true = grind (arith, nat_tests) in rw end refl
-
-pub line_end : (text more : List ℕ) → text ≡ 10 ∷ more → Ends text × ((left_of text).words ≡ [])
-unfolding left_of words_of
-line_end text more e = (rw e refl, rw e refl)
+-- a blank more
+pub blanks_end : (text : List ℕ) (at end : ℕ) → at ≤ end → end < length text → is_blank (get_or text end 0) ≡ true → (at < end → Ends (drop at text)) → Ends (drop at text)
+blanks_end text at end order within blank before = elim (cases_lt at end) [
+  | inl later ↦ before later
+  | inr here ↦
+      let place : end ≡ at = omega (arith, order, here) in
+      blank_ends text at (rw place at within) (rw place at blank)
+]
 
 pub lf_ends : (text more : List ℕ) → text ≡ 10 ∷ more → EndsLine text more
-unfolding left_of
-lf_ends text more e = let end = line_end text more e in record { ends = end.0; last = end.1; later = rw e refl }
-
-pub cr_lf_ends : (text more : List ℕ) → text ≡ 13 ∷ 10 ∷ more → EndsLine text more
 unfolding left_of words_of
-cr_lf_ends text more e = record { ends = rw e refl; last = rw e refl; later = rw e refl }
+lf_ends text more e = record { ends = rw e refl; last = rw e refl; later = rw e refl }
 
--- ---- a step that is written in the fast form
-
--- after the name one blank stands, and then operands of the step
-pub line_named : (count : ℕ) (text rest : List ℕ) (operation : Operation) (blank : ℕ) (operands : List ℕ) (step : Step) (after : List ℕ)
-    → BeginsWithName text operation rest → rest ≡ blank ∷ operands → is_blank blank ≡ true → step_with count operation (left_of operands).words ≡ Some step
-    → word_lines after ≡ (left_of operands).later → NamesLine count text step after
-unfolding step_named
-line_named count text rest operation blank operands step after begins split blanks named later =
-    let ends : Ends rest = ap (position_or_len ends_word) split ∙ blank_ends blank operands blanks in
-    let taken = name_left text rest operation begins ends in
-    let passed : left_of rest ≡ left_of operands = ap left_of split ∙ left-blank blank operands blanks in
+-- an LF ends the line, also after blanks
+pub line_ends : (text : List ℕ) (at end : ℕ) → at ≤ end → end < length text → get_or text end 0 ≡ 10 → left_of (drop end text) ≡ left_of (drop at text)
+    → (at < end → Ends (drop at text)) → EndsLine (drop at text) (drop (end + 1) text)
+line_ends text at end order within lf same blanks =
+    let line = lf_ends (drop end text) (drop (end + 1) text) (rw lf at (drop_more text end 0 within)) in
+    let ends : Ends (drop at text) = elim (cases_lt at end) [
+      | inl later ↦ blanks later
+      | inr place ↦ (let e : end ≡ at = omega (arith, order, place) in rw e at line.ends)
+    ] in
     record {
-      names = rw (taken, begins.is_name.names, passed, named) refl;
-      later = later ∙ sym (ap (λ (l : Left). l.later) taken ∙ ap (λ (l : Left). l.later) passed);
+      ends = ends;
+      last = ap (λ (left : Left). left.words) (sym same) ∙ line.last;
+      later = line.later ∙ ap (λ (left : Left). left.later) same;
     }
+
+-- the lines are the same where only blanks stand between, and something follows them
+pub same_lines : (text other : List ℕ) → 0 < length text → 0 < length other → left_of text ≡ left_of other → word_lines text ≡ word_lines other
+same_lines text other some others same =
+    left-line text some ∙ ap (λ (left : Left). left.words ∷ left.later) same ∙ sym (left-line other others)

@@ -3,13 +3,6 @@ pub mod Digits
 pub mod Values
 pub mod StepLines
 pub mod Forms
-pub mod Operands
 pub mod StepWords
-pub mod Families
+pub mod Numbers
 pub mod FastLines
-pub mod LongNumbers
-pub mod Names
-pub mod ShortNumbers
-pub mod Places
-pub mod DigitWords
-pub mod EightDigits

@@ -1,4 +1,4 @@
--- What the text of a program of `bitrun` means, a file for each part of it, and what the readers of lines in the fast form take.
+-- What the text of a program of `bitrun` means, a file for each part of it.
 pub mod Fault
 pub mod Text
 pub mod Numeral
@@ -6,4 +6,3 @@ pub mod Kind
 pub mod Operation
 pub mod Form
 pub mod Fast
-pub mod FastValue

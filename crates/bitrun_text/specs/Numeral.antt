@@ -1,7 +1,6 @@
 -- The numbers that words write.
-use Rattle.std.specs.Prelude.{◌≡◌, ℕ, ◌+◌, ◌*◌, ◌≤◌, ◌<◌, ◌^◌, ◌&&◌, List, [], ◌∷◌, length, take, drop, get_or, Bool, true, Option, Some, None, option_map, option_and_then, ℤ, pos, neg_ℤ, unsigned_abs, ◌==◌, nat_lt, if◌then◌else◌, ⊤}
+use Rattle.std.specs.Prelude.{ℕ, ◌≤◌, ◌^◌, ◌&&◌, List, [], ◌∷◌, Bool, Option, Some, None, option_map, option_and_then, ℤ, pos, neg_ℤ, unsigned_abs, ◌==◌, nat_lt, if◌then◌else◌, ⊤}
 use Rattle.std.specs.Bool.{then_some}
-use Rattle.std.specs.Char.{is_ascii_digit}
 use Rattle.std.specs.Str.{all_ascii_digits}
 use Rattle.std.specs.Str.Parse.{digits_value}
 use Rattle.arbitrary_int.specs.Range.{in_range}
@@ -35,20 +34,3 @@ first_number limit (word ∷ words) = option_map (λ n. (n, words)) (number_belo
 abbrev pub IsFar : Option ℤ → Type 0
 IsFar None = ⊤
 IsFar (Some x) = 2 ^ 120 ≤ unsigned_abs x
-
--- so many digits stand at the beginning, and write the number
-pub record Reads (text : List ℕ) (at number : ℕ) : Type 0 where
-  pub digits : (k : ℕ) → k < at → is_ascii_digit (get_or text k 0) ≡ true
-  pub value : number ≡ digits_value 10 (take at text)
-  pub within : at ≤ length text
-
--- the text begins with some digits, which write the number, and the rest follows them
-pub record BeginsWithDigits (text : List ℕ) (number : ℕ) (rest : List ℕ) : Type 0 where
-  pub count : ℕ
-  pub some : 0 < count
-  pub reads : Reads text count number
-  pub follows : rest ≡ drop count text
-
--- four bytes as a number, the lowest first
-abbrev pub word_of : ℕ → ℕ → ℕ → ℕ → ℕ
-word_of a b c d = a + 256 * b + 65536 * c + 16777216 * d

@@ -1,5 +1,6 @@
 -- The words of a step.
 use Rattle.std.specs.Prelude.{ℕ, ◌^◌, ◌==◌, List, [], ◌∷◌, length, Option, Some, None, option_map, option_and_then, if◌then◌else◌, codes, bytes_eq}
+use Rattle.std.specs.List.{find}
 use Rattle.std.specs.Option.{option_zip}
 use Rattle.arbitrary_int.specs.declared.steps.Step.{Step}
 use Rattle.arbitrary_int.specs.declared.steps.Step.TheVariants as steps
@@ -10,34 +11,38 @@ use Rattle.bitrun_text.specs.Numeral.{number_below}
 use Rattle.bitrun_text.specs.declared.operation.Operation.{Operation}
 use Rattle.bitrun_text.specs.declared.operation.Operation.TheVariants as operations
 
+-- each operation and its name
+abbrev pub operation_rows : List (List ℕ × Operation)
+operation_rows =
+    (codes "wadd", operations.Two twos.WrappingAdd) ∷
+    (codes "wsub", operations.Two twos.WrappingSub) ∷
+    (codes "wmul", operations.Two twos.WrappingMul) ∷
+    (codes "wdiv", operations.Two twos.WrappingDiv) ∷
+    (codes "sadd", operations.Two twos.SaturatingAdd) ∷
+    (codes "ssub", operations.Two twos.SaturatingSub) ∷
+    (codes "smul", operations.Two twos.SaturatingMul) ∷
+    (codes "sdiv", operations.Two twos.SaturatingDiv) ∷
+    (codes "cadd", operations.Two twos.CheckedAdd) ∷
+    (codes "csub", operations.Two twos.CheckedSub) ∷
+    (codes "cmul", operations.Two twos.CheckedMul) ∷
+    (codes "cdiv", operations.Two twos.CheckedDiv) ∷
+    (codes "and", operations.Two twos.And) ∷
+    (codes "or", operations.Two twos.Or) ∷
+    (codes "xor", operations.Two twos.Xor) ∷
+    (codes "not", operations.One one_operand.Not) ∷
+    (codes "rev", operations.One one_operand.ReverseBits) ∷
+    (codes "neg", operations.One one_operand.WrappingNeg) ∷
+    (codes "wshl", operations.By bys.WrappingShl) ∷
+    (codes "wshr", operations.By bys.WrappingShr) ∷
+    (codes "cshl", operations.By bys.CheckedShl) ∷
+    (codes "cshr", operations.By bys.CheckedShr) ∷
+    (codes "rotl", operations.By bys.RotateLeft) ∷
+    (codes "rotr", operations.By bys.RotateRight) ∷
+    (codes "spow", operations.By bys.SaturatingPow) ∷ []
+
 -- the operation that a word names
 unfoldable pub operation_named : List ℕ → Option Operation
-operation_named word =
-    if bytes_eq word (codes "wadd") then Some (operations.Two twos.WrappingAdd) else (
-    if bytes_eq word (codes "wsub") then Some (operations.Two twos.WrappingSub) else (
-    if bytes_eq word (codes "wmul") then Some (operations.Two twos.WrappingMul) else (
-    if bytes_eq word (codes "wdiv") then Some (operations.Two twos.WrappingDiv) else (
-    if bytes_eq word (codes "sadd") then Some (operations.Two twos.SaturatingAdd) else (
-    if bytes_eq word (codes "ssub") then Some (operations.Two twos.SaturatingSub) else (
-    if bytes_eq word (codes "smul") then Some (operations.Two twos.SaturatingMul) else (
-    if bytes_eq word (codes "sdiv") then Some (operations.Two twos.SaturatingDiv) else (
-    if bytes_eq word (codes "cadd") then Some (operations.Two twos.CheckedAdd) else (
-    if bytes_eq word (codes "csub") then Some (operations.Two twos.CheckedSub) else (
-    if bytes_eq word (codes "cmul") then Some (operations.Two twos.CheckedMul) else (
-    if bytes_eq word (codes "cdiv") then Some (operations.Two twos.CheckedDiv) else (
-    if bytes_eq word (codes "and") then Some (operations.Two twos.And) else (
-    if bytes_eq word (codes "or") then Some (operations.Two twos.Or) else (
-    if bytes_eq word (codes "xor") then Some (operations.Two twos.Xor) else (
-    if bytes_eq word (codes "not") then Some (operations.One one_operand.Not) else (
-    if bytes_eq word (codes "rev") then Some (operations.One one_operand.ReverseBits) else (
-    if bytes_eq word (codes "neg") then Some (operations.One one_operand.WrappingNeg) else (
-    if bytes_eq word (codes "wshl") then Some (operations.By bys.WrappingShl) else (
-    if bytes_eq word (codes "wshr") then Some (operations.By bys.WrappingShr) else (
-    if bytes_eq word (codes "cshl") then Some (operations.By bys.CheckedShl) else (
-    if bytes_eq word (codes "cshr") then Some (operations.By bys.CheckedShr) else (
-    if bytes_eq word (codes "rotl") then Some (operations.By bys.RotateLeft) else (
-    if bytes_eq word (codes "rotr") then Some (operations.By bys.RotateRight) else (
-    if bytes_eq word (codes "spow") then Some (operations.By bys.SaturatingPow) else None))))))))))))))))))))))))
+operation_named word = option_map (λ row. row.1) (find (λ row. bytes_eq word row.0) operation_rows)
 
 -- the step of an operation on so many registers, with the words after its name
 unfoldable pub step_with : ℕ → Operation → List (List ℕ) → Option Step

@@ -1,257 +1,324 @@
-//! Lines of steps, read by an index from the start of the text. Nothing here makes a call, so that no part of a line need be stored in
-//! memory. As a rule a line has a name, one blank before each operand, registers of one to three digits, and the LF: these are tried first.
-//! More blanks, more digits, and blanks at the end of the line have arms of their own. There is a copy for spaces and one for tabs, which
-//! reads the other blank by such an arm.
+//! Steps as they are written as a rule: the line begins with the name, and an LF ends it. Nothing here makes a call for a line with one
+//! blank between its words, so that no part of it need be stored in memory.
 //!
-//! A result of `None` says nothing of a line, so whoever asks goes on with its words. It is given for a line that is bad, begins with a
-//! blank or is one of the last two of a text, and where a number has 18 digits or more, a CR follows a word within the line, or several
-//! blanks before an operand are not all of the copy's kind.
+//! A result of `None` says nothing of the line: whoever asks reads its words.
 
-ghost use Rattle.std.specs.Prelude.{◌≡◌, ◌≤◌, ◌<◌, ◌+◌, ◌-◌, ◌^◌, [], ◌∷◌, true, length, drop, get_or, take, Some, IfSome, MatchOption, ⊤};
-ghost use Rattle.std.specs.Int.{w32, from_be_bytes, to_be_bytes};
+ghost use Rattle.std.specs.Prelude.{◌≡◌, ◌≤◌, ◌<◌, ◌+◌, ◌-◌, ◌^◌, [], true, length, take, drop, get_or, Some, IfSome};
 ghost use Rattle.arbitrary_int.specs.Steps.{StepWithin};
 ghost use Rattle.bitrun_text.specs.Text.{is_blank, left_of, word_lines};
 ghost use Rattle.bitrun_text.specs.Numeral.{first_number};
-ghost use Rattle.bitrun_text.specs.Operation.{step_with};
-ghost use Rattle.bitrun_text.specs.Fast.{IsName, BeginsNoName, BeginsWithName, NamesLine};
+ghost use Rattle.bitrun_text.specs.Operation.{operation_named, step_with};
+ghost use Rattle.bitrun_text.specs.Fast.{Reads, BeginsWithNumber, EndsLine, NamesLine, Ends};
 
-use crate::operand::{below, last_number, next_register};
-use crate::operation::Operation;
-use crate::text::is_space_or_tab;
+use crate::operation::{Operation, operation_named};
+use crate::text::is_blank;
 use arbitrary_int::{ByOp, OneOp, Step, TwoOp};
 
-/// The bytes that the operands take at most without a test of their own: two of up to three digits with a blank before each and the blank
-/// after it, and the twelve in which ten digits and the LF are looked for, with a blank before them.
-const OPERANDS: usize = 23;
+/// A name of at most four letters, and the blank after it.
+const NAME: usize = 5;
 
-/// With its name and a blank, a line has so many.
-pub const LINE: usize = OPERANDS + 5;
+/// A digit more after a number below it fits in 64 bits.
+const LARGE: u64 = 1 << 60;
 
-/// The step on so many registers of the line at the place, and the place after the line, or nothing where the line isn't a fast one or
-/// names no step. From each place below the limit on, the text has `LINE` bytes.
+/// The step on so many registers that the line at the place names, and the place after the line.
 #[inline(always)]
-pub fn fast_line<const BLANK: u8>(
-    text: &[u8],
-    at: usize,
-    limit: usize,
-    count: usize,
-) -> Option<(Step, usize)>
-    requires blank { is_blank BLANK ≡ true }
-    requires limit { limit ≤ length text.now - 27 }
+pub fn fast_line(text: &[u8], at: usize, count: usize) -> Option<(Step, usize)>
+    requires { at ≤ length text.now }
     ensures step { IfSome result (λ p. NamesLine count (drop at text.now) p.0 (drop p.1 text.now)) }
     ensures within { IfSome result (λ p. StepWithin count p.0) }
     ensures order { IfSome result (λ p. at < p.1) }
     ensures room { IfSome result (λ p. p.1 ≤ length text.now) }
 {
-    // With this one test no part has one of its own.
-    if at >= limit {
+    if text.len() - at < NAME {
         return None;
     }
-    let (operation, name_end) = name_at(text, at)?;
-    let (step, end) = fast_operands::<BLANK>(operation, text, name_end, count)?;
+    let (operation, name) = name_at(text, at)?;
+    let (step, end) = operands(operation, text, name, count)?;
     Some((step, end))
 }
 
-/// The step of an operation on so many registers with the operands after the blank at the place, and the place after the line. The kind
-/// of the operation is told first, so that the compiler goes on to its operands from each name.
-#[tactic(auto, using(crate::proofs::StepWords::taken))]
+/// The operation with whose name the text goes on at the place, and the place of the blank after the name.
 #[inline(always)]
-fn fast_operands<const BLANK: u8>(
-    operation: Operation,
-    text: &[u8],
-    at: usize,
-    count: usize,
-) -> Option<(Step, usize)>
-    requires blank { is_blank BLANK ≡ true }
-    requires room { at + 24 ≤ length text.now }
-    ensures blank { IfSome result (λ p. is_blank (get_or text.now at 0) ≡ true) }
-    ensures step { IfSome result
-        (λ p. step_with count operation (left_of (drop (at + 1) text.now)).words ≡ Some p.0) }
+fn name_at(text: &[u8], at: usize) -> Option<(Operation, usize)>
+    requires { at + 5 ≤ length text.now }
+    ensures name { IfSome result (λ p. operation_named (take (p.1 - at) (drop at text.now)) ≡ Some p.0) }
+    ensures blank { IfSome result (λ p. is_blank (get_or text.now p.1 0) ≡ true) }
+    ensures order { IfSome result (λ p. at < p.1) }
+    ensures within { IfSome result (λ p. p.1 < length text.now) }
+{
+    let end = name_end(text, at);
+    let operation = operation_named(&text[at..end])?;
+    if is_usual_blank(text[end]) {
+        Some((operation, end))
+    } else {
+        None
+    }
+}
+
+/// The place after the letters of the name, if it is one.
+#[inline(always)]
+fn name_end(text: &[u8], at: usize) -> usize
+    requires { at + 5 ≤ length text.now }
+    ensures some { at < result }
+    ensures short { result ≤ at + 4 }
+{
+    if text[at + 2] <= b' ' {
+        at + 2
+    } else if text[at + 3] <= b' ' {
+        at + 3
+    } else {
+        at + 4
+    }
+}
+
+/// The step of an operation on so many registers, with the operands after the blank at the place, and the place after the line.
+#[inline(always)]
+fn operands(operation: Operation, text: &[u8], at: usize, count: usize) -> Option<(Step, usize)>
+    requires blank { is_blank (get_or text.now at 0) ≡ true }
+    requires within { at < length text.now }
+    ensures step { IfSome result (λ p. step_with count operation (left_of (drop at text.now)).words ≡ Some p.0) }
     ensures within { IfSome result (λ p. StepWithin count p.0) }
-    ensures later { IfSome result
-        (λ p. word_lines (drop p.1 text.now) ≡ (left_of (drop (at + 1) text.now)).later) }
+    ensures later { IfSome result (λ p. word_lines (drop p.1 text.now) ≡ (left_of (drop at text.now)).later) }
     ensures order { IfSome result (λ p. at < p.1) }
     ensures room { IfSome result (λ p. p.1 ≤ length text.now) }
 {
     match operation {
-        Operation::Two(op) => {
-            if text[at] != BLANK && !is_space_or_tab(text[at]) {
-                return None;
-            }
-            let (to, at) = next_register(text, at + 1, count, BLANK, OPERANDS)?;
-            let (left, at) = next_register(text, at, count, BLANK, OPERANDS - 5)?;
-            let (right, end) = last_register(text, at, count, BLANK)?;
-            Some((
-                Step::Two {
-                    op,
-                    to,
-                    left,
-                    right,
-                },
-                end,
-            ))
-        }
-        Operation::One(op) => {
-            if text[at] != BLANK && !is_space_or_tab(text[at]) {
-                return None;
-            }
-            let (to, at) = next_register(text, at + 1, count, BLANK, OPERANDS)?;
-            let (src, end) = last_register(text, at, count, BLANK)?;
-            Some((Step::One { op, to, src }, end))
-        }
-        Operation::By(op) => {
-            if text[at] != BLANK && !is_space_or_tab(text[at]) {
-                return None;
-            }
-            let (to, at) = next_register(text, at + 1, count, BLANK, OPERANDS)?;
-            let (src, at) = next_register(text, at, count, BLANK, OPERANDS - 5)?;
-            let (amount, end) = fast_amount(text, at, BLANK)?;
-            Some((
-                Step::By {
-                    op,
-                    to,
-                    src,
-                    amount,
-                },
-                end,
-            ))
-        }
+        Operation::Two(op) => two(op, text, at, count),
+        Operation::One(op) => one(op, text, at, count),
+        Operation::By(op) => by(op, text, at, count),
     }
 }
 
-/// The number of one of so many registers, which is the last word of the line, and the place after the line.
+#[tactic(auto, using(crate::proofs::StepWords::taken))]
 #[inline(always)]
-fn last_register(text: &[u8], at: usize, count: usize, blank: u8) -> Option<(usize, usize)>
-    requires blank { is_blank blank ≡ true }
-    requires room { at + 13 ≤ length text.now }
-    ensures number { IfSome result
-        (λ p. first_number count (left_of (drop at text.now)).words ≡ Some (p.0, [])) }
+fn two(op: TwoOp, text: &[u8], at: usize, count: usize) -> Option<(Step, usize)>
+    requires blank { is_blank (get_or text.now at 0) ≡ true }
+    requires within { at < length text.now }
+    ensures step { IfSome result (λ p. step_with count (Operation.Two op) (left_of (drop at text.now)).words ≡ Some p.0) }
+    ensures within { IfSome result (λ p. StepWithin count p.0) }
+    ensures later { IfSome result (λ p. word_lines (drop p.1 text.now) ≡ (left_of (drop at text.now)).later) }
+    ensures order { IfSome result (λ p. at < p.1) }
+    ensures room { IfSome result (λ p. p.1 ≤ length text.now) }
+{
+    let (to, at) = next_register(text, at, count)?;
+    let (left, at) = next_register(text, at, count)?;
+    let (right, end) = last_register(text, at, count)?;
+    Some((
+        Step::Two {
+            op,
+            to,
+            left,
+            right,
+        },
+        end,
+    ))
+}
+
+#[tactic(auto, using(crate::proofs::StepWords::taken))]
+#[inline(always)]
+fn one(op: OneOp, text: &[u8], at: usize, count: usize) -> Option<(Step, usize)>
+    requires blank { is_blank (get_or text.now at 0) ≡ true }
+    requires within { at < length text.now }
+    ensures step { IfSome result (λ p. step_with count (Operation.One op) (left_of (drop at text.now)).words ≡ Some p.0) }
+    ensures within { IfSome result (λ p. StepWithin count p.0) }
+    ensures later { IfSome result (λ p. word_lines (drop p.1 text.now) ≡ (left_of (drop at text.now)).later) }
+    ensures order { IfSome result (λ p. at < p.1) }
+    ensures room { IfSome result (λ p. p.1 ≤ length text.now) }
+{
+    let (to, at) = next_register(text, at, count)?;
+    let (src, end) = last_register(text, at, count)?;
+    Some((Step::One { op, to, src }, end))
+}
+
+#[tactic(auto, using(crate::proofs::StepWords::taken))]
+#[inline(always)]
+fn by(op: ByOp, text: &[u8], at: usize, count: usize) -> Option<(Step, usize)>
+    requires blank { is_blank (get_or text.now at 0) ≡ true }
+    requires within { at < length text.now }
+    ensures step { IfSome result (λ p. step_with count (Operation.By op) (left_of (drop at text.now)).words ≡ Some p.0) }
+    ensures within { IfSome result (λ p. StepWithin count p.0) }
+    ensures later { IfSome result (λ p. word_lines (drop p.1 text.now) ≡ (left_of (drop at text.now)).later) }
+    ensures order { IfSome result (λ p. at < p.1) }
+    ensures room { IfSome result (λ p. p.1 ≤ length text.now) }
+{
+    let (to, at) = next_register(text, at, count)?;
+    let (src, at) = next_register(text, at, count)?;
+    let (amount, end) = last_amount(text, at)?;
+    Some((
+        Step::By {
+            op,
+            to,
+            src,
+            amount,
+        },
+        end,
+    ))
+}
+
+/// The number of one of so many registers, after the blank at the place, and the place of the blank that follows it.
+#[inline(always)]
+fn next_register(text: &[u8], at: usize, count: usize) -> Option<(usize, usize)>
+    requires blank { is_blank (get_or text.now at 0) ≡ true }
+    requires within { at < length text.now }
+    ensures number { IfSome result (λ p. first_number count (left_of (drop at text.now)).words
+        ≡ Some (p.0, (left_of (drop p.1 text.now)).words)) }
     ensures below { IfSome result (λ p. p.0 < count) }
-    ensures later { IfSome result
-        (λ p. word_lines (drop p.1 text.now) ≡ (left_of (drop at text.now)).later) }
+    ensures later { IfSome result (λ p. (left_of (drop p.1 text.now)).later ≡ (left_of (drop at text.now)).later) }
+    ensures blank { IfSome result (λ p. is_blank (get_or text.now p.1 0) ≡ true) }
     ensures order { IfSome result (λ p. at < p.1) }
-    ensures room { IfSome result (λ p. p.1 ≤ length text.now) }
+    ensures within { IfSome result (λ p. p.1 < length text.now) }
 {
-    let (number, end) = last_number(text, at, blank)?;
-    below(number, end, count)
+    let (number, end) = number(text, at, (count as u64).min(LARGE))?;
+    if end < text.len() && is_usual_blank(text[end]) {
+        Some((number as usize, end))
+    } else {
+        None
+    }
 }
 
-/// The amount, which is the last word of the line, and the place after the line.
+/// The number of one of so many registers, after the blank at the place, and the place after the line, which holds nothing else.
 #[inline(always)]
-fn fast_amount(text: &[u8], at: usize, blank: u8) -> Option<(u32, usize)>
-    requires blank { is_blank blank ≡ true }
-    requires room { at + 13 ≤ length text.now }
-    ensures number { IfSome result
-        (λ p. first_number (2 ^ 32) (left_of (drop at text.now)).words ≡ Some (p.0, [])) }
-    ensures later { IfSome result
-        (λ p. word_lines (drop p.1 text.now) ≡ (left_of (drop at text.now)).later) }
+fn last_register(text: &[u8], at: usize, count: usize) -> Option<(usize, usize)>
+    requires blank { is_blank (get_or text.now at 0) ≡ true }
+    requires within { at < length text.now }
+    ensures number { IfSome result (λ p. first_number count (left_of (drop at text.now)).words ≡ Some (p.0, [])) }
+    ensures below { IfSome result (λ p. p.0 < count) }
+    ensures later { IfSome result (λ p. word_lines (drop p.1 text.now) ≡ (left_of (drop at text.now)).later) }
     ensures order { IfSome result (λ p. at < p.1) }
     ensures room { IfSome result (λ p. p.1 ≤ length text.now) }
 {
-    let (number, end) = last_number(text, at, blank)?;
-    if number >= 1 << 32 {
-        return None;
-    }
+    let (number, at) = number(text, at, (count as u64).min(LARGE))?;
+    let end = line_end(text, at)?;
+    Some((number as usize, end))
+}
+
+/// The amount after the blank at the place, and the place after the line, which holds nothing else.
+#[inline(always)]
+fn last_amount(text: &[u8], at: usize) -> Option<(u32, usize)>
+    requires blank { is_blank (get_or text.now at 0) ≡ true }
+    requires within { at < length text.now }
+    ensures number { IfSome result (λ p. first_number (2 ^ 32) (left_of (drop at text.now)).words ≡ Some (p.0, [])) }
+    ensures later { IfSome result (λ p. word_lines (drop p.1 text.now) ≡ (left_of (drop at text.now)).later) }
+    ensures order { IfSome result (λ p. at < p.1) }
+    ensures room { IfSome result (λ p. p.1 ≤ length text.now) }
+{
+    let (number, at) = number(text, at, 1 << 32)?;
+    let end = line_end(text, at)?;
     Some((number as u32, end))
 }
 
-/// The operation with whose name the text goes on at the place, and the place after the name.
+/// The number below the limit that digits write after the blank at the place, and the place after them.
 #[inline(always)]
-fn name_at(text: &[u8], at: usize) -> Option<(Operation, usize)>
-    requires { at + 4 ≤ length text.now }
-    ensures name { IfSome result (λ p. BeginsWithName (drop at text.now) p.0 (drop p.1 text.now)) }
-    ensures order { IfSome result (λ p. at ≤ p.1) }
-    ensures room { IfSome result (λ p. p.1 ≤ at + 4) }
+fn number(text: &[u8], at: usize, limit: u64) -> Option<(u64, usize)>
+    requires blank { is_blank (get_or text.now at 0) ≡ true }
+    requires within { at < length text.now }
+    requires limit { limit ≤ 2 ^ 60 }
+    ensures number { IfSome result (λ p. BeginsWithNumber (drop at text.now) p.0 (drop p.1 text.now)) }
+    ensures below { IfSome result (λ p. p.0 < limit) }
+    ensures order { IfSome result (λ p. at < p.1) }
+    ensures room { IfSome result (λ p. p.1 ≤ length text.now) }
 {
-    // So no search among the names is made where blanks stand in front.
-    if text[at] <= b' ' {
-        return None;
+    if let Some(digit) = one_digit(text, at + 1) {
+        return if digit < limit {
+            Some((digit, at + 2))
+        } else {
+            None
+        };
     }
-    let (operation, size) = short_name(name_word(text, at))?;
-    Some((operation, at + size))
+    let start = after_blanks(text, at + 1);
+    let (number, end) = digits(text, start, limit);
+    if end == start {
+        None
+    } else {
+        Some((number, end))
+    }
 }
 
-/// The four bytes at the place, of which the first is the highest. As `word_at` it isn't `always` in line.
-#[inline]
-fn name_word(text: &[u8], at: usize) -> u32
-    requires { at + 4 ≤ length text.now }
-    ensures word { result
-        ≡ from_be_bytes w32 (get_or text.now at 0 ∷ get_or text.now (at + 1) 0 ∷ get_or text.now
-        (at + 2) 0 ∷ get_or text.now (at + 3) 0 ∷ []) }
+/// The number of the one digit at the place, where no digit follows it.
+#[inline(always)]
+fn one_digit(text: &[u8], at: usize) -> Option<u64>
+    requires { at ≤ length text.now }
+    ensures reads { IfSome result (λ n. Reads (drop at text.now) (at + 1 - at) n) }
+    ensures within { IfSome result (λ n. at < length text.now) }
 {
-    u32::from_be_bytes([text[at], text[at + 1], text[at + 2], text[at + 3]])
+    if at + 1 < text.len() && text[at].is_ascii_digit() && !text[at + 1].is_ascii_digit() {
+        Some(u64::from(text[at] - b'0'))
+    } else {
+        None
+    }
 }
 
-/// The operation that the first letters of four bytes name, and how many letters it has. The first
-/// byte is the highest. Each name is known: there is no result only where no name begins so.
-#[tactic(auto, unfolding(crate::specs::Operation::operation_named))]
+/// The number that digits write from the place on, and the place after them. A digit that takes it to the limit is left.
 #[inline(always)]
-fn short_name(bytes: u32) -> Option<(Operation, usize)>
-    ensures name { IfSome result (λ p. IsName (take p.1 (to_be_bytes w32 bytes)) p.0) }
-    ensures short { IfSome result (λ p. p.1 ≤ 4) }
-    ensures each { MatchOption result (BeginsNoName bytes) (λ _. ⊤) }
+fn digits(text: &[u8], start: usize, limit: u64) -> (u64, usize)
+    requires start { start ≤ length text.now }
+    requires limit { limit ≤ 2 ^ 60 }
+    ensures reads { Reads (drop start text.now) (result.1 - start) result.0 }
+    ensures order { start ≤ result.1 }
+    ensures room { result.1 ≤ length text.now }
+    ensures below { start < result.1 → result.0 < limit }
 {
-    const WADD: u32 = 0x7761_6464;
-    const WSUB: u32 = 0x7773_7562;
-    const WMUL: u32 = 0x776d_756c;
-    const WDIV: u32 = 0x7764_6976;
-    const SADD: u32 = 0x7361_6464;
-    const SSUB: u32 = 0x7373_7562;
-    const SMUL: u32 = 0x736d_756c;
-    const SDIV: u32 = 0x7364_6976;
-    const CADD: u32 = 0x6361_6464;
-    const CSUB: u32 = 0x6373_7562;
-    const CMUL: u32 = 0x636d_756c;
-    const CDIV: u32 = 0x6364_6976;
-    // A name of three letters with a space, and with a tab.
-    const AND: u32 = 0x616e_6420;
-    const AND_TAB: u32 = 0x616e_6409;
-    const XOR: u32 = 0x786f_7220;
-    const XOR_TAB: u32 = 0x786f_7209;
-    const NOT: u32 = 0x6e6f_7420;
-    const NOT_TAB: u32 = 0x6e6f_7409;
-    const REV: u32 = 0x7265_7620;
-    const REV_TAB: u32 = 0x7265_7609;
-    const NEG: u32 = 0x6e65_6720;
-    const NEG_TAB: u32 = 0x6e65_6709;
-    // `or` with a space or a tab, and any byte.
-    const OR: u32 = 0x6f72_2000;
-    const OR_LAST: u32 = 0x6f72_20ff;
-    const OR_TAB: u32 = 0x6f72_0900;
-    const OR_TAB_LAST: u32 = 0x6f72_09ff;
-    const WSHL: u32 = 0x7773_686c;
-    const WSHR: u32 = 0x7773_6872;
-    const CSHL: u32 = 0x6373_686c;
-    const CSHR: u32 = 0x6373_6872;
-    const ROTL: u32 = 0x726f_746c;
-    const ROTR: u32 = 0x726f_7472;
-    const SPOW: u32 = 0x7370_6f77;
-    match bytes {
-        WADD => Some((Operation::Two(TwoOp::WrappingAdd), 4)),
-        WSUB => Some((Operation::Two(TwoOp::WrappingSub), 4)),
-        WMUL => Some((Operation::Two(TwoOp::WrappingMul), 4)),
-        WDIV => Some((Operation::Two(TwoOp::WrappingDiv), 4)),
-        SADD => Some((Operation::Two(TwoOp::SaturatingAdd), 4)),
-        SSUB => Some((Operation::Two(TwoOp::SaturatingSub), 4)),
-        SMUL => Some((Operation::Two(TwoOp::SaturatingMul), 4)),
-        SDIV => Some((Operation::Two(TwoOp::SaturatingDiv), 4)),
-        CADD => Some((Operation::Two(TwoOp::CheckedAdd), 4)),
-        CSUB => Some((Operation::Two(TwoOp::CheckedSub), 4)),
-        CMUL => Some((Operation::Two(TwoOp::CheckedMul), 4)),
-        CDIV => Some((Operation::Two(TwoOp::CheckedDiv), 4)),
-        AND | AND_TAB => Some((Operation::Two(TwoOp::And), 3)),
-        OR..=OR_LAST | OR_TAB..=OR_TAB_LAST => Some((Operation::Two(TwoOp::Or), 2)),
-        XOR | XOR_TAB => Some((Operation::Two(TwoOp::Xor), 3)),
-        NOT | NOT_TAB => Some((Operation::One(OneOp::Not), 3)),
-        REV | REV_TAB => Some((Operation::One(OneOp::ReverseBits), 3)),
-        NEG | NEG_TAB => Some((Operation::One(OneOp::WrappingNeg), 3)),
-        WSHL => Some((Operation::By(ByOp::WrappingShl), 4)),
-        WSHR => Some((Operation::By(ByOp::WrappingShr), 4)),
-        CSHL => Some((Operation::By(ByOp::CheckedShl), 4)),
-        CSHR => Some((Operation::By(ByOp::CheckedShr), 4)),
-        ROTL => Some((Operation::By(ByOp::RotateLeft), 4)),
-        ROTR => Some((Operation::By(ByOp::RotateRight), 4)),
-        SPOW => Some((Operation::By(ByOp::SaturatingPow), 4)),
-        _ => None,
+    let mut number = 0;
+    let mut at = start;
+    while at < text.len() && text[at].is_ascii_digit() {
+        let next = 10 * number + u64::from(text[at] - b'0');
+        if next >= limit {
+            break;
+        }
+        number = next;
+        at += 1;
     }
+    (number, at)
+}
+
+/// The place after the LF, where nothing but blanks stands before it.
+#[inline(always)]
+fn line_end(text: &[u8], at: usize) -> Option<usize>
+    requires { at ≤ length text.now }
+    ensures line { IfSome result (λ end. EndsLine (drop at text.now) (drop end text.now)) }
+    ensures order { IfSome result (λ end. at < end) }
+    ensures room { IfSome result (λ end. end ≤ length text.now) }
+{
+    if at < text.len() && text[at] == b'\n' {
+        return Some(at + 1);
+    }
+    let end = after_blanks(text, at);
+    if end < text.len() && text[end] == b'\n' {
+        Some(end + 1)
+    } else {
+        None
+    }
+}
+
+/// The place after the blanks at the place.
+// In line, this loop would take processor registers from the numbers.
+#[inline(never)]
+pub fn after_blanks(text: &[u8], start: usize) -> usize
+    requires { start ≤ length text.now }
+    ensures same { left_of (drop result text.now) ≡ left_of (drop start text.now) }
+    ensures ends { start < result → Ends (drop start text.now) }
+    ensures order { start ≤ result }
+    ensures room { result ≤ length text.now }
+{
+    let mut at = start;
+    while at < text.len() && is_blank(text[at]) {
+        at += 1;
+    }
+    at
+}
+
+/// Whether the byte is a blank. As a rule it is a space, which one comparison tells.
+#[inline(always)]
+fn is_usual_blank(byte: u8) -> bool
+    ensures { result ≡ is_blank byte }
+{
+    byte == b' ' || is_other_blank(byte)
+}
+
+// In line, the compiler would make one test of both.
+#[inline(never)]
+fn is_other_blank(byte: u8) -> bool
+    ensures { result ≡ is_blank byte }
+{
+    is_blank(byte)
 }

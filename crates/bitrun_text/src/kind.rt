@@ -41,14 +41,15 @@ pub fn kind_named(line: &mut Cursor) -> Option<Kind>
     ensures kind { result ≡ kind_named line.old.words }
     ensures later { line.new.later ≡ line.old.later }
 {
-    if line.take_word(b"run") {
+    let first = line.next_word()?;
+    if first == b"run".as_slice() {
         let name = line.next_word()?;
         if line.is_at_end() {
             type_named(name).map(Kind::Run)
         } else {
             None
         }
-    } else if line.take_word(b"wide") {
+    } else if first == b"wide".as_slice() {
         let wide = line.next_word()?;
         let narrow = line.next_word()?;
         if line.is_at_end() {

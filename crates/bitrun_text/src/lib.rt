@@ -6,12 +6,9 @@
 #![tactic(auto)]
 
 mod fast;
-mod fast_value;
 pub mod fault;
 pub mod kind;
 mod numeral;
-mod operand;
 mod operation;
 pub mod parsing;
-mod short_number;
 pub mod text;

@@ -1,13 +1,12 @@
 //! The registers and the steps from their lines.
 
-ghost use Rattle.std.specs.Prelude.{◌≡◌, true, ◌≤◌, ◌+◌, ◌-◌, ℕ, List, length, drop, map, filter, IfOk, IfErr, IfSome, MatchOption, All};
+ghost use Rattle.std.specs.Prelude.{◌≡◌, ◌≤◌, ◌+◌, ◌-◌, ℕ, List, length, drop, map, filter, IfOk, IfErr, MatchOption, All};
 ghost use Rattle.arbitrary_int.specs.Steps.{StepWithin};
 ghost use Rattle.std.specs.List.{AllZip};
-ghost use Rattle.bitrun_text.specs.Text.{Left, has_items, is_blank, word_lines};
+ghost use Rattle.bitrun_text.specs.Text.{Left, has_items, word_lines};
 ghost use Rattle.bitrun_text.specs.Form.{IsValue, IsStep, HasRegistersForm, StepsFault, ReadSoFar};
 
-use crate::fast::{LINE, fast_line};
-use crate::fast_value::fast_value;
+use crate::fast::{after_blanks, fast_line};
 use crate::fault::Fault;
 use crate::numeral::value_named;
 use crate::operation::step_named;
@@ -26,29 +25,17 @@ pub fn registers<'a, R: FixedWidth, A: Allocator>(
     requires narrow { R.BITS ≤ 120 }
     ensures values { IfOk result (λ found. MatchOption found
         (HasRegistersForm R.IS_SIGNED R.BITS line.old.words → ⊥)
-        (λ registers. AllZip (IsValue R.IS_SIGNED R.BITS) line.old.words
-        (map R.number registers.items))) }
+        (λ registers. AllZip (IsValue R.IS_SIGNED R.BITS) line.old.words (map R.number registers.items))) }
     ensures later { line.new.later ≡ line.old.later }
 {
     let mut registers = Vec::new(alloc);
-    loop {
-        let value = match fast_value(line.text()) {
-            Some((value, rest)) => {
-                line.go_to(rest);
-                value
-            }
-            None => {
-                let Some(word) = line.next_word() else {
-                    return Ok(Some(registers));
-                };
-                let Some(value) = value_named(word) else {
-                    return Ok(None);
-                };
-                value
-            }
+    while let Some(word) = line.next_word() {
+        let Some(value) = value_named(word) else {
+            return Ok(None);
         };
         registers.push(value)?;
     }
+    Ok(Some(registers))
 }
 
 /// The steps on so many registers that the later lines name.
@@ -58,12 +45,10 @@ pub fn steps<'a, A: Allocator>(
     lines: &mut Cursor,
 ) -> Result<Vec<Step, &'a A>, Fault>
     requires { length lines.old.later ≤ 65536 }
-    ensures found { IfOk result
-        (λ steps. AllZip (IsStep count) (filter has_items lines.old.later) steps.items) }
+    ensures found { IfOk result (λ steps. AllZip (IsStep count) (filter has_items lines.old.later) steps.items) }
     ensures within { IfOk result (λ steps. All (StepWithin count) steps.items) }
     ensures fault { IfErr result (StepsFault count lines.old.later) }
 {
-    // A cursor of its own, so that the place need not be stored in memory: no call takes a reference to it.
     let mut line = lines.copy();
     // A line of a step has 11 bytes or so: room for most of them, and not too much for other lines.
     let mut steps = Vec::with_capacity(alloc, line.text().len() / 16)?;
@@ -75,9 +60,6 @@ pub fn steps<'a, A: Allocator>(
         }
         line.go_to(rest);
         number += 1;
-        if line.is_at_lf() {
-            continue;
-        }
         let mut words = line.copy();
         let Some(word) = words.next_word() else {
             continue;
@@ -90,9 +72,9 @@ pub fn steps<'a, A: Allocator>(
     }
 }
 
-/// Adds the steps of the fast lines with which the text begins, as far as there is room for them, and the number of these lines, and gives
-/// what follows them.
-#[inline(always)]
+/// Adds the steps of the fast lines with which the text begins, as far as there is room for them, counts these lines and those that have an LF
+/// alone, and gives what follows them. No call is made for such a line, so that what goes on need not be stored in memory.
+#[inline(never)]
 fn fast_steps<'a, 't, A: Allocator>(
     count: usize,
     text: &'t [u8],
@@ -100,78 +82,26 @@ fn fast_steps<'a, 't, A: Allocator>(
     number: &mut usize,
 ) -> &'t [u8]
     requires { number.old + length (word_lines text.now) ≤ 65538 }
-    ensures read { (all : List (List (List ℕ)))
-        → ReadSoFar count all steps.old.items number.old (word_lines text.now)
+    ensures read { (all : List (List (List ℕ))) → ReadSoFar count all steps.old.items number.old (word_lines text.now)
         → ReadSoFar count all steps.new.items number.new (word_lines result.now) }
     ensures order { number.old ≤ number.new }
 {
-    let before = steps.len();
-    let mut passed = 0;
-    if has_tab_after_name(text) {
-        let rest = steps_with::<A, b'\t'>(count, text, steps, &mut passed);
-        *number += steps.len() - before + passed;
-        return rest;
-    }
-    let rest = steps_with::<A, b' '>(count, text, steps, &mut passed);
-    *number += steps.len() - before + passed;
-    rest
-}
-
-/// Whether a tab stands where the first blank of a line is, as a rule: after a name of two to four letters.
-#[inline(always)]
-fn has_tab_after_name(text: &[u8]) -> bool {
-    text.len() > 4 && (text[2] == b'\t' || text[3] == b'\t' || text[4] == b'\t')
-}
-
-/// Adds the steps of the fast lines with this blank between their words with which the text begins, as far as there is room for them, and
-/// the number of the empty lines among these, and gives what follows them. There is a copy for each blank, and each reads the other one too,
-/// where its own is not found. Nothing that reads a line here takes a call, so that what goes on need not be stored in memory.
-#[inline(never)]
-fn steps_with<'a, 't, A: Allocator, const BLANK: u8>(
-    count: usize,
-    text: &'t [u8],
-    steps: &mut Vec<Step, &'a A>,
-    passed: &mut usize,
-) -> &'t [u8]
-    requires blank { is_blank BLANK ≡ true }
-    requires lines { passed.old + length (word_lines text.now) ≤ 65538 }
-    ensures read { (all : List (List (List ℕ))) → (number : ℕ)
-        → ReadSoFar count all steps.old.items number (word_lines text.now)
-        → ReadSoFar count all steps.new.items
-        (number + (length steps.new.items - length steps.old.items + (passed.new - passed.old)))
-        (word_lines result.now) }
-    ensures counted { (length steps.new.items - length steps.old.items + (passed.new - passed.old))
-        + length (word_lines result.now) ≡ length (word_lines text.now) }
-    ensures steps { length steps.old.items ≤ length steps.new.items }
-    ensures passed { passed.old ≤ passed.new }
-    ensures order { length result.now ≤ length text.now }
-{
-    // Lines that begin later are left to whoever asks.
-    let limit = text.len().saturating_sub(LINE - 1);
     let mut at = 0;
     while steps.len() < steps.capacity() {
-        match fast_line::<BLANK>(text, at, limit, count) {
+        match fast_line(text, at, count) {
             Some((step, end)) => {
                 steps.push_reserved(step);
+                *number += 1;
                 at = end;
             }
             None => {
-                let spaces = after_indent(text, at, b' ');
-                if spaces != at {
-                    at = spaces;
-                } else {
-                    let tabs = after_indent(text, at, b'\t');
-                    if tabs != at {
-                        at = tabs;
-                    } else {
-                        let end = after_empty_lines(text, at);
-                        if end == at {
-                            break;
-                        }
-                        *passed += end - at;
-                        at = end;
-                    }
+                let start = after_indent(text, at);
+                let end = after_empty_lines(text, start);
+                if end == at {
+                    break;
                 }
+                *number += end - start;
+                at = end;
             }
         }
     }
@@ -179,32 +109,26 @@ fn steps_with<'a, 't, A: Allocator, const BLANK: u8>(
     rest
 }
 
-/// The place after the blanks of this kind at the place, unless nothing follows them.
-#[inline(always)]
-fn after_indent(text: &[u8], at: usize, blank: u8) -> usize
-    requires blank { is_blank blank ≡ true }
-    requires room { at ≤ length text.now }
+/// The place after the blanks at the place, unless nothing follows them.
+fn after_indent(text: &[u8], at: usize) -> usize
+    requires { at ≤ length text.now }
     ensures same { word_lines (drop result text.now) ≡ word_lines (drop at text.now) }
     ensures order { at ≤ result }
     ensures room { result ≤ length text.now }
 {
-    let mut next = at;
-    while next < text.len() && text[next] == blank {
-        next += 1;
-    }
+    let next = after_blanks(text, at);
     if next == text.len() { at } else { next }
 }
 
-/// The place after the lines at the place that have an LF alone. In line, this loop would take processor registers from that of the fast
-/// lines.
+/// The place after the lines at the place that have an LF alone.
+// In line, this loop would take processor registers from that of the fast lines.
 #[inline(never)]
 fn after_empty_lines(text: &[u8], at: usize) -> usize
     requires { at ≤ length text.now }
     ensures read { (count : ℕ) → (all : List (List (List ℕ))) → (steps : List Step) → (number : ℕ)
         → ReadSoFar count all steps number (word_lines (drop at text.now))
         → ReadSoFar count all steps (number + (result - at)) (word_lines (drop result text.now)) }
-    ensures counted { (result - at) + length (word_lines (drop result text.now))
-        ≡ length (word_lines (drop at text.now)) }
+    ensures counted { (result - at) + length (word_lines (drop result text.now)) ≡ length (word_lines (drop at text.now)) }
     ensures order { at ≤ result }
     ensures room { result ≤ length text.now }
 {

@@ -1,13 +1,15 @@
-use Rattle.std.proofs.Common.{◌+◌, drop, get_or, arith}
-use Rattle.std.proofs.lemmas.List.{drop_more}
-use Rattle.bitrun_text.proofs.FastLines.{line_named}
+use Rattle.std.proofs.Common.{◌≡◌, ◌+◌, ◌-◌, drop, ap, ◌∙◌, arith, drop-drop}
+use Rattle.bitrun_text.proofs.FastLines.{blank_ends, line_named}
 use Rattle.bitrun_text.proofs.fast.fast_line.Goals as goal
 
 pub returns-clause-step : goal.returns-clause-step
-returns-clause-step g c =
+returns-clause-step c =
     let text = c.args.text.now in
-    let name = c.in_ok-operation in
+    let at = c.args.at in
+    let n = c.in_ok-operation in
     let line = c.in_ok-step in
-    let split = drop_more text name.name_end 0 (omega (arith, name.ensures.room, c.if-at-limit.false, c.requires.limit)) in
-    line_named c.args.count (drop c.args.at text) (drop name.name_end text) name.operation (get_or text name.name_end 0) (drop (name.name_end + 1) text) line.step (drop line.end text)
-    name.ensures.name split line.ensures.blank line.ensures.step line.ensures.later
+    let size = n.name - at in
+    let place : at + size ≡ n.name = omega (arith, n.ensures.order) in
+    let there : drop size (drop at text) ≡ drop n.name text = drop-drop size at text ∙ ap (λ k. drop k text) place in
+    line_named c.args.count (drop at text) (drop line.end text) size n.operation line.step (rw there (blank_ends text n.name n.ensures.within n.ensures.blank)) n.ensures.name
+    (rw there line.ensures.step) (rw there line.ensures.later)

@@ -37,29 +37,6 @@ overflow_add-number g c =
     let read = c.fast_steps-rest.ensures.read all so_far in
     omega (arith, read.counted, c.requires)
 
-pub loop-line-smaller-then-is_at_lf : goal.loop-line-smaller-then-is_at_lf
-loop-line-smaller-then-is_at_lf g c =
-    let count = c.args.count in
-    let all = c.args.lines.now.later in
-    let so_far = lines_after count all c.loop-line.steps.items c.loop-line.number c.text-in-loop-line.result.now c.after_line.result.now c.loop-line.line c.text-in-loop-line.ensures c.after_line.ensures c.loop-line.invariant in
-    let read = c.fast_steps-rest.ensures.read all so_far in
-    let rest = c.fast_steps-rest.result.now in
-    let next = c.go_to.new.self in
-    let taken : word_lines rest ≡ next.words ∷ next.later = rw c.go_to.ensures (left-line rest (omega (arith, false-eqb (length rest) 0 c.if-is_empty.ensures))) in
-    let fewer : length next.later < length c.loop-line.line.later = omega (arith, c.loop-line.invariant.counted, read.counted, c.fast_steps-rest.ensures.order, ap length taken) in
-    fewer
-
-pub loop-line-preserved-then-is_at_lf : goal.loop-line-preserved-then-is_at_lf
-loop-line-preserved-then-is_at_lf g c =
-    let count = c.args.count in
-    let all = c.args.lines.now.later in
-    let so_far = lines_after count all c.loop-line.steps.items c.loop-line.number c.text-in-loop-line.result.now c.after_line.result.now c.loop-line.line c.text-in-loop-line.ensures c.after_line.ensures c.loop-line.invariant in
-    let read = c.fast_steps-rest.ensures.read all so_far in
-    let rest = c.fast_steps-rest.result.now in
-    let next = c.go_to.new.self in
-    let taken : word_lines rest ≡ next.words ∷ next.later = rw c.go_to.ensures (left-line rest (omega (arith, false-eqb (length rest) 0 c.if-is_empty.ensures))) in
-    after_blank count (word_lines rest) next.later next.later next.words taken refl _ _ _ read (c.if-is_at_lf.ensures refl)
-
 pub loop-line-smaller-in_default : goal.loop-line-smaller-in_default
 loop-line-smaller-in_default g c =
     let count = c.args.count in
