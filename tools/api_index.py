@@ -1,9 +1,8 @@
 #!/usr/bin/env python3
 """api_index.py [--write]
 
-Tells whether docs/API.md is the index of the libraries' public items: for each its first sentence and the names of its
-clauses, under the file that it stands in. A call that has a row in docs/CALLS.md has a link to it, and the row has a mark
-for that. With --write it writes the page and the marks.
+Fails unless docs/API.md is the index of the libraries' public items: for each its first sentence and the names of its clauses, under its file.
+A call that has a row in docs/CALLS.md has a link to it, and the row has a mark for that. With --write it writes the page and the marks.
 """
 import re
 import sys
@@ -16,13 +15,12 @@ BASE = 'arbitrary_base'
 LIBRARIES = ['arbitrary_int', 'bit_fields', 'arbitrary_calls', 'arbitrary_core', 'arbitrary_traits', BASE]
 HEAD = '''# The public items of the libraries
 
-Written by [tools/api_index.py](../tools/api_index.py) from the sources, so edit those. Each row has an item, the first sentence of its
-comment, and the names of its clauses. A clause without a name stands as `requires` or `ensures`. A call that is a link leads to its row
-with an example in [CALLS.md](CALLS.md). Your own code imports all that it needs from `arbitrary_int::prelude`, `arbitrary_int::traits` and
-`arbitrary_int` itself.
+[api_index.py](../tools/api_index.py) writes this page from the sources. A row has an item, the first sentence of its comment, and the names of
+its clauses; a clause without a name appears as `requires` or `ensures`. A call that is a link leads to its row with an example in
+[CALLS.md](CALLS.md). Import what you need from `arbitrary_int::prelude`, `arbitrary_int::traits` and `arbitrary_int`.
 
-Left out are the 246 short names `u1` to `u127` and `i1` to `i127`, and the calls that an `impl` has from its trait. So the
-operators stand in [CALLS.md](CALLS.md#arithmetic) alone, as those of [bits](CALLS.md#bits) and the forms of [text](CALLS.md#text).
+Not listed are the 246 short names `u1` to `u127` and `i1` to `i127`, and calls that an `impl` has from its trait. [CALLS.md](CALLS.md#arithmetic)
+has the operators, and the forms of [text](CALLS.md#text).
 '''
 # Calls whose example is a text or a file, by the heading in docs/CALLS.md that has it.
 BY_HEADING = {

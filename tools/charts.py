@@ -1,10 +1,10 @@
 #!/usr/bin/env python3
 """charts.py [--write]
 
-Tells whether the pictures in docs/pictures are what it draws: three charts of the tables in tools/measured.txt, a put into a
-record, the square of `run` and `run_wide`, and the layers. With --write it draws them anew. The colours read on a light and on a
-dark page, and the background is left clear. It also tells whether the rows that docs/PERFORMANCE.md has of the instructions per call
-are rows of these tables.
+Fails unless the pictures in docs/pictures are what it draws, and each line of text is in its box: three charts of the tables in
+tools/measured.txt, a put into a record, the square of `run` and `run_wide`, and the layers of crates.txt. It also fails unless the tables of
+docs/PERFORMANCE.md have the rows of tools/measured.txt, and the figures that follow from them. With --write it draws the pictures and writes
+these tables. The colours read on a light and on a dark page, and the background is clear.
 """
 import math
 import re
@@ -12,23 +12,32 @@ import sys
 from html import escape
 from pathlib import Path
 
+import layout
+
 ROOT = Path(__file__).resolve().parent.parent
 MEASURED = ROOT / 'tools/measured.txt'
 PAGE = ROOT / 'docs/PERFORMANCE.md'
 CALLS = 'Instructions per call'
+INPUTS = '`bitrun` on heavy inputs'
+SUMMARY = 'In short'
 PICTURES = ROOT / 'docs/pictures'
 GREY, BLUE, ORANGE, GREEN, PALE = '#7a828d', '#3b82f6', '#dd7a1f', '#2f9e58', '#7a828d40'
 
 
-def section(file, heading):
-    """What stands below a heading of a file."""
-    return next(part for part in re.split(r'^##+ ', file.read_text(), flags=re.M) if part.startswith(heading + '\n'))
+def sections(file):
+    """Each heading of a file, with the text below it."""
+    parts = re.split(r'^##+ (.*)\n', file.read_text(), flags=re.M)
+    return dict(zip(parts[1::2], parts[2::2]))
+
+
+def cells(row):
+    return [cell.strip() for cell in row[1:-1].split('|')]
 
 
 def tables(heading):
     """The stored tables below a heading, each as a list of rows of cells, the first of which is its head."""
-    for block in re.findall(r'(?:^\|.*\n)+', section(MEASURED, heading), re.M):
-        rows = [[cell.strip() for cell in line[1:-1].split('|')] for line in block.splitlines()]
+    for block in re.findall(r'(?:^\|.*\n)+', sections(MEASURED)[heading], re.M):
+        rows = [cells(row) for row in block.splitlines()]
         yield [rows[0], *rows[2:]]
 
 
@@ -38,8 +47,8 @@ def number(cell):
     return float(digits) if re.fullmatch(r'\d+(\.\d+)?', digits) else None
 
 
-def text(x, y, said, anchor='start', size=12, colour=GREY, weight='normal'):
-    return f'<text x="{x:g}" y="{y:g}" font-size="{size}" fill="{colour}" text-anchor="{anchor}" font-weight="{weight}">{escape(said)}</text>'
+def text(x, y, line, anchor='start', size=12, colour=GREY, weight='normal'):
+    return f'<text x="{x:g}" y="{y:g}" font-size="{size}" fill="{colour}" text-anchor="{anchor}" font-weight="{weight}">{escape(line)}</text>'
 
 
 def box(x, y, width, height, fill, stroke='none', radius=2):
@@ -86,78 +95,102 @@ def key(x, y):
     """What each mark stands for."""
     parts = []
     for name, colour, shape in MARKS:
-        parts += [dot(x, y - 4, colour, shape), text(x + 10, y, name)]
-        x += 30 + 7 * len(name)
+        parts += [dot(x, y - 4, colour, shape), text(x + 10, y, name, size=13)]
+        x += 40 + 7 * len(name)
     return parts
 
 
 def calls():
-    """Each call beside the primitive and C: three widths across, without a sign above, with one below."""
+    """Each call, the primitive's and C's: three widths across, unsigned types above signed ones."""
     panels = [table for table in tables(CALLS) if len(table[0]) == 9]
-    rows, left, wide, high, top = len(panels[0]) - 1, 140, 235, 17, 56
+    rows, left, wide, high, top = len(panels[0]) - 1, 150, 200, 20, 60
 
     def at(value):
-        return math.log2(1 + value) / math.log2(1 + most) * (wide - 30)
+        return math.log2(1 + value) / math.log2(1 + most) * (wide - 34)
     parts = key(left, 20)
     for across, table in enumerate(panels):
         ticks = [0, 1, 3, 10, 30, 100, 300, 1000]
         most = min(tick for tick in ticks if tick >= max(number(cell) or 0 for row in table[1:] for cell in row[1:]))
+        shown = [tick for tick in ticks if tick <= most and not (most > 300 and tick in (1, 300))]
         for down in range(2):
-            x0, y0, first = left + across * wide, top + down * (rows * high + 60), 1 + 4 * down
-            parts.append(text(x0, y0 - 6, f'{table[0][first].strip("`")}, instructions a call', weight='bold'))
-            for tick in ticks[:ticks.index(most) + 1]:
-                parts += [line(x0 + at(tick), y0, x0 + at(tick), y0 + rows * high), text(x0 + at(tick), y0 + rows * high + 14, str(tick), 'middle', 10)]
+            x0, y0, first = left + across * wide, top + down * (rows * high + 64), 1 + 4 * down
+            parts.append(text(x0, y0 - 8, f'{table[0][first].strip("`")}: instructions', size=13, weight='bold'))
+            for tick in shown:
+                parts += [line(x0 + at(tick), y0, x0 + at(tick), y0 + rows * high), text(x0 + at(tick), y0 + rows * high + 16, str(tick), 'middle')]
             for place, row in enumerate(table[1:]):
-                y = y0 + place * high + 9
+                y = y0 + place * high + 10
                 if across == 0:
-                    parts.append(text(left - 12, y + 4, plain(row[0]), 'end', 11))
+                    parts.append(text(left - 12, y + 4, plain(row[0]), 'end', 13))
                 for (_, colour, shape), cell in reversed([*zip(MARKS, row[first:first + 4])]):
                     if number(cell) is not None:
                         parts.append(dot(x0 + at(number(cell)), y, colour, shape))
-    return picture(left + 3 * wide, top + 2 * (rows * high + 60) - 34, 'Instructions of each call, beside the primitive and C', parts)
+    return picture(left + 3 * wide, top + 2 * (rows * high + 64) - 34, 'Instructions of each call, of the primitive\'s and of C\'s', parts)
+
+
+def grid(places, top, high, ends):
+    """Vertical lines through rows of bars, but not through the number after the end of a bar."""
+    parts = []
+    for x in places:
+        first = top
+        for place, end in enumerate([*ends, None]):
+            y = top + place * high
+            if end is None or end - 4 < x < end + 48:
+                parts += [line(x, first, x, y)] if first < y else []
+                first = y + high
+    return parts
+
+
+def ratios():
+    """For each input the share of the instructions of ordinary Rust that `bitrun` takes, the greatest first."""
+    table = next(tables(INPUTS))
+    ratio = next(place for place, name in enumerate(table[0]) if name == 'ratio')
+    return sorted(((number(row[ratio]), row[0].strip('`')) for row in table[1:]), reverse=True)
 
 
 def inputs():
-    """`bitrun` beside ordinary Rust: for each input its share of the instructions."""
-    table = next(tables('`bitrun` on heavy inputs'))
-    ratio = next(place for place, name in enumerate(table[0]) if name == 'ratio')
-    rows = sorted(((number(row[ratio]), row[0].strip('`')) for row in table[1:]), reverse=True)
-    left, full, high, top = 160, 560, 16, 44
-    parts = [text(left, 18, 'bitrun: its share of the instructions of ordinary Rust on the same input', weight='bold')]
+    """`bitrun` and ordinary Rust: for each input the share of the instructions."""
+    rows = ratios()
+    left, full, high, top = 170, 480, 18, 48
+    parts = [text(left, 20, 'Instructions of bitrun, of those of ordinary Rust on the same input', size=13, weight='bold')]
     for tick in range(0, 101, 25):
         x = left + full * tick / 100
-        said = f'{tick} %' if tick < 100 else 'ordinary Rust'
-        parts += [line(x, top - 8, x, top + high * len(rows)), text(x, top - 12, said, 'middle', 10)]
+        parts += [line(x, top - 8, x, top), text(x, top - 12, f'{tick} %', 'middle')]
+    parts += grid([left + full * tick / 4 for tick in range(5)], top, high, [left + full * share for share, _ in rows])
     for place, (share, name) in enumerate(rows):
         y = top + place * high
-        parts += [text(left - 8, y + 11, name, 'end', 11), box(left, y + 2, full * share, high - 4, BLUE)]
-        parts.append(text(left + full * share + 6, y + 11, f'{round(100 * share)} %', size=11))
-    return picture(left + full + 50, top + high * len(rows) + 10, 'bitrun beside ordinary Rust', parts)
+        parts += [text(left - 8, y + 13, name, 'end', 13), box(left, y + 3, full * share, high - 5, BLUE)]
+        parts.append(text(left + full * share + 6, y + 13, f'{round(100 * share)} %', size=12))
+    return picture(left + full + 50, top + high * len(rows) + 10, 'bitrun and ordinary Rust', parts)
+
+
+def gate_rows():
+    """The processor seconds of each crate: of its proof and edits, and of its tests."""
+    table = next(tables('The gate'))
+    return [(row[0].strip('`'), [number(cell) or 0 for cell in row[1:3]]) for row in table[1:]]
 
 
 def gate():
     """The processor seconds of the gate, crate by crate."""
-    table = next(tables('The gate'))
-    works = [('proof and edits', BLUE), ('its tests', GREEN)]
-    places = [table[0].index(name) for name, _ in works]
-    rows = [(row[0].strip('`'), [number(row[place]) or 0 for place in places]) for row in table[1:]]
+    rows = gate_rows()
     most = max(sum(seconds) for _, seconds in rows)
-    left, full, high, top = 130, 560, 18, 44
-    parts, x = [text(left, 18, 'Processor seconds of the gate', weight='bold')], left + 220
-    for name, colour in works:
-        parts += [box(x, 8, 12, 12, colour), text(x + 18, 18, name)]
-        x += 130
+    left, full, high, top = 160, 480, 20, 48
+    parts, x = [text(left, 20, 'Processor seconds of the gate', size=13, weight='bold')], left + 240
+    for name, colour in [('proof and edits', BLUE), ('tests', GREEN)]:
+        parts += [box(x, 9, 12, 12, colour), text(x + 18, 20, name, size=13)]
+        x += 140
     for tick in range(0, int(most) + 1, 100):
-        parts += [line(left + full * tick / most, top - 4, left + full * tick / most, top + high * len(rows))]
-        parts += [text(left + full * tick / most, top - 8, str(tick), 'middle', 10)]
+        parts += [line(left + full * tick / most, top - 4, left + full * tick / most, top)]
+        parts += [text(left + full * tick / most, top - 8, str(tick), 'middle')]
+    places = [left + full * tick / most for tick in range(0, int(most) + 1, 100)]
+    parts += grid(places, top, high, [left + full * sum(seconds) / most for _, seconds in rows])
     for place, (name, seconds) in enumerate(rows):
         y, x = top + place * high, left
-        parts.append(text(left - 8, y + 13, name, 'end', 11))
-        for second, (_, colour) in zip(seconds, works):
-            parts += [box(x, y + 3, full * second / most, high - 5, colour, radius=0)] if second else []
+        parts.append(text(left - 8, y + 14, name, 'end', 13))
+        for second, colour in zip(seconds, (BLUE, GREEN)):
+            parts += [box(x, y + 3, full * second / most, high - 6, colour, radius=0)] if second else []
             x += full * second / most
-        parts.append(text(x + 6, y + 13, f'{sum(seconds):.0f}', size=11))
-    return picture(left + full + 50, top + high * len(rows) + 10, 'Processor seconds of the gate, crate by crate', parts)
+        parts.append(text(x + 6, y + 14, f'{sum(seconds):.0f}', size=12))
+    return picture(left + full + 60, top + high * len(rows) + 10, 'Processor seconds of the gate, crate by crate', parts)
 
 
 def record():
@@ -165,83 +198,144 @@ def record():
     bits, start, value, width = 16, 3, 21, 5
     before = 0b1010_0110_1001_0110
     after = before & ~((2 ** width - 1) << start) | value << start
-    cell, left, parts = 36, 150, []
+    cell, left, parts = 34, 160, []
 
     def row(y, name, word, colour_of):
-        parts.append(text(left - 12, y + 22, name, 'end', 13))
+        parts.append(text(left - 12, y + 22, name, 'end', 14))
         for place in range(bits):
             x = left + (bits - 1 - place) * cell
             inside = start <= place < start + width
             parts.append(box(x, y, cell - 2, 32, BLUE + '33' if inside else 'none', colour_of(inside), 3))
-            parts.append(text(x + cell / 2 - 1, y + 21, str(word >> place & 1), 'middle', 14, BLUE if inside else GREY, 'bold' if inside else 'normal'))
+            parts.append(text(x + cell / 2 - 1, y + 21, str(word >> place & 1), 'middle', 15, BLUE if inside else GREY, 'bold' if inside else 'normal'))
     for place in range(bits):
-        parts.append(text(left + (bits - 1 - place) * cell + cell / 2 - 1, 18, str(place), 'middle', 10))
-    parts.append(text(left - 12, 18, 'bit', 'end', 11))
+        parts.append(text(left + (bits - 1 - place) * cell + cell / 2 - 1, 18, str(place), 'middle', 12))
+    parts.append(text(left - 12, 18, 'bit', 'end', 13))
     row(26, 'before', before, lambda inside: GREY)
     end = left + (bits - start - width) * cell
     for place in range(width):
         x = end + (width - 1 - place) * cell
-        parts.append(text(x + cell / 2 - 1, 96, str(value >> place & 1), 'middle', 14, BLUE, 'bold'))
+        parts.append(text(x + cell / 2 - 1, 96, str(value >> place & 1), 'middle', 15, BLUE, 'bold'))
         parts.append(arrow(x + cell / 2 - 1, 102, x + cell / 2 - 1, 122, BLUE))
-    parts.append(text(end - 12, 96, 'put(3, u5::new(21))', 'end', 13, BLUE, 'bold'))
+    parts.append(text(end - 12, 96, 'put(3, u5::new(21))', 'end', 14, BLUE, 'bold'))
     row(128, 'after', after, lambda inside: BLUE if inside else GREY)
-    parts.append(text(left, 186, 'get::<u5>(3) of the record after gives 21. Every other bit is as before, up to bit 127.', size=13))
-    return picture(left + bits * cell + 20, 200, 'A put into a record changes the bits of its field alone', parts)
+    parts.append(text(left, 188, 'get::<u5>(3) then returns 21. No other bit changes, up to bit 127.', size=14))
+    return picture(left + bits * cell + 20, 204, 'A put into a record changes the bits of its field alone', parts)
 
 
 def widths():
     """The square of `run` and `run_wide`."""
-    left, right, top, bottom = 150, 530, 60, 220
+    left, right, top, bottom = 130, 570, 60, 220
     parts = []
     for x, y, first, second in [
         (left, top, 'wide registers', 'u14: 200, 300'), (right, top, 'wide registers', 'u14: 500, 300'),
         (left, bottom, 'narrow registers', 'u7: 72, 44'), (right, bottom, 'narrow registers', 'u7: 116, 44'),
     ]:
-        parts += [box(x - 90, y - 28, 180, 56, 'none', GREY, 6), text(x, y - 5, first, 'middle', 13, GREY, 'bold'), text(x, y + 15, second, 'middle', 13)]
-    parts += [arrow(left + 92, top, right - 94, top, BLUE), text((left + right) / 2, top - 10, 'run at the wide type', 'middle', 13, BLUE)]
-    parts += [text((left + right) / 2, top + 18, 'wadd 0 0 1', 'middle', 12)]
-    parts += [arrow(left + 92, bottom, right - 94, bottom, BLUE), text((left + right) / 2, bottom - 10, 'run at the narrow type', 'middle', 13, BLUE)]
-    parts += [text((left + right) / 2, bottom + 18, 'wadd 0 0 1', 'middle', 12)]
+        parts += ['<g>' + box(x - 95, y - 30, 190, 60, 'none', GREY, 6), text(x, y - 5, first, 'middle', 15, GREY, 'bold')]
+        parts.append(text(x, y + 18, second, 'middle', 15) + '</g>')
+    middle = (left + right) / 2
+    for y, name in [(top, 'run at the wide type'), (bottom, 'run at the narrow type')]:
+        parts += [arrow(left + 97, y, right - 99, y, BLUE), text(middle, y - 10, name, 'middle', 15, BLUE), text(middle, y + 20, 'wadd 0 0 1', 'middle', 14)]
     for x in (left, right):
-        parts += [arrow(x, top + 30, x, bottom - 32, ORANGE), text(x + 10, (top + bottom) / 2 + 4, 'wrap to 7 bits', size=13, colour=ORANGE)]
-    parts += [text((left + right) / 2 + 50, (top + bottom) / 2 + 4, 'both ways agree', 'middle', 13, GREEN, 'bold')]
-    return picture(680, 270, 'Run wide and wrap, or wrap and run narrow: the same registers', parts)
+        parts.append(arrow(x, top + 32, x, bottom - 34, ORANGE))
+    height = (top + bottom) / 2 + 5
+    parts += [text(left + 10, height, 'wrap to 7 bits', size=15, colour=ORANGE), text(right - 10, height, 'wrap to 7 bits', 'end', 15, ORANGE)]
+    parts.append(text(middle, height, 'both ways agree', 'middle', 15, GREEN, 'bold'))
+    return picture(700, 270, 'Run wide and wrap, or wrap and run narrow: the same registers', parts)
+
+
+def listed():
+    """The crates of crates.txt, each with the crates of this repository that it uses."""
+    uses = dict(re.findall(r'^(\w+)[^:#\n]*:(.*)$', (ROOT / 'crates.txt').read_text(), re.M))
+    return {name: [other for other in others.split() if other in uses] for name, others in uses.items()}
 
 
 def layers():
-    """The crates, each box on those that it uses."""
-    full, high, gap, third = 700, 44, 6, 230
-    stacks = [
-        ('bitrun', 'steps of a text in, registers out'), ('bitrun_service', 'reads, runs, writes the output'), ('bitrun_text', 'what the text names'),
-    ], [
-        ('examples_tour', 'prints what the examples give'), ('examples', 'registers, frames, sensors, logs'), ('bit_fields', 'fields in a record of 128 bits'),
-    ]
-    libraries = [
-        ('arbitrary_int', 'run, run_wide, bytes, streams, sums, ranges: what you import'),
-        ('arbitrary_calls', 'wrapping, saturating, checked .. calls, shifts, rotations, counts'),
-        ('arbitrary_core', 'UInt and Int, their operators, order, hash and text'),
-        ('arbitrary_traits', 'Integer, and the primitives as integers'),
-        ('arbitrary_base', 'the definitions, the laws, arithmetic over every storage'),
-    ]
+    """The crates: each box uses only boxes below it."""
+    full, high, gap, third, crates = 700, 48, 6, 228, listed()
+    said = {
+        'bitrun': 'the program', 'bitrun_service': 'reads, runs, writes the output', 'bitrun_text': 'reads and checks the text',
+        'arbitrary_laws': 'laws for your proofs', 'bit_fields': 'fields in a record',
+        'arbitrary_int': 'what you import; also run, run_wide, bytes, streams, sums, ranges',
+        'arbitrary_calls': 'wrapping, saturating, checked .. calls, shifts, counts', 'arbitrary_constants': 'MIN, MAX, ZERO, MASK',
+        'arbitrary_core': 'UInt and Int, their operators, order, hash and text',
+        'arbitrary_traits': 'Integer, and the primitives as integers', 'arbitrary_widths': 'widths that a storage has',
+        'arbitrary_base': 'the definitions, and arithmetic over every storage', 'examples': '', 'examples_tour': '',
+    }
+    rows = [['arbitrary_int'], ['arbitrary_calls', 'arbitrary_constants'], ['arbitrary_core'], ['arbitrary_traits', 'arbitrary_widths'], ['arbitrary_base']]
+    rows = [[name for name in row if name in crates] for row in rows]
+    drawn = [name for name in said if name in crates]
+    missing = {other for name in drawn for other in crates[name]} - {*drawn}
+    if missing:
+        sys.exit(f'charts.py does not draw {sorted(missing)}, which another crate of the picture uses')
     parts = []
 
-    def crate(x, y, width, name, what, colour):
-        parts.append(box(x, y, width, high, colour + '1a', colour, 5))
-        parts.extend([text(x + width / 2, y + 18, name, 'middle', 13, colour, 'bold'), text(x + width / 2, y + 35, what, 'middle', 12)])
-    for across, stack in enumerate(stacks):
-        for down, (name, what) in enumerate(stack):
-            crate(10 + across * (third + gap), 10 + down * (high + gap), third - gap / 2, name, what, (ORANGE, GREEN)[across])
-    x, width = 10 + 2 * (third + gap), full - 2 * (third + gap)
-    parts.append(box(x, 10, width, 3 * high + 2 * gap, 'none', GREY, 5))
-    others = [
-        'tests and a benchmark', 'facts_numbers, facts_bits, ..', 'programs', 'laws_words, laws_bits, ..',
-        'pages, bounds', 'vectors_base, vectors_calls, ..', 'bench_calls',
-    ]
-    for place, said in enumerate(others):
-        parts.append(text(x + width / 2, 34 + 22 * place, said, 'middle', 12, GREY, 'normal' if place else 'bold'))
-    for down, (name, what) in enumerate(libraries):
-        crate(10, 10 + (3 + down) * (high + gap), full, name, what, BLUE)
+    def crate(x, y, width, tall, name, lines, colour):
+        first = y + tall / 2 - 10 * len(lines) + 5
+        parts.append('<g>' + box(x, y, width, tall, colour + '1a', colour, 5))
+        parts.append(text(x + width / 2, first, name, 'middle', 15, colour, 'bold'))
+        parts.extend(text(x + width / 2, first + 20 * place, line, 'middle', 13) for place, line in enumerate(lines, 1))
+        parts.append('</g>')
+    for down, name in enumerate(['bitrun', 'bitrun_service', 'bitrun_text']):
+        crate(10, 10 + down * (high + gap), third, high, name, [said[name]], ORANGE)
+    x, y, two = 10 + third + gap, 10 + 2 * (high + gap), 2 * high + gap
+    wide = (full - third - 2 * gap) / 2
+    others = len(crates) - len(drawn)
+    crate(x, 10, wide, two, 'examples, examples_tour', ['registers, frames,', 'sensors, logs'], GREEN)
+    crate(x + wide + gap, 10, wide, two, 'tests and benchmarks', [f'{others} crates: facts, laws, vectors,', 'bounds, pages, instructions'], GREY)
+    for across, name in enumerate(['arbitrary_laws', 'bit_fields']):
+        crate(x + across * (wide + gap), y, wide, high, name, [said[name]], BLUE)
+    for down, row in enumerate(rows):
+        x = 10
+        for name, share in zip(row, [0.68, 0.32] if len(row) == 2 else [1]):
+            width = (full - gap * (len(row) - 1)) * share
+            crate(x, 10 + (3 + down) * (high + gap), width, high, name, [said[name]], BLUE)
+            x += width + gap
     return picture(full + 20, 14 + 8 * (high + gap), 'The crates as layers', parts)
+
+
+def summary():
+    """The figures that follow from the tables, as the page shows them."""
+    shares = ratios()
+    mean = math.exp(sum(math.log(share) for share, _ in shares) / len(shares))
+    mixed = [share for share, name in shares if name.startswith('mix_')]
+    (most, worst), (least, best) = shares[0], shares[-1]
+    seconds = sum(sum(part) for _, part in gate_rows())
+    return [
+        ['`bitrun` and ordinary Rust, geometric mean of the inputs', f'{mean:.2f}'], ['the same on mixed steps', f'{min(mixed):.2f} to {max(mixed):.2f}'],
+        ['the best input and the worst', f'{least:.2f} (`{best}`), {most:.2f} (`{worst}`)'], ['processor seconds of `rt ci`', f'{seconds:,.0f}'],
+    ]
+
+
+def page_tables(page):
+    """The page with the rows of its tables as measured.txt has them, and what is wrong with it."""
+    kept, wrong, heading = [], [], None
+    stored = {}
+    for title in sections(MEASURED):
+        for table in tables(title):
+            for row in table[1:]:
+                stored[title, tuple(table[0]), row_key(row)] = row
+    stored |= {(SUMMARY, ('Measure', 'Figure'), (row[0],)): row for row in summary()}
+    known = {(title, head) for title, head, _ in stored}
+    head = None
+    for row in page.splitlines():
+        if row.startswith('#'):
+            heading = row.lstrip('# ')
+        if not row.startswith('|'):
+            head = None
+        elif head is None:
+            head = tuple(cells(row))
+        elif (heading, head) in known and not re.fullmatch(r'[|:-]+', row):
+            right = stored.get((heading, head, row_key(cells(row))))
+            if right is None or cells(row) != right:
+                wrong.append(f'{PAGE}: not a row of {MEASURED}: {row}')
+            row = '| ' + ' | '.join(right or cells(row)) + ' |'
+        kept.append(row)
+    return '\n'.join(kept) + '\n', wrong
+
+
+def row_key(row):
+    """What names a row: its first cell, and the type in its second."""
+    return tuple(row[:2]) if len(row) > 2 and row[1].startswith('`') else (row[0],)
 
 
 def main():
@@ -249,14 +343,15 @@ def main():
         'calls.svg': calls(), 'bitrun.svg': inputs(), 'gate.svg': gate(),
         'record.svg': record(), 'widths.svg': widths(), 'layers.svg': layers(),
     }
-    wrong = []
-    stored = section(MEASURED, CALLS).splitlines()
-    for row in section(PAGE, CALLS).splitlines():
-        if row.startswith('|') and row not in stored:
-            wrong.append(f'{PAGE}: not a row of {MEASURED}: {row}')
+    is_writing = '--write' in sys.argv[1:]
+    page, wrong = page_tables(PAGE.read_text())
+    if is_writing:
+        PAGE.write_text(page)
+        wrong = page_tables(page)[1]
     for name, picture_text in drawn.items():
         file = PICTURES / name
-        if '--write' in sys.argv[1:]:
+        wrong += [f'{file}: {fault}' for fault in layout.faults(picture_text)]
+        if is_writing:
             PICTURES.mkdir(exist_ok=True)
             file.write_text(picture_text)
         elif not file.exists() or file.read_text() != picture_text:

@@ -1,10 +1,9 @@
 #!/usr/bin/env python3
 """document_examples.py [--write]
 
-Tells whether what the documents show is what the gate runs: the examples in docs/CALLS.md and the table "In Rust you wrote"
-in docs/DIFFERENCES.md are tests, the functions in the README and in docs/PROVING.md stand in crates/pages, and each
-line that docs/PROVING.md calls refused is an edit that the prover must refuse. With --write it writes the tests anew
-from the tables; run `rt fmt` in their crates afterwards.
+Fails unless the gate runs what the documents show. The examples in docs/CALLS.md and the table "In Rust you wrote" in docs/DIFFERENCES.md have
+to be tests. The functions in the README and in docs/PROVING.md have to be in crates/pages, and each line that these two pages call refused
+has to be an edit there, which the prover must refuse. With --write it writes the tests from the tables; run `rt fmt` in their crates afterwards.
 """
 import re
 import sys
@@ -25,6 +24,8 @@ ELSEWHERE = {'Fields in a record': 'bit_fields/src/vectors/calls.rt'}
 AT_ONCE = 8
 FROM_RUST = ROOT / 'crates/pages/src/from_rust.rt'
 PROVING = ROOT / 'crates/pages'
+# The pages whose functions are in that crate.
+PAGES = ['README.md', 'docs/PROVING.md']
 
 
 def tables(page):
@@ -78,7 +79,7 @@ def from_rust():
     ]
     lines = [
         '//! The table "In Rust you wrote" of docs/DIFFERENCES.md.', '',
-        'use crate::constants::{Device, LIMIT, Limits, TOP, WIDTH, greatest, limit};', 'use arbitrary_int::prelude::*;',
+        'use crate::constants::{Device, LIMIT, Limits, TOP, greatest, limit};', 'use arbitrary_int::prelude::*;',
     ]
     return '\n'.join(lines + tests('lines_from', known, examples, 'assert_eq!(rt; {}, {});')) + '\n'
 
@@ -89,14 +90,18 @@ def squeezed(text):
 
 
 def shown(page):
-    """The functions in each block of code on a page: what follows the lines above the first item, item by item."""
+    """The functions in each block of code on a page: what follows the lines above the first item, item by item. A block without comments on items
+    is code in Rust."""
     for code in re.findall(r'```rust\n(.*?)```', (ROOT / page).read_text(), re.S):
+        if '///' not in code:
+            continue
         yield from re.split(r'\n\n(?=///|#\[test])', code[code.index('///'):].strip())
 
 
-def refused(page):
-    """The lines that a page calls refused."""
-    return re.findall(r'^Refused: `(.*)`$', (ROOT / page).read_text(), re.M)
+def refused():
+    """What the pages call refused: lines of docs/PROVING.md, and the bodies of the functions in Rust that begin the README."""
+    yield from re.findall(r'^fn .* \{ (.*) \}$', (ROOT / 'README.md').read_text(), re.M)
+    yield from re.findall(r'^Refused: `(.*)`$', (ROOT / 'docs/PROVING.md').read_text(), re.M)
 
 
 def main():
@@ -108,17 +113,18 @@ def main():
         elif squeezed(file.read_text()) != squeezed(text):
             wrong.append(f'{file}: not the examples of the documents; write them by tools/document_examples.py --write')
     code = ''.join(file.read_text() for file in sorted((PROVING / 'src').glob('*.rt')))
-    for page in ['README.md', 'docs/PROVING.md']:
+    for page in PAGES:
         for functions in shown(page):
             if functions not in code:
                 wrong.append(f'{page}: not in {PROVING / "src"}:\n{functions}')
     edits = [line for file in PROVING.glob('*/*.edit') for line in re.findall('^new: (.*)$', file.read_text(), re.M)]
-    for line in refused('docs/PROVING.md'):
-        if line not in edits:
-            wrong.append(f'docs/PROVING.md: no edit of {PROVING} has the refused line {line}')
-    for line in edits:
-        if line not in refused('docs/PROVING.md'):
-            wrong.append(f'an edit of {PROVING}: not a line that docs/PROVING.md calls refused: {line}')
+    lines = list(refused())
+    for line in lines:
+        if not any(line in edit for edit in edits):
+            wrong.append(f'no edit of {PROVING} has the refused line {line}')
+    for edit in edits:
+        if not any(line in edit for line in lines):
+            wrong.append(f'an edit of {PROVING}: not a line that {" or ".join(PAGES)} calls refused: {edit}')
     print('\n'.join(wrong) or 'examples of the documents: as they should be')
     return 1 if wrong else 0
 

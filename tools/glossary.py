@@ -1,9 +1,8 @@
 #!/usr/bin/env python3
 """glossary.py
 
-Tells whether a word of tools/retired_words.txt stands in the crates' src/ and specs/ or in docs/, in a line or in the name of a
-file, and whether the libraries have more clause lines over 100 columns than the number below. With --long it lists
-these lines.
+Fails for a word of tools/retired_words.txt in the crates' src/ and specs/, in docs/, or in the name of a file there, and for one of the words
+for pages on a page.
 """
 import re
 import sys
@@ -11,20 +10,36 @@ from pathlib import Path
 
 ROOT = Path(__file__).resolve().parent.parent
 RETIRED = ROOT / 'tools/retired_words.txt'
-LIBRARIES = ['arbitrary_base', 'arbitrary_traits', 'arbitrary_core', 'arbitrary_calls', 'arbitrary_int', 'bit_fields']
-COLUMNS = 100
-# How many clause lines of the libraries are longer than that.
-LONG = 0
 
 
 def retired():
-    """The names and the phrases that are retired."""
-    names, phrases = [], []
+    """The names and the phrases that are retired, and the phrases that are so on pages alone."""
+    names, phrases, on_pages = [], [], []
+    other = phrases
     for line in RETIRED.read_text().splitlines():
-        if not line.startswith('#'):
+        if line == '[pages]':
+            other = on_pages
+        elif not line.startswith('#'):
             for word in line.split(':')[0].split(','):
-                (names if '`' in word else phrases).append(word.strip().strip('`'))
-    return names, phrases
+                (names if '`' in word else other).append(word.strip().strip('`'))
+    return names, phrases, on_pages
+
+
+def pattern(phrases):
+    return re.compile(r'(?<![A-Za-z])(' + '|'.join(phrases) + r')(?![A-Za-z])', re.I)
+
+
+def page_faults(phrases):
+    """Where a page has one of the phrases, but in code and in links. What is generated has the words of its sources."""
+    phrase = pattern(phrases)
+    for page in [*sorted(ROOT.glob('*.md')), *sorted((ROOT / 'docs').glob('*.md'))]:
+        if page.name == 'API.md':
+            continue
+        lines = re.sub(r'```.*?```', lambda block: re.sub(r'[^\n]', '', block[0]), page.read_text(), flags=re.S).splitlines()
+        for number, line in enumerate(lines, 1):
+            line = '' if line.startswith('    ') else re.sub(r'`[^`]*`|\]\([^)]*\)', ' ', line)
+            for found in phrase.finditer(line):
+                yield f'{page.relative_to(ROOT)}:{number}: not plain English: {found[1]}'
 
 
 def files():
@@ -47,23 +62,13 @@ def code(file, line):
     return line[:place.start()] + ' ' + ' '.join(line[place.start():].split('`')[1::2])
 
 
-def clauses():
-    """The lines of the clauses and ghost members in the libraries: all that `rt fmt` doesn't lay out. The proof of a law's default is no
-    part of the law."""
-    for crate in LIBRARIES:
-        for file in sorted((ROOT / 'crates' / crate / 'src').rglob('*.rt')):
-            for number, line in enumerate(file.read_text().splitlines(), 1):
-                if not re.match(r'\s*(//|#|ghost use|pub ghost use|use )', line):
-                    yield file, number, re.sub(r'} = {.*};$', '};', line)
-
-
 def main():
-    names, phrases = retired()
-    if not names or not phrases:
+    names, phrases, on_pages = retired()
+    if not names or not phrases or not on_pages:
         sys.exit(f'{RETIRED}: no names, or no phrases')
     name = re.compile(r'(?<![\w-])(' + '|'.join(map(re.escape, names)) + r')(?![\w-])')
-    phrase = re.compile(r'(?<![A-Za-z])(' + '|'.join(phrases) + r')(?![A-Za-z])', re.I)
-    wrong = []
+    phrase = pattern(phrases)
+    wrong = list(page_faults(on_pages))
     for file, text in files():
         path = file.relative_to(ROOT)
         for part in path.parts:
@@ -74,12 +79,7 @@ def main():
             found = phrase.search(line) or name.search(code(file, line))
             if found:
                 wrong.append(f'{path}:{number}: the retired word {found[1]}')
-    long = [place for place in clauses() if len(place[2]) > COLUMNS]
-    if len(long) > LONG:
-        wrong.append(f'{len(long)} clause lines over {COLUMNS} columns, where {LONG} are allowed; --long lists them')
-    if '--long' in sys.argv[1:]:
-        wrong = [f'{file.relative_to(ROOT)}:{number}: {len(line)} columns' for file, number, line in long]
-    print('\n'.join(wrong) or f'words: none is retired, and {len(long)} clause lines over {COLUMNS} columns')
+    print('\n'.join(wrong) or 'words: none is retired')
     return 1 if wrong else 0
 
 

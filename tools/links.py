@@ -1,9 +1,9 @@
 #!/usr/bin/env python3
 """links.py
 
-Tells whether each link on the pages leads somewhere: to a file that is there, and where it names a heading, to a heading of
-that page. A page or a file that is named has to be named by a link, but for what a command in code names, and a folder that
-is named has to be there. No page may have the marks of a merge's conflict. Addresses on the web are not asked.
+Fails for a link on a page that leads nowhere: to no file, or to no heading of a page. It also fails for a page or file that is named without a
+link, except in a command, for a folder that does not exist, for a file that a command copies and that does not exist, and for the marks of a
+merge's conflict. It does not follow addresses on the web.
 """
 import re
 import sys
@@ -66,6 +66,9 @@ def main():
             why = broken(page, target)
             if why:
                 tell(link.start(), target, why)
+        for command in re.finditer(r'\bcp (\S+)', page.read_text()):
+            if not (ROOT / command[1]).exists():
+                wrong.append(f'{page.relative_to(ROOT)}: {command[1]}: copied, and no such file')
         # What is taken out leaves as many characters, so that a place stays a place.
         rest = LINK.sub(lambda link: re.sub(r'[^\n]', ' ', link.group()), text)
         rest = re.sub(r'`[^`\n]*`', lambda code: ' ' * len(code.group()) if ' ' in code.group() else code.group(), rest)

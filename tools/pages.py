@@ -1,0 +1,82 @@
+#!/usr/bin/env python3
+"""pages.py [--words]
+
+Fails unless each page keeps within its words, the README within its lines, and each sentence within 30 words. It compares the figures of the
+prose and the kit's version with the sources, and refuses a number above 128 that it does not know. With --words it prints the words of each
+page. The generated docs/API.md does not count.
+"""
+import re
+import subprocess
+import sys
+from pathlib import Path
+
+ROOT = Path(__file__).resolve().parent.parent
+WORDS = {
+    'README.md': 1100, 'CONTRIBUTING.md': 850, 'CHANGELOG.md': 300, 'docs/ARCHITECTURE.md': 500, 'docs/CALLS.md': 3000, 'docs/DECISIONS.md': 2000,
+    'docs/DIFFERENCES.md': 1450, 'docs/GLOSSARY.md': 700, 'docs/PERFORMANCE.md': 1200, 'docs/PROVED.md': 900, 'docs/PROVING.md': 2500,
+    'docs/SETS.md': 700,
+}
+ALL_WORDS = 16000
+README_LINES = 90
+SENTENCE = 30
+
+
+# The longest input of `bitrun`, as its source has it.
+LIMIT = int(re.search(r'const LONGEST_INPUT: usize = ([\d_]+);', (ROOT / 'crates/bitrun_service/src/stream.rt').read_text())[1].replace('_', ''))
+STORAGES = sum(file.read_text().count('impl Storage for') for file in (ROOT / 'crates/arbitrary_base/src').rglob('*.rt'))
+COUNTED = ['no', 'one', 'two', 'three', 'four', 'five', 'six', 'seven', 'eight', 'nine', 'ten', 'eleven', 'twelve']
+# What the prose says with a figure, and the figure.
+FIGURES = [
+    (r'(\d+,\d+) bytes', f'{LIMIT:,}'), (r'(\d+,\d+) reads', f'{LIMIT + 1:,}'), (r'(\w+) primitive integers', COUNTED[STORAGES]),
+    (r'sentences of at most (\d+) words', str(SENTENCE)), (r'(rattle-kit-\S+ logic \w+)', subprocess.check_output(['rt', 'version'], text=True).strip()),
+]
+# Numbers above 128 that are examples or rules of style.
+OTHERS = {'200', '300', '400', '1000', '4094'}
+
+
+def prose(text):
+    """The paragraphs of a page: no code, tables or headings, and of a link its text. Code in a line is one word."""
+    text = re.sub(r'```.*?```', '\n\n', text, flags=re.S)
+    text = re.sub(r'^(?: {4}|\||#|!\[).*$', '', text, flags=re.M)
+    text = re.sub(r'\[((?:[^\[\]`]|`[^`]*`)*)\]\([^)\s]*\)', r'\1', text)
+    text = re.sub(r'`([^`]*)`', lambda code: code[1] if code[1].startswith('rattle-kit') else 'code', text)
+    text = re.sub(r'^(\s*)(?:- |\d+\. )', r'\n', text, flags=re.M)
+    return [' '.join(part.split()) for part in re.split(r'\n\s*\n', text) if part.strip()]
+
+
+def sentences(text):
+    for paragraph in prose(text):
+        yield from re.split(r'(?<=[.?!])[*)]* +(?=[A-Z*(]|code|\w+\.(?:py|rt|md|txt))', paragraph)
+
+
+def main():
+    wrong, total = [], 0
+    pages = {name: (ROOT / name).read_text() for name in WORDS}
+    for name, text in pages.items():
+        words = len(text.split())
+        total += words
+        if '--words' in sys.argv[1:]:
+            print(f'{words:6} {name}')
+        if words > WORDS[name]:
+            wrong.append(f'{name}: {words} words, where {WORDS[name]} are allowed')
+        for sentence in sentences(text):
+            count = len(re.findall(r'[\w\'-]*\w[\w\'-]*', sentence))
+            for phrase, figure in FIGURES:
+                wrong += [f'{name}: {found}, where the sources have {figure}' for found in re.findall(phrase, sentence) if found != figure]
+            for number in re.findall(r'(?<![\w.,-])\d[\d,]*(?![\w.,]*\w)', sentence):
+                known = [figure for _, figure in FIGURES] + sorted(OTHERS)
+                if int(number.replace(',', '')) > 128 and number.rstrip(',') not in known:
+                    wrong.append(f'{name}: the number {number} has no source: {sentence}')
+            if count > SENTENCE:
+                wrong.append(f'{name}: a sentence of {count} words: {sentence}')
+    print(f'{total:6} in all') if '--words' in sys.argv[1:] else None
+    if total > ALL_WORDS:
+        wrong.append(f'{total} words on all pages, where {ALL_WORDS} are allowed')
+    if pages['README.md'].count('\n') > README_LINES:
+        wrong.append(f'README.md: {pages["README.md"].count(chr(10))} lines, where {README_LINES} are allowed')
+    print('\n'.join(wrong) or f'pages: {total} words, and no sentence over {SENTENCE}')
+    return 1 if wrong else 0
+
+
+if __name__ == '__main__':
+    sys.exit(main())
