@@ -1,4 +1,4 @@
-//! What clauses say of such integers: a value is its whole number there.
+//! Clauses about these integers: in a clause a value is its number.
 
 ghost use Rattle.std.specs.Prelude.{◌≡◌, ◌+ℤ◌, ◌<ℤ◌, ◌%◌, pos, unsigned_abs, slice_get, slice_set, Some};
 ghost use Rattle.arbitrary_int.specs.Residue.{Congruent};

@@ -1,4 +1,4 @@
-//! The conditions of calls, and how a caller meets them.
+//! The conditions of calls, and how a caller proves them.
 
 ghost use Rattle.std.specs.Prelude.{◌≡◌, ◌+ℤ◌, ◌≤ℤ◌, ◌<ℤ◌, ◌%◌, pos, int_div};
 ghost use Rattle.arbitrary_int.specs.Residue.{Congruent};

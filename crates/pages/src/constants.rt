@@ -1,4 +1,4 @@
-//! Constants: the language's own are of primitive types, and a function or a trait's constant makes the number.
+//! Constants: the language's own have primitive types; a function or a trait's constant makes the number.
 
 ghost use Rattle.std.specs.Prelude.{◌≡◌, pos};
 ghost use Rattle.arbitrary_int.specs.Range.{hi};
@@ -6,9 +6,6 @@ ghost use Rattle.arbitrary_int.specs.Range.{hi};
 use arbitrary_int::prelude::*;
 
 pub const LIMIT: u8 = 3;
-
-/// The width of `u4`. A constant of the language can't read `u4::BITS`.
-pub const WIDTH: usize = 4;
 
 /// The greatest `u4`. A constant of the language can't read `u4::MAX`.
 pub const TOP: u8 = 15;

@@ -1,4 +1,4 @@
-//! `Copy` types that hold such integers.
+//! `Copy` types with such integers.
 
 use arbitrary_int::prelude::*;
 

@@ -1,4 +1,4 @@
-//! Fields side by side in one word.
+//! Fields joined in one word.
 
 ghost use Rattle.std.specs.Prelude.{◌≡◌, ◌+ℤ◌, ◌*ℤ◌, pos};
 

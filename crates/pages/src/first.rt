@@ -1,17 +1,46 @@
-//! The first example of the README.
+//! The functions of the README.
+#![tactic(auto)]
 
-ghost use Rattle.std.specs.Prelude.{◌≡◌, ◌/◌, pos};
+ghost use Rattle.std.specs.Prelude.{◌≡◌, ◌+ℤ◌, neg_ℤ, false, true};
+ghost use Rattle.arbitrary_int.specs.Residue.{Congruent};
+ghost use Rattle.bit_fields.specs.BitField.{HasNumber};
 
 use arbitrary_int::prelude::*;
+use bit_fields::Record;
 
-/// The prescaler: the high half of the register.
-pub fn prescaler(control: u8) -> u4
-    ensures { result ≡ pos (control / 16) }
+/// The checksum, modulo 2^12.
+pub fn checksum(header: u12, payload: u12) -> u12
+    ensures { Congruent 12 result (header +ℤ payload) }
 {
-    u4::new(control >> 4)
+    header.wrapping_add(payload)
+}
+
+/// The sample with its sign changed. 15 bits have room for 8192.
+pub fn inverted(sample: i14) -> i15
+    ensures { result ≡ neg_ℤ sample }
+{
+    -i15::from_(sample)
+}
+
+/// A timer's control register: the mode in bits 0 to 2, the prescaler in bits 3 to 7, the offset in bits 8 to 21.
+pub fn control(mode: u3, prescaler: u5, offset: i14) -> Record
+    ensures mode { HasNumber false result.bits 0 3 mode }
+    ensures prescaler { HasNumber false result.bits 3 5 prescaler }
+    ensures offset { HasNumber true result.bits 8 14 offset }
+{
+    let mut register = Record { bits: 0 };
+    register.put(0, mode);
+    register.put(3, prescaler);
+    register.put(8, offset);
+    register
 }
 
 #[test]
-fn prescaler_of_0x2f(rt: HostRuntime) {
-    assert_eq!(rt; prescaler(0x2F), u4::new(2));
+fn checksum_wraps(rt: HostRuntime) {
+    assert_eq!(rt; checksum(u12::new(4000), u12::new(200)), u12::new(104));
+}
+
+#[test]
+fn minimum_is_inverted(rt: HostRuntime) {
+    assert_eq!(rt; inverted(i14::new(-8192)), i15::new(8192));
 }

@@ -1,24 +1,17 @@
 //! The table "In Rust you wrote" of docs/DIFFERENCES.md.
 
-use crate::constants::{Device, LIMIT, Limits, TOP, WIDTH, greatest, limit};
+use crate::constants::{Device, LIMIT, Limits, TOP, greatest, limit};
 use arbitrary_int::prelude::*;
 
 #[test]
 fn lines_from_1(rt: HostRuntime) {
+    let n = u4::new(9);
     assert_eq!(rt; <u8 as Constants>::ZERO, 0);
     assert_eq!(rt; u64::MAX, 18_446_744_073_709_551_615);
     assert_eq!(rt; <i8 as Integer>::min_value(), -128);
     assert_eq!(rt; u4::new(LIMIT), u4::new(3));
     assert_eq!(rt; limit(), u4::new(3));
     assert_eq!(rt; Device::LIMIT, u4::new(3));
-    assert_eq!(rt; WIDTH, u4::BITS);
-    assert_eq!(rt; [0u8; 4].len(), u4::BITS);
-}
-
-#[test]
-fn lines_from_9(rt: HostRuntime) {
-    let n = u4::new(9);
-    let a = u12::new(1000);
     assert_eq!(rt; u4::new(TOP), u4::MAX);
     assert_eq!(rt;
         match n {
@@ -27,12 +20,21 @@ fn lines_from_9(rt: HostRuntime) {
         },
         0
     );
+}
+
+#[test]
+fn lines_from_9(rt: HostRuntime) {
+    let n = u4::new(9);
+    let a = u12::new(1000);
+    let byte = 200u8;
     assert_eq!(rt; <u4 as Numbered>::BITS, 4);
     assert_eq!(rt; <u4 as Constants>::MAX, u4::new(15));
     assert_eq!(rt; greatest::<u4>(), u4::new(15));
     assert_eq!(rt; n.widen::<5>(), u5::new(9));
     assert_eq!(rt; UInt::<u16, 6>::from_(u5::new(3)), UInt::<u16, 6>::new(3));
     assert_eq!(rt; usize::from(a.value()), 1000);
+    assert_eq!(rt; u4::try_new(byte), Err(TryNewError));
+    assert_eq!(rt; u4::masked_new(byte), u4::new(8));
 }
 
 #[test]
@@ -40,23 +42,13 @@ fn lines_from_17(rt: HostRuntime) {
     let n = u4::new(9);
     let a = u12::new(1000);
     let b = u12::new(7);
-    let byte = 200u8;
-    assert_eq!(rt; u4::try_new(byte), Err(TryNewError));
-    assert_eq!(rt; u4::masked_new(byte), u4::new(8));
+    let s = i12::new(-300);
     assert_eq!(rt; n == u4::new(9), true);
     assert_eq!(rt; n.wrapping_add(u4::new(1)), u4::new(10));
     assert_eq!(rt; a & b, u12::new(0));
     assert_eq!(rt; u12::new(a.value() % b.value()), u12::new(6));
     assert_eq!(rt; n << u4::new(3).value(), u4::new(8));
     assert_eq!(rt; range_inclusive(n, u4::MAX).next(), Some(n));
-}
-
-#[test]
-fn lines_from_25(rt: HostRuntime) {
-    let n = u4::new(9);
-    let b = u12::new(7);
-    let s = i12::new(-300);
-    let list = [u12::new(1000), u12::new(7)];
     assert_eq!(rt;
         "9".parse::<u8>().ok().and_then(|x| u4::try_new(x).ok()),
         Some(n)
@@ -68,6 +60,12 @@ fn lines_from_25(rt: HostRuntime) {
         },
         i13::new(300)
     );
+}
+
+#[test]
+fn lines_from_25(rt: HostRuntime) {
+    let b = u12::new(7);
+    let list = [u12::new(1000), u12::new(7)];
     assert_eq!(rt; b.saturating_pow(2), u12::new(49));
     assert_eq!(rt; list.iter().copied().sum::<u12>(), u12::new(1007));
 }

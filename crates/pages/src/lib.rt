@@ -1,4 +1,4 @@
-//! What to write where the check refuses a line: the forms that docs/PROVING.md gives, and those of docs/DIFFERENCES.md.
+//! The code on the pages: the functions of the README, the forms of docs/PROVING.md, and the lines of docs/DIFFERENCES.md.
 #![tactic(auto)]
 
 pub mod clauses;
