@@ -1,4 +1,4 @@
--- What is read out of a word.
+-- Reading a field of a word.
 use Rattle.std.specs.Prelude.{◌≡◌, ℕ, ℤ, Bool, false, pos, ◌+◌, ◌/◌, ◌^◌, ◌<◌, ◌≤◌}
 use Rattle.std.proofs.Common.{sym, subst, ◌∙◌}
 use Rattle.arbitrary_int.specs.Field.{field}

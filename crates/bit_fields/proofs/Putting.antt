@@ -1,4 +1,4 @@
--- What a put leaves, from the pattern of the value's 128 bits.
+-- Writing a field, from the pattern of the value's 128 bits.
 use Rattle.std.specs.Prelude.{◌≡◌, ℕ, ℤ, Bool, List, false, pos, ◌+◌, ◌-◌, ◌*◌, ◌/◌, ◌%◌, ◌≤◌, ◌<◌, ◌^◌, ◌++◌, ◌+ℤ◌, length, take, drop}
 use Rattle.std.proofs.Common.{arith, refl, ap, sym, subst, bit_and, ◌∙◌, mod-lt, pow-add, take-append-drop, drop-drop, append_assoc, length-drop, length-take}
 use Rattle.std.proofs.Math.Nat.{div-div-eq-div-mul}

@@ -1,4 +1,4 @@
-//! Fields in a record of 128 bits: a packet's header, a device's register, an instruction.
+//! Fields in a record of 128 bits, such as a packet header, a device register or an instruction.
 #![tactic(auto)]
 
 ghost use Rattle.std.specs.Prelude.{◌≡◌, ◌+◌, ◌/◌, ◌%◌, ◌≤◌, ◌<◌, ◌^◌, ◌↔◌, ℕ, false, pos, IsTrue};

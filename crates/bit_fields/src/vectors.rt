@@ -1,4 +1,4 @@
-//! Test vectors, which come from outside.
+//! Test vectors from outside the library.
 
 mod calls;
 

@@ -1,4 +1,4 @@
-//! `+= -= *= /=` ask what `+ - * /` ask.
+//! `+= -= *= /=` have the conditions of `+ - * /`.
 
 use arbitrary_core::aliases::signed::i9;
 use arbitrary_core::aliases::unsigned::u9;

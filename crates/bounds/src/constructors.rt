@@ -1,4 +1,4 @@
-//! A constructor takes the numbers in range, of a width that the storage has room for.
+//! A constructor accepts the numbers in range, at a valid width.
 
 use arbitrary_core::aliases::signed::{i3, i7};
 use arbitrary_core::aliases::unsigned::{u7, u15, u31, u63, u127};

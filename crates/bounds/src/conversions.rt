@@ -1,5 +1,4 @@
-//! A conversion keeps the number: `from_` takes what the target has, and `widen` goes to more bits, up to
-//! those of the storage.
+//! A conversion keeps the number: `from_` accepts the range of the target, and `widen` goes up to the width of the storage.
 
 use arbitrary_core::aliases::unsigned::{u5, u20};
 use arbitrary_traits::numbered::Numbered;

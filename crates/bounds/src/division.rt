@@ -1,4 +1,4 @@
-//! A divisor is known to differ from zero: a test shows it.
+//! Divisors that a test shows to differ from zero.
 
 use arbitrary_int::prelude::*;
 

@@ -1,4 +1,4 @@
-//! All bits that are extracted are among those of the source.
+//! Extractions whose last bit is the last of the source.
 
 use arbitrary_int::prelude::*;
 

@@ -1,4 +1,4 @@
-//! All fields end at or before bit 128.
+//! Fields that end at bit 128.
 
 use arbitrary_int::prelude::*;
 use bit_fields::{Record, disjoint};

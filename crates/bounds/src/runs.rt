@@ -1,4 +1,4 @@
-//! The steps of a run name registers that are there: a test shows it.
+//! Runs whose register numbers a test shows to exist.
 
 use arbitrary_int::prelude::*;
 use arbitrary_int::{Step, Stop, run, well_formed};

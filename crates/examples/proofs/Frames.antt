@@ -1,4 +1,4 @@
--- The fields of a frame, side by side in a word and taken out of it again.
+-- The fields of a frame, joined in a word and extracted again.
 use Rattle.std.specs.Prelude.{◌≡◌, ◌^◌, ℕ, ℤ, pos, ◌+ℤ◌, ◌*ℤ◌, true, false}
 use Rattle.std.proofs.Common.{arith, ap, ◌∙◌, lit≤}
 use Rattle.std.proofs.lemmas.Int.{ints}

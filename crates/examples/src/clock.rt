@@ -1,4 +1,4 @@
-//! The registers of a real-time clock, which keeps decimal digits of four bits each, as many such chips do.
+//! The registers of a real-time clock, which stores decimal digits of four bits each.
 //!
 //! | Bits   | Field   | Type   |
 //! |--------|---------|--------|

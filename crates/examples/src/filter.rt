@@ -1,4 +1,4 @@
-//! A filter: the weighted sum of the last three samples, held in the range of a sample.
+//! A filter: the weighted sum of the last three samples, clamped to the range of a sample.
 
 ghost use Rattle.std.specs.Prelude.{◌≡◌, ◌+ℤ◌, ◌*ℤ◌, ◌<ℤ◌, ◌≤ℤ◌, pos, neg_ℤ};
 

@@ -1,4 +1,4 @@
-//! The first calls of a newcomer: a field of a word, a sum that wraps, and a sum that stays in range.
+//! First calls: a field of a word, a sum that wraps, and a sum that stays in range.
 
 use arbitrary_int::prelude::*;
 

@@ -1,4 +1,4 @@
-//! A frame of five bytes in network order, which has the highest byte first: a device sends two samples.
+//! A frame of five bytes in network order, highest byte first, with two samples of a device.
 //!
 //! | Bits     | Field         | Type  |
 //! |----------|---------------|-------|

@@ -1,5 +1,5 @@
-//! Code for every width: a bound stands in place of a type, and the clauses are about `T.number` and `V.BITS`. `sums` has
-//! code that is generic by the traits of `num_traits`.
+//! Code for every width: a bound replaces the type, and clauses use `T.number` and `V.BITS`. `sums` is generic over the traits of
+//! `num_traits` instead.
 
 ghost use Rattle.std.specs.Prelude.{◌≡◌, ◌↔◌, ◌+ℤ◌, ◌%◌, pos, int_div, IsTrue};
 ghost use Rattle.std.specs.List.{count_by};

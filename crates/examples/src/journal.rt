@@ -1,4 +1,4 @@
-//! A log of readings: each record is written in the Borsh form, its fields one after the other.
+//! A log of readings: each record is written in the Borsh form, one field after the other.
 
 ghost use Rattle.std.specs.Prelude.{◌≡◌, IsTrue, IfOk, OnOk, OnErr};
 ghost use Rattle.std.specs.Io.KnownBytes.{Appends, Consumes};

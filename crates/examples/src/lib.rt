@@ -1,7 +1,6 @@
-//! How the library is used: a device's register and settings, a packet header, a frame of bytes, a sensor, a filter, a log, the
-//! decoder of a processor, the registers of a clock, lists of steps at one width and at two, code for every width,
-//! fields in a record, and numbers as text and as keys.
-//! The program `examples_tour` prints what each gives.
+//! Examples: a device's register and settings, a packet header, a frame of bytes, a sensor, a filter, a log, a decoder, the registers of
+//! a clock, lists of steps at one width and at two, code for every width, fields in a record, and numbers as text and as keys.
+//! The program `examples_tour` prints their results.
 #![tactic(auto)]
 
 pub mod can;

@@ -1,5 +1,4 @@
-//! Settings of a device, each with a value before any is given: std's `Default` of the integers, of a struct, of a choice
-//! and of a pair.
+//! Default settings of a device: std's `Default` of the integers, of a struct, of an enum and of a pair.
 
 ghost use Rattle.std.specs.Prelude.{◌≡◌, pos, None, IfSome};
 

@@ -1,4 +1,4 @@
-//! Code that is generic by the traits of `num_traits`.
+//! Code that is generic over the traits of `num_traits`.
 
 ghost use Rattle.std.specs.Prelude.{◌≡◌, ◌+ℤ◌, pos, false};
 ghost use Rattle.arbitrary_int.specs.Residue.{wrap};

@@ -1,4 +1,4 @@
-//! Numbers as text to other bases.
+//! Numbers as text in other bases.
 
 ghost use Rattle.std.specs.Prelude.{◌≡◌, IfOk, false, string_bytes, unsigned_abs};
 ghost use Rattle.std.specs.Fmt.{digits};

@@ -1,5 +1,4 @@
-//! The timer's control register once more, in a record whose fields are read and written one by one. Its
-//! reserved bits stay as they are.
+//! The timer's control register as a record whose fields are read and written one by one. Its reserved bits do not change.
 
 ghost use Rattle.std.specs.Prelude.{◌≡◌, pos, false};
 ghost use Rattle.bit_fields.specs.BitField.{field_bits};

@@ -1,4 +1,4 @@
-//! Test vectors of the base: each result was computed apart from the library.
+//! Test vectors of the base. Each result comes from outside the library.
 #![tactic(auto)]
 
 #[cfg(test)]

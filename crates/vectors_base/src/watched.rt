@@ -1,4 +1,4 @@
-//! What no clause says: that the inner one is asked, once a call, and that its fault is passed on with its kind.
+//! What no clause of `Watched` states: it calls the inner stream once for each call, and passes on an error with its kind.
 
 ghost use Rattle.std.specs.Prelude.{◌≤◌, IfOk};
 

@@ -1,4 +1,4 @@
-//! Powers and the multiplications that they cost.
+//! Powers, and how many multiplications they make.
 
 use arbitrary_int::prelude::*;
 

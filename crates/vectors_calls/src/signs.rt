@@ -1,4 +1,4 @@
-//! Numbers below 0: their order, text and right shifts are not those of their bits.
+//! Negative numbers: their order, text and right shifts differ from those of their bits.
 
 use crate::same::same;
 use arbitrary_int::prelude::*;

@@ -1,7 +1,6 @@
-//! Lists of steps on registers: what `run` leaves, and where and why it stops.
+//! Lists of steps on registers: what `run` leaves, and where and why it stops. `widths` has runs at two widths.
 //!
-//! The contract of `run` is a definition, and these are values from outside, so a test that fails shows that the definition
-//! is wrong. Runs at two widths stand in `widths`.
+//! The contract of `run` is a definition. These values come from outside, so a test that fails shows a wrong definition.
 
 use crate::same::same;
 use arbitrary_int::prelude::*;

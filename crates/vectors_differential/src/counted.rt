@@ -1,4 +1,4 @@
-//! How many multiplications a power takes: exactly, where the bound of the contract only limits it.
+//! How many multiplications a power makes, exactly; the contract has an upper bound.
 
 use arbitrary_int::prelude::*;
 

@@ -1,6 +1,6 @@
-//! The types that belong to a type: its storage, and the types of its width without and with a sign.
+//! The types that belong to a type: its storage, and the unsigned and the signed type of its width.
 //!
-//! Each line names a type twice, so that it compiles only where both are the same.
+//! Each line names a type twice, so it compiles only if both are the same.
 
 use arbitrary_int::prelude::*;
 

@@ -1,6 +1,6 @@
-//! Every call at the ends of its range, at each width, against the arithmetic of the primitives.
+//! Every call at the ends of its range, at each width, compared with the arithmetic of the primitives.
 //!
-//! The contracts say what each call gives; these tests say it again from outside, by other means.
+//! The contracts state what each call returns; these tests compute it in another way.
 #![tactic(auto)]
 
 #[cfg(test)]

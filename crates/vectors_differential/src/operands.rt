@@ -1,4 +1,4 @@
-//! The numbers that the differential tests take, and the same number by shifts alone.
+//! The operands of the differential tests, and the same numbers by shifts alone.
 
 use arbitrary_int::prelude::*;
 

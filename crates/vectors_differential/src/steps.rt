@@ -1,4 +1,4 @@
-//! Division as a step of a run, by every operand: 0 and -1 are among them.
+//! Division as a step of a run, by every operand, 0 and -1 included.
 
 use crate::arithmetic::exact;
 use crate::operands::{number, patterns, width};

@@ -1,5 +1,5 @@
-//! What is asked at each width. A function stands for each storage and has the width as its parameter: so the traits of a type are
-//! looked up once a storage, and at a width its `HasWidth` alone, which takes a third of the proof.
+//! The test of each width. Each storage has one function, with the width as its parameter. So the traits of a type are looked up once a
+//! storage, which saves most of the proof.
 
 use arbitrary_base::storage::{BuiltinInteger, SignedStorage, UnsignedOf, UnsignedStorage};
 use arbitrary_base::truncation::to_u128_bits;

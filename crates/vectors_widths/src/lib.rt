@@ -1,5 +1,5 @@
-//! The traits that give a value with no argument, or need the ends of the range, at every width of both signs: what they give
-//! there, beside numbers that Python computed from the definitions of the ends.
+//! The traits that make a value from nothing or need the ends of the range, at every width of both signs, compared with numbers that Python
+//! computed from the definitions.
 #![tactic(auto)]
 
 #[cfg(test)]
