@@ -1,9 +1,9 @@
 #!/usr/bin/env python3
-"""pages.py [--words]
+"""pages.py [--words] [--write]
 
 Fails unless each page keeps within its words, the README within its lines, and each sentence within 30 words. It compares the figures of the
 prose and the kit's version with the sources, and refuses a number above 128 that it does not know. With --words it prints the words of each
-page. The generated docs/API.md does not count.
+page, with --write it writes the figures. The generated docs/API.md does not count.
 """
 import re
 import subprocess
@@ -24,11 +24,16 @@ SENTENCE = 30
 # The longest input of `bitrun`, as its source has it.
 LIMIT = int(re.search(r'const LONGEST_INPUT: usize = ([\d_]+);', (ROOT / 'crates/bitrun_service/src/stream.rt').read_text())[1].replace('_', ''))
 STORAGES = sum(file.read_text().count('impl Storage for') for file in (ROOT / 'crates/arbitrary_base/src').rglob('*.rt'))
+# The definitions to believe, as tools/believed.py writes them.
+BELIEVED = (ROOT / 'docs/ARCHITECTURE.md').read_text()
 COUNTED = ['no', 'one', 'two', 'three', 'four', 'five', 'six', 'seven', 'eight', 'nine', 'ten', 'eleven', 'twelve']
 # What the prose says with a figure, and the figure.
 FIGURES = [
     (r'(\d+,\d+) bytes', f'{LIMIT:,}'), (r'(\d+,\d+) reads', f'{LIMIT + 1:,}'), (r'(\w+) primitive integers', COUNTED[STORAGES]),
-    (r'sentences of at most (\d+) words', str(SENTENCE)), (r'(rattle-kit-\S+ logic \w+)', subprocess.check_output(['rt', 'version'], text=True).strip()),
+    (r'sentences of at most (\d+) words', str(SENTENCE)),
+    (r'(\d+) lines of \[definitions', re.search(r'(\d+) lines must be believed', BELIEVED)[1]),
+    (r'(\d+) more for `bitrun`', re.search(r'(\d+) more for the program', BELIEVED)[1]),
+    (r'(rattle-kit-\S+ logic \w+)', subprocess.check_output(['rt', 'version'], text=True).strip()),
 ]
 # Numbers above 128 that are examples or rules of style.
 OTHERS = {'200', '300', '400', '1000', '4094'}
@@ -52,6 +57,12 @@ def sentences(text):
 def main():
     wrong, total = [], 0
     pages = {name: (ROOT / name).read_text() for name in WORDS}
+    if '--write' in sys.argv[1:]:
+        for name, text in pages.items():
+            for phrase, figure in FIGURES:
+                text = re.sub(phrase, lambda found: found[0].replace(found[1], figure), text)
+            pages[name] = text
+            (ROOT / name).write_text(text)
     for name, text in pages.items():
         words = len(text.split())
         total += words
@@ -59,10 +70,10 @@ def main():
             print(f'{words:6} {name}')
         if words > WORDS[name]:
             wrong.append(f'{name}: {words} words, where {WORDS[name]} are allowed')
+        for phrase, figure in FIGURES:
+            wrong += [f'{name}: {found}, where the sources have {figure}' for found in re.findall(phrase, text) if found != figure]
         for sentence in sentences(text):
             count = len(re.findall(r'[\w\'-]*\w[\w\'-]*', sentence))
-            for phrase, figure in FIGURES:
-                wrong += [f'{name}: {found}, where the sources have {figure}' for found in re.findall(phrase, sentence) if found != figure]
             for number in re.findall(r'(?<![\w.,-])\d[\d,]*(?![\w.,]*\w)', sentence):
                 known = [figure for _, figure in FIGURES] + sorted(OTHERS)
                 if int(number.replace(',', '')) > 128 and number.rstrip(',') not in known:
