@@ -10,11 +10,12 @@ use crate::low_bits::LowBits;
 use crate::stored::Stored;
 use arbitrary_base::{checked, overflowing, saturating};
 
-/// Sums and differences, which out of range wrap, saturate, are refused or are told.
+/// Sums and differences. Out of range they wrap, saturate, are refused, or set a flag.
 ///
 /// In the contracts `number` is the number of a value, and the exact result is that of whole numbers
 /// without bounds. `wrap` of it is the type's number that is congruent to it modulo `2 ^ BITS`, and
-/// `clamp` of it the type's number that is nearest.
+/// `clamp` of it the type's number that is nearest. Each contract begins with the exact clause. `swap`, the
+/// range of what a call takes, and `width` say nothing of the result: the search for a proof uses them.
 pub trait SumCalls: Stored + LowBits {
     /// The sum, wrapped.
     // On the low bits, which an `Int` stores, so neither number is made first. `+` adds the numbers, of which its condition speaks.
