@@ -3,7 +3,7 @@
 
 Checks names and widths. A module of specs/ has the name of the module of src/ whose contracts cite it, but for the words of several
 modules, which SHARED lists. A folder of proofs/ that answers the goals of a module has its name, so none is left of a module that is
-gone. No line of a clause is longer than 100 columns. It prints each that differs, and how many.
+gone. No line of a clause, and in the libraries of a ghost member, is longer than 100 columns. It prints each that differs.
 """
 import re
 import sys
@@ -20,6 +20,7 @@ SHARED = {
 }
 LIBRARIES = ['arbitrary_base', 'arbitrary_traits', 'arbitrary_widths', 'arbitrary_core', 'arbitrary_constants', 'arbitrary_calls', 'arbitrary_int', 'bit_fields']
 CLAUSE = re.compile(r'\s*(requires|ensures)\b')
+MEMBER = re.compile(r'\s*(requires|ensures|ghost (?!use))\b')
 
 
 def snake(name):
@@ -44,13 +45,15 @@ def misnamed(crate):
 
 
 def too_long(file):
-    """The lines of clauses that are longer than they may be."""
+    """The lines of clauses and ghost members that are longer than they may be. The proof of a law's default is no part of the law."""
+    begin = MEMBER if file.relative_to(CRATES).parts[0] in LIBRARIES else CLAUSE
     depth = 0
     for number, line in enumerate(file.read_text().splitlines(), 1):
-        if CLAUSE.match(line) or depth > 0:
+        if begin.match(line) or depth > 0:
             depth = max(0, depth + line.count('{') - line.count('}'))
-            if len(line) > COLUMNS:
-                yield f'{file}:{number}: {len(line)} columns'
+            length = len(re.sub(r'} = {.*};$', '};', line))
+            if length > COLUMNS:
+                yield f'{file}:{number}: {length} columns'
 
 
 def main():

@@ -45,7 +45,8 @@ impl<V: FixedWidth> Iterator for ValueRange<V> {
     ghost next_gives = { let number = V.number in
         YieldsFirstBy number (λ r. values_left r.done (number r.start) (number r.end)) };
 
-    ghost remaining = { λ r. at_most (length (values_left r.done (V.number r.start) (V.number r.end))) };
+    ghost remaining = { λ r.
+        at_most (length (values_left r.done (V.number r.start) (V.number r.end))) };
 
     #[tactic(auto, using(crate::proofs::RangeSteps::first_steps))]
     fn next(&mut self) -> Option<V> {
