@@ -1,0 +1,9 @@
+//! The imports that each form of a call needs. A module has one import of a trait, or none.
+#![tactic(auto)]
+
+pub mod by_fixed_width;
+pub mod by_integer;
+pub mod by_storage;
+pub mod by_type;
+#[cfg(test)]
+mod calls;
