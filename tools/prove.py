@@ -1,0 +1,540 @@
+#!/usr/bin/env python3
+"""prove.py CRATE [FUNCTION ..] [--write]
+
+Finds laws by which the check proves what it leaves open: in a whole crate, or in these functions, each named as the check names it, without the
+crate: `module::function` or `Type::call`. It prints the attribute to put on each: a public set of laws where one is enough, else a few laws, which
+become a `ruleset` of the crate's own proofs/Laws.antt.
+
+With `--write` it writes those attributes and that file, and checks again. It changes no contract and no body, and without `--write` nothing.
+"""
+import argparse
+import math
+import os
+import re
+import shutil
+import signal
+import subprocess
+import sys
+import tempfile
+import time
+from concurrent.futures import ThreadPoolExecutor
+from pathlib import Path
+
+if not shutil.which('rt'):
+    sys.exit('prove.py: there is no rt on the PATH: install the Rattle kit, whose rt proves the crates')
+
+from program import ROOT
+from relevance import Index, imports, words
+from wrong_bodies import KIT, PARTS, below, command, libraries
+
+# The crate that has the laws for callers. The libraries below it have more laws.
+LAWS = 'arbitrary_laws'
+PAGE = ROOT / 'docs/PROVING.md'
+STARTED = time.monotonic()
+# As many steps as the check gives the laws of an attribute, and how many laws a set may have that is not public.
+STEPS, MOST = 2000000, 80
+# A check takes this much memory, in GB.
+MEMORY = 2.5
+CHECKED = re.compile(r'^checked \w+::(\S+), \d+ of \d+')
+ENDED = re.compile(r'^(?:logic=|holes=|only=)', re.M)
+ERROR = re.compile(r'^(?!note|help|warning)(?:\./)?(\S.*\berror: .*|error: .*)', re.M)
+# What the check offers for a function with open goals: the file of its answers, and in it each goal.
+OFFER = re.compile(r'^help: write \./proofs/(\S+)/Answers\.antt with these lines.*\n((?:    .*\n|\n)*)', re.M)
+GOAL = re.compile(r'^pub (\S+) : (.+)\n(?:unfolding .*\n)?\1(.*) = \?$', re.M)
+PLACE = re.compile(r'^-- (\S+\.rt):(\d+):\d+$', re.M)
+# A goal that values break, whatever the laws.
+FALSE = re.compile(r'^note: `(\S+)` of proofs/(\S+)/Answers\.antt may be false: the known facts allow (.*?): help', re.M)
+# Words that the names of goals have whatever they are about.
+COMMON = {'requires', 'result', 'clause', 'overflow', 'then', 'else', 'in', '2', '3'}
+# What a check says of those answers: an attempt that failed, and a goal with what is known there.
+FAILED = re.compile(r'^\./proofs/(\S+)/Answers\.antt:\d+:\d+: .*?`try-(\d+)`', re.M)
+HOLE = re.compile(r'^\./proofs/(\S+)/Answers\.antt:\d+:\d+: goal \? in `(\S+)`\n((?: .*\n)*)', re.M)
+USING = re.compile(r'(#!?\[tactic\(auto), using\([^)]*\)')
+ATTRIBUTE = re.compile(r'#\[tactic\(auto(?:, using\(([^)]*)\))?(?:, unfolding\(([^)]*)\))?\)\]')
+
+
+class Stop(Exception):
+    """What ends the run, in one line."""
+
+
+def say(text):
+    print(f'{time.monotonic() - STARTED:4.0f} s  {text}', flush=True)
+
+
+class Function:
+    """A function with open goals."""
+
+    def __init__(self, name, offer):
+        self.name = name
+        file, line = PLACE.search(offer).groups()
+        self.file, self.line = file, int(line)
+        self.take_goals(offer)
+
+    def take_goals(self, offer):
+        self.offer = offer
+        self.head = '\n'.join(it for it in offer.splitlines() if it.startswith('use '))
+        self.goals = {goal: (type_, rest) for goal, type_, rest in GOAL.findall(offer)}
+        # by goal, values that break it whatever the laws
+        self.broken = {}
+        # by goal: the words of it and of what is known there, what was tried, and what closed it, the best first
+        self.words = {goal: {} for goal in self.goals}
+        self.tried = {goal: set() for goal in self.goals}
+        self.closed = {goal: [] for goal in self.goals}
+
+    def open_goals(self):
+        return [goal for goal in self.goals if not self.closed[goal]]
+
+    def answers(self, attempts):
+        """Its answers with each attempt, a goal and a list of laws, beside the open goals."""
+        entries = {law: f'law-{number}' for number, law in enumerate(dict.fromkeys(law for _, laws in attempts for law in laws))}
+        lines = [self.head, 'use Rattle.std.proofs.Common.{arith as the_arith}']
+        lines += [f'use {module}.{{{name} as {here}}}' for (module, name), here in entries.items()]
+        for number, (goal, laws) in enumerate(attempts):
+            type_, rest = self.goals[goal]
+            name = f'try-{number}'
+            call = ', '.join(['the_arith', *(entries[law] for law in laws)])
+            lines += ['', f'{name} : {type_}', f'{name}{rest} = grind ({call}) steps {STEPS}']
+        for goal, (type_, rest) in self.goals.items():
+            lines += ['', f'pub {goal} : {type_}', f'{goal}{rest} = ?']
+        return '\n'.join(lines) + '\n'
+
+
+class Copies:
+    """Copies of the crate, in each of which a check runs beside the others."""
+
+    def __init__(self, crate, room, uses, jobs):
+        self.crate, self.uses, self.running = crate, uses, []
+        free = int(re.search(r'MemAvailable: *(\d+)', Path('/proc/meminfo').read_text())[1]) / 2**20
+        self.count = max(1, min(jobs or len(os.sched_getaffinity(0)), int(free / MEMORY)))
+        self.rooms = [room / str(number) for number in range(self.count)]
+        self.folder = ROOT / 'crates' / crate
+        for it in self.rooms:
+            for part in filter(lambda part: (self.folder / part).is_dir(), PARTS):
+                shutil.copytree(self.folder / part, it / 'crate' / part)
+            if (self.folder / 'out/incremental').is_dir():
+                shutil.copytree(self.folder / 'out/incremental', it / 'kept')
+
+    def check(self, room, functions, *flags):
+        """Checks these functions in a copy, and returns what it says."""
+        words = command(self.crate, room, functions, self.uses)
+        if not (room / 'crate/src/lib.rt').is_file():
+            words = ['src/main.rt' if it == 'src/lib.rt' else it for it in words]
+        said, code = run([*words, '--progress', *flags], room / 'crate', self.running)
+        if not ENDED.search(said):
+            raise Stop(why(self.crate, said, code))
+        return said
+
+    def tried(self, attempts):
+        """Tries these attempts, lists of a goal and laws by function, side by side. Notes what closes a goal, and the words of each."""
+        shares = [{} for _ in self.rooms]
+        parts = math.ceil(self.count / max(1, len(attempts)))
+        pieces = [(function, listed[part::parts]) for function, listed in attempts.items() for part in range(parts)]
+        for function, piece in sorted((it for it in pieces if it[1]), key=lambda it: -len(it[1])):
+            share = min(shares, key=lambda it: sum(len(listed) + 3 for listed in it.values()))
+            share.setdefault(function, []).extend(piece)
+
+        def work(room, share):
+            if not share:
+                return {}
+            for function, listed in share.items():
+                file = room / 'crate/proofs' / function.name.replace('::', '/') / 'Answers.antt'
+                file.parent.mkdir(parents=True, exist_ok=True)
+                file.write_text(function.answers(listed))
+            said = self.check(room, [function.name for function in share], '--allow-holes')
+            failed = {(path.replace('/', '::'), int(number)) for path, number in FAILED.findall(said)}
+            shown = {(path.replace('/', '::'), goal): text for path, goal, text in HOLE.findall(said)}
+            for function, listed in share.items():
+                shutil.rmtree(room / 'crate/proofs' / function.name.replace('::', '/'))
+                for number, (goal, laws) in enumerate(listed):
+                    # where the goal is not shown the answers were not read
+                    if (function.name, goal) in shown:
+                        function.tried[goal].add(frozenset(laws))
+                        if (function.name, number) not in failed:
+                            function.closed[goal].append(laws)
+            return shown
+
+        with ThreadPoolExecutor(self.count) as pool:
+            found = list(pool.map(work, self.rooms, shares))
+        for function in attempts:
+            for goal in function.goals:
+                for shown in found:
+                    if (function.name, goal) in shown:
+                        function.words[goal] = strengths(shown[function.name, goal])
+
+    def confirmed(self, solutions):
+        """Those of these functions that the check proves with their attributes."""
+        names = [it.name for it in solutions]
+        if not names:
+            return {}
+        for room in self.rooms:
+            write(changes(room / 'crate', solutions))
+        say(f'attributes: {len(names)} functions')
+        shares = [names[number :: self.count] for number in range(self.count)]
+        with ThreadPoolExecutor(self.count) as pool:
+            said = list(pool.map(lambda it: self.check(*it) if it[1] else '', zip(self.rooms, shares)))
+        proved = {name for it in said for name, verdict in verdicts(self.crate, it).items() if verdict == 'proved'}
+        return {it: found for it, found in solutions.items() if it.name in proved}
+
+    def stop(self):
+        for it in self.running:
+            it.kill()
+
+
+def strengths(shown):
+    """The words of a goal and, with less strength, of what is known there."""
+    goal, _, known = shown.partition('names you can use')
+    known = ' '.join(re.findall(r'^ *c\.\S+ : (.*)$', known, re.M))
+    return {**dict.fromkeys(words(known), 0.8), **dict.fromkeys(words(goal.partition('⊢')[2]), 1.0)}
+
+
+def run(words, folder, running=None):
+    """Runs a command, tells of each function that it has checked, and returns what it says and its status."""
+    with subprocess.Popen(words, cwd=folder, stdout=subprocess.PIPE, stderr=subprocess.STDOUT, text=True, errors='replace') as child:
+        if running is not None:
+            running.append(child)
+        said = []
+        for line in child.stdout:
+            if found := CHECKED.match(line):
+                say(f'  {found[1]}')
+            else:
+                said.append(line)
+    if running is not None:
+        running.remove(child)
+    return ''.join(said), child.returncode
+
+
+def why(crate, said, code):
+    """Why a check came to no end, in one line."""
+    if code < 0 or code in (137, 143):
+        return f'the check of {crate} was killed: nothing is changed'
+    if found := ERROR.search(said):
+        return f'{crate} does not compile: {found[1]}'
+    return f'the check of {crate} came to no end: {(said.strip().splitlines() or ["it said nothing"])[-1]}'
+
+
+def verdicts(crate, said):
+    """What a check says of each function."""
+    return dict(re.findall(rf'^fn {crate}::(\S+): (.*)', said, re.M))
+
+
+def offers(said):
+    """The functions whose goals a check shows, by name."""
+    found = {path.replace('/', '::'): re.sub(r'^    ', '', text, flags=re.M) for path, text in OFFER.findall(said)}
+    return {name: Function(name, text) for name, text in found.items() if GOAL.search(text) and PLACE.search(text)}
+
+
+def with_attribute(text, function, paths):
+    """The text of a file with the attribute on this function that names these sets, or none."""
+    lines, starts = text.splitlines(keepends=True), {}
+    for number, line in enumerate(lines):
+        if re.search(rf'\bfn {re.escape(function.name.split("::")[-1])}\b', line):
+            start = number
+            while start and re.match(r' *(#\[|//)', lines[start - 1]):
+                start -= 1
+            starts[start] = number
+    # the last function of this name that begins before its goal
+    start = max((it for it in starts if it < function.line), default=min(starts))
+    place = starts[start]
+    kept = [it for it in lines[start:place] if not ATTRIBUTE.search(it)]
+    unfolding = [found[2] for found in map(ATTRIBUTE.search, lines[start:place]) if found and found[2]]
+    inner = ', '.join(['auto', *([f'using({", ".join(paths)})'] if paths else []), *(f'unfolding({it})' for it in unfolding)])
+    return ''.join([*lines[:start], *kept, f'{re.match(" *", lines[place])[0]}#[tactic({inner})]\n', *lines[place:]])
+
+
+def with_sets(text, sets):
+    """The text of Laws.antt with these sets, each a comment and a list of laws by its name."""
+    lines = text.splitlines() or ['-- Laws by which functions of this crate prove, as tools/prove.py found them.']
+    has, new = {law: here for here, law in imports(text).items()}, {}
+    for module, name in (law for _, laws in sets.values() for law in laws):
+        if (module, name) not in has:
+            here = name if name not in has.values() else f'{name}_of_{module.split(".")[-1]}'
+            has[module, name] = here
+            new.setdefault(module, []).append(name if here == name else f'{name} as {here}')
+    head = next((number for number, line in enumerate(lines) if not line.startswith('--')), len(lines))
+    lines[head:head] = [f'use {module}.{{{", ".join(names)}}}' for module, names in sorted(new.items())]
+    for name, (comment, laws) in sets.items():
+        lines = [it for it in lines if not it.startswith((f'pub ruleset {name} = ', f'-- {comment}'))]
+        lines += ['', f'-- {comment}', f'pub ruleset {name} = ({", ".join(has[law] for law in laws)})']
+    return re.sub(r'\n{3,}', '\n\n', '\n'.join(lines)) + '\n'
+
+
+def path(entry):
+    """A set as an attribute names it."""
+    return '::'.join([*entry[0].removeprefix('Rattle.').split('.'), entry[1]])
+
+
+class Search:
+    """The search for laws, over the functions of a crate with open goals."""
+
+    def __init__(self, copies, index, functions):
+        self.copies, self.index, self.functions = copies, index, functions
+        self.public = [it for it in index.sets if it[0] == f'Rattle.{LAWS}.proofs.Sets' or it[1] == 'words']
+
+    def choices(self, stage, known):
+        """What to try at a goal: the public sets, then sets and ranked laws, ever more of them."""
+        if stage == 0:
+            return [[it] for it in self.public]
+        first, last, counts = [(0, 8, (8, 16, 32)), (8, 20, (12, 24, 64)), (20, 40, (48,)), (40, 60, ())][stage - 1]
+        sets = [it for it in self.index.ranked_sets(known) if it not in self.public and len(self.index.members(it)) <= MOST]
+        laws = self.index.ranked_laws(known, max(counts, default=0))
+        return [*([it] for it in sets[first:last]), *(laws[:count] for count in counts)]
+
+    def close(self):
+        """Tries more and more laws until each goal is closed or all was tried."""
+        for stage in range(5):
+            attempts = {}
+            for it in self.functions:
+                listed = [(goal, laws) for goal in it.open_goals() for laws in self.choices(stage, it.words[goal])]
+                attempts[it] = [(goal, laws) for goal, laws in listed if frozenset(laws) not in it.tried[goal]]
+            attempts = {it: listed for it, listed in attempts.items() if listed}
+            if not attempts:
+                break
+            say(f'round {stage + 1}: {len(attempts)} functions, {sum(map(len, attempts.values()))} attempts')
+            self.copies.tried(attempts)
+            for it in attempts:
+                left = it.open_goals()
+                say(f'{it.name}: ' + (f'{len(left)} of {len(it.goals)} goals open' if left else 'all goals closed'))
+        return [it for it in self.functions if not it.open_goals()]
+
+    def common(self, function):
+        """A public set that closes each goal of a function, if there is one."""
+        return next((it for it in self.public if all([it] in closed for closed in function.closed.values())), None)
+
+    def halve(self, functions):
+        """Takes away laws as long as the goals still close. Leaves first in `closed` the public set or the few laws that close each."""
+        left, fine = {}, set()
+        for it in functions:
+            for goal, closed in it.closed.items():
+                closed.sort(key=lambda laws: (laws[0] not in self.public, len(self.flat(laws))))
+                if not self.common(it) and closed[0][0] not in self.public:
+                    left[it, goal] = self.flat(closed[0])
+        while left:
+            pieces, spare = {}, {}
+            for key, laws in left.items():
+                size = 1 if key in fine else math.ceil(len(laws) / 16)
+                pieces[key] = [laws[start : start + size] for start in range(0, len(laws), size)]
+
+            def rest(key, gone):
+                return [law for law in left[key] if law not in {it for piece in gone for it in piece}]
+
+            self.try_all({key: [rest(key, [it]) for it in found] for key, found in pieces.items()})
+            for key, found in pieces.items():
+                spare[key] = [it for it in found if rest(key, [it]) in key[0].closed[key[1]]]
+            self.try_all({key: [rest(key, it), rest(key, it[::2]), rest(key, it[1::2])] for key, it in spare.items() if len(it) > 1})
+            for key, laws in list(left.items()):
+                closed = key[0].closed[key[1]]
+                best = min((it for it in closed if set(it) < set(laws)), key=len, default=laws)
+                if len(best) == 1 or (len(pieces[key]) == len(laws) == len(best) + len(spare[key])):
+                    closed.insert(0, best)
+                    del left[key]
+                elif not spare[key]:
+                    fine.add(key)
+                left.update({key: best} if key in left else {})
+
+    def try_all(self, wanted):
+        attempts = {}
+        for (function, goal), choices in wanted.items():
+            attempts.setdefault(function, []).extend((goal, laws) for laws in choices if laws and laws not in function.closed[goal])
+        attempts = {it: listed for it, listed in attempts.items() if listed}
+        if attempts:
+            say(f'fewer laws: {len(attempts)} functions, {sum(map(len, attempts.values()))} attempts')
+            self.copies.tried(attempts)
+
+    def flat(self, laws):
+        """These laws, with those of each set in its place."""
+        return list(dict.fromkeys(law for it in laws for law in (self.index.members(it) if it in self.index.sets else [it])))
+
+    def solution(self, function, whole=False):
+        """The public sets and the further laws for the attribute of a function; with `whole`, what first closed its goals, not halved."""
+        if common := self.common(function):
+            return [common], []
+        found = [closed[-1] if whole else closed[0] for closed in function.closed.values()]
+        named = list(dict.fromkeys(laws[0] for laws in found if laws[0] in self.public))
+        return named, list(dict.fromkeys(law for laws in found if laws[0] not in self.public for law in self.flat(laws)))
+
+
+def changes(folder, solutions):
+    """The new text of each file of a crate, with the attributes of these functions and the sets that they name."""
+    new, sets = {}, {}
+    for function, (named, laws) in sorted(solutions.items(), key=lambda it: -it[0].line):
+        paths = [path(it) for it in named]
+        if laws:
+            name = f'{re.sub(r"[^0-9A-Za-z]+", "_", function.name)}_laws'
+            sets[name] = (f'for `{function.name}`', laws)
+            paths.append(f'crate::proofs::Laws::{name}')
+        file = folder / function.file
+        new[file] = with_attribute(new.get(file) or file.read_text(), function, paths)
+    if sets:
+        file, lib = folder / 'proofs/Laws.antt', folder / 'proofs/Lib.antt'
+        new[file] = with_sets(file.read_text() if file.is_file() else '', sets)
+        text = lib.read_text() if lib.is_file() else ''
+        if not re.search(r'^(pub )?mod Laws$', text, re.M):
+            new[lib] = f'{text}mod Laws\n'
+    return new
+
+
+def write(new):
+    for file, text in new.items():
+        file.parent.mkdir(parents=True, exist_ok=True)
+        file.write_text(text)
+
+
+def likeness(here, there):
+    """How much two sets of words have in common, from 0 to 1."""
+    return len(here & there) / (len(here | there) or 1)
+
+
+def link(goal, source):
+    """The entry of PROVING.md that is closest to a goal: by the goals that it names, and then by the words of the function."""
+    best, found = (0.0,), str(PAGE.relative_to(ROOT))
+    for entry in re.split(r'^## ', PAGE.read_text(), flags=re.M)[1:]:
+        title, _, text = entry.partition('\n')
+        for name in re.findall(r'`(\w+-[\w-]+|returns)`', text):
+            here, there = (set(re.split('[-_]', it)) for it in (goal, name))
+            texts = [set(re.findall(r'\w{3,}|[|&^<>+*%-]+', it)) for it in (source, text)]
+            alike = (likeness(here - COMMON, there - COMMON), likeness(here, there), likeness(*texts))
+            if alike[0] and alike > best:
+                anchor = re.sub(r'[^\w -]', '', title.lower()).replace(' ', '-')
+                best, found = alike, f'{PAGE.relative_to(ROOT)}#{anchor}'
+    return found
+
+
+def first_check(crate, names):
+    """Checks the crate as it is. Returns what it says of each function, and the functions with open goals that were asked for."""
+    say(f'the check of {crate}')
+    said, code = run(['rt', 'check', *(word for name in names for word in ('--only', name))], ROOT / 'crates' / crate)
+    if not ENDED.search(said):
+        raise Stop(why(crate, said, code))
+    found = {name: it for name, it in offers(said).items() if not names or name in names}
+    for goal, path, values in FALSE.findall(said):
+        if (name := path.replace('/', '::')) in found:
+            found[name].broken[goal] = values
+    return verdicts(crate, said), found
+
+
+def found_in(copies, index, functions):
+    """By function, what closes its goals as the check confirms it: public sets, and further laws."""
+    search = Search(copies, index, functions)
+    closed = search.close()
+    search.halve(closed)
+    confirmed = {}
+    # where the few laws do not do in an attribute, those that first closed the goals may
+    for whole in (False, True):
+        left = {it: search.solution(it, whole) for it in closed if it not in confirmed}
+        confirmed.update(copies.confirmed(left))
+    return confirmed
+
+
+def bare(copies, names):
+    """These functions with the goals that they have without the laws of attributes, which a new attribute replaces. Takes those away from them in
+    each copy."""
+    source = copies.rooms[0] / 'crate/src'
+    texts = {file: file.read_text() for file in source.rglob('*.rt')}
+    write({file: USING.sub(r'\1', text) for file, text in texts.items()})
+    say('the goals without the laws of attributes')
+    found = offers(copies.check(copies.rooms[0], names))
+    write(texts)
+    functions = [found[name] for name in names if name in found]
+    for room in copies.rooms:
+        write(changes(room / 'crate', {it: ([], []) for it in functions}))
+    return functions
+
+
+def written(crate, folder, solutions, names):
+    """Writes the attributes and the laws, and the crates that have them to crates.txt where the crate's line lacks one, and checks again. Puts all
+    back where that comes to no end."""
+    new = changes(folder, solutions)
+    uses = libraries()[crate]
+    needed = {entry[0].split('.')[1] for named, laws in solutions.values() for entry in [*named, *laws]} & set(libraries())
+    if lacking := sorted(needed - {*uses, crate}):
+        file = ROOT / 'crates.txt'
+        new[file] = re.sub(rf'^({crate}\b[^:\n]*):?', rf'\1: {" ".join(lacking)}', file.read_text(), flags=re.M)
+        say(f'crates.txt: {crate} now uses {" ".join(lacking)}')
+    old = {file: file.read_text() if file.is_file() else None for file in new}
+    try:
+        write(new)
+        say(f'wrote {", ".join(str(it.relative_to(ROOT)) for it in new)}')
+        return first_check(crate, names)[0]
+    except BaseException:
+        for file, text in old.items():
+            file.unlink() if text is None else file.write_text(text)
+        raise
+
+
+def searched(crate, names, functions, jobs):
+    """The functions of these names, or those given, with open goals, and what proves them: in copies of the crate beside the libraries that have
+    the laws."""
+    uses = libraries()
+    if LAWS not in uses[crate]:
+        say(f'{LAWS}, which has the laws')
+        said, code = run(['rt', 'lib'], ROOT / 'crates' / LAWS)
+        if code:
+            raise Stop(why(LAWS, said, code))
+    with_laws = [LAWS, *sorted(below(LAWS, uses))]
+    uses[crate] = list(dict.fromkeys([*uses[crate], *with_laws]))
+    index = Index([ROOT / 'crates' / it for it in with_laws], KIT / 'rattle')
+    with tempfile.TemporaryDirectory(prefix='prove-') as room:
+        copies = Copies(crate, Path(room), uses, jobs)
+        try:
+            has_laws = any(USING.search(file.read_text()) for file in (copies.folder / 'src').rglob('*.rt'))
+            functions = bare(copies, names) if has_laws else functions
+            return functions, found_in(copies, index, functions)
+        finally:
+            copies.stop()
+
+
+def prove(crate, names, is_writing, is_anew, jobs):
+    """Proves what it can, and tells what stays open. Returns whether anything does."""
+    uses, folder = libraries(), ROOT / 'crates' / crate
+    for name, it in ((crate, folder / 'src'), (LAWS, ROOT / 'crates' / LAWS / 'src')):
+        if name not in uses or not it.is_dir():
+            raise Stop(f'{name} is missing: crates.txt has no line for it, or crates has no such folder')
+    verdict, functions = (dict.fromkeys(names, 'open'), {}) if is_anew else first_check(crate, names)
+    unproved = [name for name, said in verdict.items() if said != 'proved' and (not names or name in names)]
+    say(f'{crate}: {len(unproved)} functions are open')
+    broken = {name: it for name, it in functions.items() if it.broken}
+    tried = [it for name, it in functions.items() if name not in broken]
+    if is_anew or tried:
+        tried, solutions = searched(crate, names if is_anew else [it.name for it in tried], tried, jobs)
+    else:
+        solutions = {}
+    functions = {**broken, **{it.name: it for it in tried}}
+    if is_writing and solutions:
+        verdict = written(crate, folder, solutions, names)
+    else:
+        verdict.update((it.name, 'proved') for it in solutions)
+    for function, (named, laws) in solutions.items():
+        if verdict[function.name] == 'proved':
+            print(f'proved: {function.name}: using {", ".join([*map(path, named), *(law for _, law in laws)])}')
+    left = [name for name in unproved if verdict[name] != 'proved']
+    for name in left:
+        it = functions.get(name)
+        goals = it.open_goals() or list(it.goals) if it else []
+        source = '\n'.join((folder / it.file).read_text().splitlines()[it.line - 1 : it.line + 20]) if it else ''
+        told = [f'{goal}{", false where " + it.broken[goal] if goal in it.broken else ""}: see {link(goal, source)}' for goal in goals]
+        print(f'open: {f"{it.file}:{it.line}: " if it else ""}{name}: {"; ".join(told) or verdict[name]}')
+    print(f'{crate}: {len(unproved) - len(left)} of {len(unproved)} open functions proved, {len(left)} open' + ('' if is_writing or not solutions else ': --write writes the laws'))
+    return bool(left)
+
+
+def main():
+    asked = argparse.ArgumentParser(description=__doc__, formatter_class=argparse.RawDescriptionHelpFormatter)
+    asked.add_argument('--write', action='store_true', help='write the attributes and the laws, and check again')
+    asked.add_argument('--anew', action='store_true', help='find laws for these functions, as if they had none; the crate has to be proved')
+    asked.add_argument('--jobs', metavar='N', type=int, help='checks at a time; without it as many as there are processors and memory for')
+    asked.add_argument('crate', metavar='CRATE')
+    asked.add_argument('functions', metavar='FUNCTION', nargs='*')
+    asked = asked.parse_args()
+    signal.signal(signal.SIGTERM, signal.default_int_handler)
+    try:
+        return 1 if prove(asked.crate, asked.functions, asked.write, asked.anew, asked.jobs) else 0
+    except Stop as it:
+        print(f'prove.py: {it}', file=sys.stderr)
+        return 2
+    except KeyboardInterrupt:
+        print('prove.py: interrupted: nothing is changed', file=sys.stderr)
+        return 130
+
+
+if __name__ == '__main__':
+    sys.exit(main())
