@@ -84,11 +84,7 @@ def picture(width, height, title, parts):
     return '\n'.join([head, f'<title>{escape(title)}</title>', *parts, '</svg>']) + '\n'
 
 
-def plain(cell):
-    return cell.replace('`', '').replace(', amounts below the width', ' <width').replace(', any amounts', ' any').replace(', exponents below 8', '')
-
-
-MARKS = [('this library', BLUE, 'circle'), ('the primitive', GREY, 'square'), ('C by hand', GREEN, 'triangle'), ('_BitInt', ORANGE, 'cross')]
+MARKS = [('this library', BLUE, 'circle'), ('the Rust crate', ORANGE, 'square')]
 
 
 def key(x, y):
@@ -101,30 +97,31 @@ def key(x, y):
 
 
 def calls():
-    """Each call, the primitive's and C's: three widths across, unsigned types above signed ones."""
-    panels = [table for table in tables(CALLS) if len(table[0]) == 9]
-    rows, left, wide, high, top = len(panels[0]) - 1, 150, 200, 20, 60
+    """Each call in a loop over arrays, beside the Rust crate: three widths across, without a sign above, with one below."""
+    rows = next(tables(CALLS))[1:]
+    figures = {(row[0].strip('`'), row[1].strip('`')): [number(cell) for cell in row[2:4]] for row in rows}
+    names = list(dict.fromkeys(call for call, _ in figures))
+    left, wide, high, top = 140, 235, 17, 56
+    ticks = [0, 1, 3, 10, 30, 100]
 
     def at(value):
         return math.log2(1 + value) / math.log2(1 + most) * (wide - 34)
     parts = key(left, 20)
-    for across, table in enumerate(panels):
-        ticks = [0, 1, 3, 10, 30, 100, 300, 1000]
-        most = min(tick for tick in ticks if tick >= max(number(cell) or 0 for row in table[1:] for cell in row[1:]))
-        shown = [tick for tick in ticks if tick <= most and not (most > 300 and tick in (1, 300))]
-        for down in range(2):
-            x0, y0, first = left + across * wide, top + down * (rows * high + 64), 1 + 4 * down
-            parts.append(text(x0, y0 - 8, f'{table[0][first].strip("`")}: instructions', size=13, weight='bold'))
-            for tick in shown:
-                parts += [line(x0 + at(tick), y0, x0 + at(tick), y0 + rows * high), text(x0 + at(tick), y0 + rows * high + 16, str(tick), 'middle')]
-            for place, row in enumerate(table[1:]):
-                y = y0 + place * high + 10
+    for across, width in enumerate((7, 14, 120)):
+        most = min(tick for tick in ticks if tick >= max(max(pair) for (_, kind), pair in figures.items() if kind[1:] == str(width)))
+        for down, sign in enumerate('ui'):
+            x0, y0 = left + across * wide, top + down * (len(names) * high + 60)
+            parts.append(text(x0, y0 - 6, f'{sign}{width}, instructions an element', weight='bold'))
+            for tick in ticks[:ticks.index(most) + 1]:
+                parts += [line(x0 + at(tick), y0, x0 + at(tick), y0 + len(names) * high)]
+                parts += [text(x0 + at(tick), y0 + len(names) * high + 14, str(tick), 'middle', 10)]
+            for place, name in enumerate(names):
+                y = y0 + place * high + 9
                 if across == 0:
-                    parts.append(text(left - 12, y + 4, plain(row[0]), 'end', 13))
-                for (_, colour, shape), cell in reversed([*zip(MARKS, row[first:first + 4])]):
-                    if number(cell) is not None:
-                        parts.append(dot(x0 + at(number(cell)), y, colour, shape))
-    return picture(left + 3 * wide, top + 2 * (rows * high + 64) - 34, 'Instructions of each call, of the primitive\'s and of C\'s', parts)
+                    parts.append(text(left - 12, y + 4, name, 'end', 11))
+                for (_, colour, shape), value in reversed([*zip(MARKS, figures.get((name, f'{sign}{width}'), []))]):
+                    parts.append(dot(x0 + at(value), y, colour, shape))
+    return picture(left + 3 * wide, top + 2 * (len(names) * high + 60) - 34, 'Instructions of each call in a loop, beside the Rust crate', parts)
 
 
 def grid(places, top, high, ends):

@@ -146,43 +146,43 @@ impl Call<i14> for Extracted {
 pub fn results<V: FixedWidthCalls>(
     call: &str,
     operands: &Operands<V>,
-    rounds: u32,
-) -> Option<[V; 16]> {
+    passes: u32,
+) -> Option<[V; 1024]> {
     match call {
-        "nothing" => Some(repeat::<V, Nothing>(operands, rounds)),
-        "wrapping_add" => Some(repeat::<V, WrappingSum>(operands, rounds)),
-        "checked_add" => Some(repeat::<V, CheckedSum>(operands, rounds)),
-        "saturating_add" => Some(repeat::<V, SaturatingSum>(operands, rounds)),
-        "overflowing_add" => Some(repeat::<V, OverflowingSum>(operands, rounds)),
-        "wrapping_mul" => Some(repeat::<V, WrappingProduct>(operands, rounds)),
-        "checked_mul" => Some(repeat::<V, CheckedProduct>(operands, rounds)),
-        "saturating_mul" => Some(repeat::<V, SaturatingProduct>(operands, rounds)),
-        "overflowing_mul" => Some(repeat::<V, OverflowingProduct>(operands, rounds)),
-        "saturating_pow" => Some(repeat::<V, SaturatingPower>(operands, rounds)),
-        "wrapping_shl" => Some(repeat::<V, Shifted>(operands, rounds)),
-        "rotate_left" => Some(repeat::<V, Rotated>(operands, rounds)),
-        "reverse_bits" => Some(repeat::<V, Reversed>(operands, rounds)),
-        "count_ones" => Some(repeat::<V, OnesCounted>(operands, rounds)),
+        "nothing" => Some(repeat::<V, Nothing>(operands, passes)),
+        "wrapping_add" => Some(repeat::<V, WrappingSum>(operands, passes)),
+        "checked_add" => Some(repeat::<V, CheckedSum>(operands, passes)),
+        "saturating_add" => Some(repeat::<V, SaturatingSum>(operands, passes)),
+        "overflowing_add" => Some(repeat::<V, OverflowingSum>(operands, passes)),
+        "wrapping_mul" => Some(repeat::<V, WrappingProduct>(operands, passes)),
+        "checked_mul" => Some(repeat::<V, CheckedProduct>(operands, passes)),
+        "saturating_mul" => Some(repeat::<V, SaturatingProduct>(operands, passes)),
+        "overflowing_mul" => Some(repeat::<V, OverflowingProduct>(operands, passes)),
+        "saturating_pow" => Some(repeat::<V, SaturatingPower>(operands, passes)),
+        "wrapping_shl" => Some(repeat::<V, Shifted>(operands, passes)),
+        "rotate_left" => Some(repeat::<V, Rotated>(operands, passes)),
+        "reverse_bits" => Some(repeat::<V, Reversed>(operands, passes)),
+        "count_ones" => Some(repeat::<V, OnesCounted>(operands, passes)),
         _ => None,
     }
 }
 
 /// The last results of `u7::extract_u32`.
-pub fn extracts_u7(operands: &Operands<u7>, rounds: u32) -> [u7; 16] {
-    repeat::<u7, Extracted>(operands, rounds)
+pub fn extracts_u7(operands: &Operands<u7>, passes: u32) -> [u7; 1024] {
+    repeat::<u7, Extracted>(operands, passes)
 }
 
 /// The last results of `i7::extract_u32`.
-pub fn extracts_i7(operands: &Operands<i7>, rounds: u32) -> [i7; 16] {
-    repeat::<i7, Extracted>(operands, rounds)
+pub fn extracts_i7(operands: &Operands<i7>, passes: u32) -> [i7; 1024] {
+    repeat::<i7, Extracted>(operands, passes)
 }
 
 /// The last results of `u14::extract_u32`.
-pub fn extracts_u14(operands: &Operands<u14>, rounds: u32) -> [u14; 16] {
-    repeat::<u14, Extracted>(operands, rounds)
+pub fn extracts_u14(operands: &Operands<u14>, passes: u32) -> [u14; 1024] {
+    repeat::<u14, Extracted>(operands, passes)
 }
 
 /// The last results of `i14::extract_u32`.
-pub fn extracts_i14(operands: &Operands<i14>, rounds: u32) -> [i14; 16] {
-    repeat::<i14, Extracted>(operands, rounds)
+pub fn extracts_i14(operands: &Operands<i14>, passes: u32) -> [i14; 1024] {
+    repeat::<i14, Extracted>(operands, passes)
 }

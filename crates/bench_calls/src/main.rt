@@ -1,53 +1,60 @@
-//! Makes a call many times, so that what it costs can be counted.
+//! Makes a call, or runs a small program, many times, so that what it costs can be counted.
 //!
-//! It reads a line `KIND TYPE CALL LIMIT ROUNDS`, as `fixed u7 wrapping_shl 7 1000`, and prints the last
-//! 16 results. The kind is `fixed`, with the types `u7`, `i7`, `u14`, `i14`, `u120`, `i120` and `i128`, or
-//! `primitive`, with `u8`, `i8`, `u16`, `i16`, `u128` and `i128`. The call is a method's name, or `nothing`.
-//! The amounts of shifts, the exponents and the sources of bits lie below the limit, which is at least 1.
-//!
-//! Of the kind `field` the types are `u5`, `u9` and `i14`, and for shifts and masks by hand `u8`, `u16` and
-//! `i16`; the calls are `get` and `put`, for which the limit says nothing.
-//!
-//! Of the kinds `moved` and `ends` each call is a function of its own, on numbers in their storage. A line `moved TYPE CALL LIMIT
-//! ROUNDS PLACES` moves the operands so many places toward 0 first, so that sums and products are in range. `ends TYPE
-//! CALL LIMIT ROUNDS` takes operands next to the ends of the range. The types are those of `fixed` but for `i128`.
+//! It reads a line, and prints some of the last results:
+//! - `loop TYPE CALL LIMIT PASSES`: the call in a loop over arrays of 1,024 values. The types are `u7`, `i7`, `u14`, `i14`, `u120`
+//!   and `i120`. The call is a method's name, or `nothing`. Amounts of shifts, exponents and sources of bits are below the limit,
+//!   which is at least 1.
+//! - `program NAME PASSES`: a program of `programs`.
+//! - `steps TYPE COUNT PASSES CHECKS`: a list of `COUNT` steps in memory.
+//! - `moved TYPE CALL LIMIT ROUNDS PLACES`: each call in a function of its own, on numbers in their storage. The operands are moved
+//!   so many places toward 0 first, so that sums and products are in range.
+//! - `ends TYPE CALL LIMIT ROUNDS`: the same on operands next to the ends of the range.
 #![tactic(auto)]
 
 ghost use Rattle.std.specs.Prelude.{◌≤◌};
 
-use crate::fields::{gets, puts};
-use crate::rounds::{Operands, values};
-use anyhow::Context;
+use crate::rounds::Operands;
+use crate::runs::run_program;
+use crate::steps::run_steps;
 use arbitrary_calls::fixed_width::FixedWidth;
 use arbitrary_core::aliases::signed::{i7, i14, i120};
-use arbitrary_core::aliases::unsigned::{u5, u7, u9, u14, u120};
-use arbitrary_core::signed::Int;
+use arbitrary_core::aliases::unsigned::{u7, u14, u120};
 use std::fmt::Display;
+use std::io;
 
-mod fields;
 mod fixed;
-mod primitive;
+mod programs;
 mod rounds;
+mod runs;
 mod single;
+mod steps;
 
-fn show<V: Display + Copy + Drop>(rt: &impl Print, results: Option<[V; 16]>) -> anyhow::Result<()> {
-    let results = results.context("no such call")?;
-    for result in &results[..] {
+/// Prints the first 16 results.
+fn show<V: Display + Copy + Drop, const N: usize>(
+    rt: &impl Print,
+    results: Option<[V; N]>,
+) -> io::Result<()>
+    requires { 16 ≤ N }
+{
+    let Some(results) = results else {
+        return println!(rt; "no such call");
+    };
+    for result in &results[..16] {
         println!(rt; "{result}")?;
     }
     Ok(())
 }
 
 /// The call `extract_u32` alone: a proof grows with the square of the calls.
-fn take_fixed(rt: &impl Print, name: &str, limit: u32, rounds: u32) -> anyhow::Result<()>
+fn take_fixed(rt: &impl Print, name: &str, limit: u32, passes: u32) -> io::Result<()>
     requires { 1 ≤ limit }
 {
     match name {
-        "u7" => show(rt, Some(fixed::extracts_u7(&Operands::new(limit), rounds))),
-        "i7" => show(rt, Some(fixed::extracts_i7(&Operands::new(limit), rounds))),
-        "u14" => show(rt, Some(fixed::extracts_u14(&Operands::new(limit), rounds))),
-        "i14" => show(rt, Some(fixed::extracts_i14(&Operands::new(limit), rounds))),
-        _ => anyhow::bail!("no such type"),
+        "u7" => show(rt, Some(fixed::extracts_u7(&Operands::new(limit), passes))),
+        "i7" => show(rt, Some(fixed::extracts_i7(&Operands::new(limit), passes))),
+        "u14" => show(rt, Some(fixed::extracts_u14(&Operands::new(limit), passes))),
+        "i14" => show(rt, Some(fixed::extracts_i14(&Operands::new(limit), passes))),
+        _ => println!(rt; "no such type"),
     }
 }
 
@@ -56,43 +63,39 @@ fn measure_fixed(
     name: &str,
     call: &str,
     limit: u32,
-    rounds: u32,
-) -> anyhow::Result<()>
+    passes: u32,
+) -> io::Result<()>
     requires { 1 ≤ limit }
 {
     if call == "extract_u32" {
-        return take_fixed(rt, name, limit, rounds);
+        return take_fixed(rt, name, limit, passes);
     }
     match name {
         "u7" => show(
             rt,
-            fixed::results::<u7>(call, &Operands::new(limit), rounds),
+            fixed::results::<u7>(call, &Operands::new(limit), passes),
         ),
         "i7" => show(
             rt,
-            fixed::results::<i7>(call, &Operands::new(limit), rounds),
+            fixed::results::<i7>(call, &Operands::new(limit), passes),
         ),
         "u14" => show(
             rt,
-            fixed::results::<u14>(call, &Operands::new(limit), rounds),
+            fixed::results::<u14>(call, &Operands::new(limit), passes),
         ),
         "i14" => show(
             rt,
-            fixed::results::<i14>(call, &Operands::new(limit), rounds),
+            fixed::results::<i14>(call, &Operands::new(limit), passes),
         ),
         "u120" => show(
             rt,
-            fixed::results::<u120>(call, &Operands::new(limit), rounds),
+            fixed::results::<u120>(call, &Operands::new(limit), passes),
         ),
         "i120" => show(
             rt,
-            fixed::results::<i120>(call, &Operands::new(limit), rounds),
+            fixed::results::<i120>(call, &Operands::new(limit), passes),
         ),
-        "i128" => show(
-            rt,
-            fixed::results::<Int<i128, 128>>(call, &Operands::new(limit), rounds),
-        ),
-        _ => anyhow::bail!("no such type"),
+        _ => println!(rt; "no such type"),
     }
 }
 
@@ -116,7 +119,7 @@ fn take_single(
     limit: u32,
     rounds: u32,
     places: Option<u32>,
-) -> anyhow::Result<()>
+) -> io::Result<()>
     requires { 1 ≤ limit }
 {
     match name {
@@ -136,7 +139,7 @@ fn take_single(
             rt,
             Some(single::taken::<i14>(&chosen(limit, places), rounds)),
         ),
-        _ => anyhow::bail!("no such type"),
+        _ => println!(rt; "no such type"),
     }
 }
 
@@ -147,7 +150,7 @@ fn measure_single(
     limit: u32,
     rounds: u32,
     places: Option<u32>,
-) -> anyhow::Result<()>
+) -> io::Result<()>
     requires { 1 ≤ limit }
 {
     if call == "extract_u32" {
@@ -178,115 +181,39 @@ fn measure_single(
             rt,
             single::results::<i120>(call, &chosen(limit, places), rounds),
         ),
-        _ => anyhow::bail!("no such type"),
+        _ => println!(rt; "no such type"),
     }
 }
 
-/// The call `extract_u32` alone: a proof grows with the square of the calls.
-fn take_primitive(rt: &impl Print, name: &str, limit: u32, rounds: u32) -> anyhow::Result<()>
-    requires { 1 ≤ limit }
-{
-    match name {
-        "u8" => show(
-            rt,
-            Some(primitive::extracts_u8(&Operands::new(limit), rounds)),
-        ),
-        "i8" => show(
-            rt,
-            Some(primitive::extracts_i8(&Operands::new(limit), rounds)),
-        ),
-        "u16" => show(
-            rt,
-            Some(primitive::extracts_u16(&Operands::new(limit), rounds)),
-        ),
-        "i16" => show(
-            rt,
-            Some(primitive::extracts_i16(&Operands::new(limit), rounds)),
-        ),
-        _ => anyhow::bail!("no such type"),
-    }
+/// The number that a word spells, and 0 where there is none.
+fn number(word: Option<&str>) -> u32 {
+    word.unwrap_or("").parse().unwrap_or(0)
 }
 
-fn measure_primitive(
-    rt: &impl Print,
-    name: &str,
-    call: &str,
-    limit: u32,
-    rounds: u32,
-) -> anyhow::Result<()>
-    requires { 1 ≤ limit }
-{
-    if call == "extract_u32" {
-        return take_primitive(rt, name, limit, rounds);
-    }
-    match name {
-        "u8" => show(
-            rt,
-            primitive::results::<u8>(call, &Operands::new(limit), rounds),
-        ),
-        "i8" => show(
-            rt,
-            primitive::results::<i8>(call, &Operands::new(limit), rounds),
-        ),
-        "u16" => show(
-            rt,
-            primitive::results::<u16>(call, &Operands::new(limit), rounds),
-        ),
-        "i16" => show(
-            rt,
-            primitive::results::<i16>(call, &Operands::new(limit), rounds),
-        ),
-        "u128" => show(
-            rt,
-            primitive::results::<u128>(call, &Operands::new(limit), rounds),
-        ),
-        "i128" => show(
-            rt,
-            primitive::results::<i128>(call, &Operands::new(limit), rounds),
-        ),
-        _ => anyhow::bail!("no such type"),
-    }
-}
-
-fn measure_field(rt: &impl Print, name: &str, call: &str, rounds: u32) -> anyhow::Result<()> {
-    match (name, call) {
-        ("u5", "get") => show(rt, Some(gets::<u5>(rounds))),
-        ("u8", "get") => show(rt, Some(gets::<u8>(rounds))),
-        ("u9", "get") => show(rt, Some(gets::<u9>(rounds))),
-        ("u16", "get") => show(rt, Some(gets::<u16>(rounds))),
-        ("i14", "get") => show(rt, Some(gets::<i14>(rounds))),
-        ("i16", "get") => show(rt, Some(gets::<i16>(rounds))),
-        ("u5", "put") => show(rt, Some(puts(&values::<u5>(3), rounds))),
-        ("u8", "put") => show(rt, Some(puts(&values::<u8>(3), rounds))),
-        ("u9", "put") => show(rt, Some(puts(&values::<u9>(3), rounds))),
-        ("u16", "put") => show(rt, Some(puts(&values::<u16>(3), rounds))),
-        ("i14", "put") => show(rt, Some(puts(&values::<i14>(3), rounds))),
-        ("i16", "put") => show(rt, Some(puts(&values::<i16>(3), rounds))),
-        _ => anyhow::bail!("no such field"),
-    }
-}
-
-fn main(rt: HostRuntime) -> anyhow::Result<()> {
+fn main(rt: HostRuntime) -> io::Result<()> {
     let mut line = String::new(rt.alloc());
     rt.read_line(&mut line)?;
     let mut words = line.split_whitespace();
-    let kind = words.next().context("no kind")?;
-    let name = words.next().context("no type")?;
-    let call = words.next().context("no call")?;
-    let limit = words.next().context("no limit")?.parse::<u32>()?;
-    let rounds = words.next().context("no number of rounds")?.parse::<u32>()?;
+    let kind = words.next().unwrap_or("");
+    let name = words.next().unwrap_or("");
+    if kind == "program" {
+        return run_program(&rt, name, number(words.next()));
+    }
+    if kind == "steps" {
+        let count = number(words.next());
+        let passes = number(words.next());
+        return run_steps(&rt, rt.alloc(), name, count, passes, number(words.next()));
+    }
+    let call = words.next().unwrap_or("");
+    let limit = number(words.next());
+    let rounds = number(words.next());
     if limit == 0 {
-        anyhow::bail!("the limit is 0");
+        return println!(rt; "the limit is 0");
     }
     match kind {
-        "fixed" => measure_fixed(&rt, name, call, limit, rounds),
-        "primitive" => measure_primitive(&rt, name, call, limit, rounds),
-        "moved" => {
-            let places = words.next().context("no number of places")?.parse::<u32>()?;
-            measure_single(&rt, name, call, limit, rounds, Some(places))
-        }
+        "loop" => measure_fixed(&rt, name, call, limit, rounds),
+        "moved" => measure_single(&rt, name, call, limit, rounds, Some(number(words.next()))),
         "ends" => measure_single(&rt, name, call, limit, rounds, None),
-        "field" => measure_field(&rt, name, call, rounds),
-        _ => anyhow::bail!("no such kind"),
+        _ => println!(rt; "no such kind"),
     }
 }

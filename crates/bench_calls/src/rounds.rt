@@ -1,6 +1,5 @@
-//! The loop around a call, and the operands that it is made on. The calls stand in `fixed` and `primitive`, each a
-//! `Call`, and `fields` and `single` take their operands from here. `tools/instructions.py` subtracts what `Nothing`
-//! costs.
+//! The loop around a call, and the operands that it is made on. The calls are in `fixed`, each a `Call`, and `single` takes its
+//! operands from here. `tools/instructions.py` subtracts what `Nothing` costs.
 
 ghost use Rattle.std.specs.Prelude.{◌≤◌};
 
@@ -27,31 +26,31 @@ impl<V: Drop> Call<V> for Nothing {
 /// The values that the calls are made on.
 #[derive(Drop)]
 pub struct Operands<V> {
-    pub left: [V; 16],
-    pub right: [V; 16],
-    pub amounts: [u32; 16],
+    pub left: [V; 1024],
+    pub right: [V; 1024],
+    pub amounts: [u32; 1024],
 }
 
 /// Values of all sizes. The width is valid.
-pub fn values<V: Numbered>(seed: u128) -> [V; 16]
+pub fn values<V: Numbered>(seed: u128) -> [V; 1024]
     requires { V.valid }
 {
-    let mut values = [V::from_u128_bits(0); 16];
+    let mut values = [V::from_u128_bits(0); 1024];
     let mut pattern = seed;
-    for i in 0..16 {
+    for i in 0..1024 {
         pattern = pattern.wrapping_mul(0x9e37_79b9_7f4a_7c15_f39c_c060_5ced_c835);
-        values[i] = V::from_u128_bits(pattern >> (8 * i));
+        values[i] = V::from_u128_bits(pattern >> (8 * (i % 16)));
     }
     values
 }
 
 /// Amounts below the limit.
-fn amounts_below(limit: u32) -> [u32; 16]
+fn amounts_below(limit: u32) -> [u32; 1024]
     requires { 1 ≤ limit }
 {
-    let mut amounts = [0; 16];
+    let mut amounts = [0; 1024];
     let mut pattern = 5u128;
-    for i in 0..16 {
+    for i in 0..1024 {
         pattern = pattern.wrapping_mul(0x9e37_79b9_7f4a_7c15_f39c_c060_5ced_c835);
         amounts[i] = ((pattern >> 64) % limit as u128) as u32;
     }
@@ -75,7 +74,7 @@ impl<V: Numbered> Operands<V> {
 impl<V: FixedWidthCalls> Operands<V> {
     /// The same values, moved so many places toward 0.
     pub fn moved(&mut self, places: u32) {
-        for i in 0..16 {
+        for i in 0..1024 {
             self.left[i] = self.left[i].wrapping_shr(places);
             self.right[i] = self.right[i].wrapping_shr(places);
         }
@@ -87,7 +86,7 @@ impl<V: FixedWidth> Operands<V> {
     pub fn at_ends(&mut self)
         requires { V.valid }
     {
-        for i in 0..16 {
+        for i in 0..1024 {
             let near = V::from_u128_bits(i as u128 % 4);
             self.left[i] = if i % 2 == 0 {
                 V::max_value().wrapping_sub(near)
@@ -99,17 +98,20 @@ impl<V: FixedWidth> Operands<V> {
     }
 }
 
-/// The last results of `rounds` calls.
-///
-/// Each pair of operands has its turn, and each result is stored, so that no call is left out or worked
-/// out beforehand.
+/// One pass over all pairs of operands.
 #[inline(never)]
-pub fn repeat<V: Copy + Drop, C: Call<V>>(operands: &Operands<V>, rounds: u32) -> [V; 16] {
+fn pass<V: Copy + Drop, C: Call<V>>(operands: &Operands<V>, results: &mut [V; 1024]) {
+    for i in 0..1024 {
+        results[i] = C::result(operands.left[i], operands.right[i], operands.amounts[i]);
+    }
+}
+
+/// The last results of `passes` passes.
+#[inline(never)]
+pub fn repeat<V: Copy + Drop, C: Call<V>>(operands: &Operands<V>, passes: u32) -> [V; 1024] {
     let mut results = operands.left;
-    for i in 0..rounds {
-        let x = operands.left[(i % 16) as usize];
-        let y = operands.right[(i / 16 % 16) as usize];
-        results[(i % 16) as usize] = C::result(x, y, operands.amounts[(i % 16) as usize]);
+    for _ in 0..passes {
+        pass::<V, C>(operands, &mut results);
     }
     results
 }

@@ -287,7 +287,7 @@ fn ones_results<V: FixedWidthCalls>(
     results
 }
 
-/// The last results of so many reads of a value from a word.
+/// The last results of `rounds` reads of a value from a word.
 pub fn taken<V: Word>(operands: &Operands<V>, rounds: u32) -> [V::Representation; 16] {
     let mut results = [operands.left[0].to_storage(); 16];
     for i in 0..rounds {
