@@ -1,7 +1,7 @@
 //! Runs a long list of steps in memory.
 
 ghost use Rattle.std.specs.Prelude.{All};
-ghost use Rattle.arbitrary_int.specs.Step.{StepWithin};
+ghost use Rattle.arbitrary_int.specs.Steps.{StepWithin};
 
 use arbitrary_int::prelude::*;
 use arbitrary_int::{ByOp, OneOp, Step, TwoOp, run, well_formed};

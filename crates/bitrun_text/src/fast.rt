@@ -41,7 +41,8 @@ pub fn fast_line(text: &[u8], at: usize, count: usize) -> Option<(Step, usize)>
 #[inline(always)]
 fn name_at(text: &[u8], at: usize) -> Option<(Operation, usize)>
     requires { at + 5 ≤ length text.now }
-    ensures name { IfSome result (λ p. operation_named (take (p.1 - at) (drop at text.now)) ≡ Some p.0) }
+    ensures name { IfSome result
+        (λ p. operation_named (take (p.1 - at) (drop at text.now)) ≡ Some p.0) }
     ensures blank { IfSome result (λ p. is_blank (get_or text.now p.1 0) ≡ true) }
     ensures order { IfSome result (λ p. at < p.1) }
     ensures within { IfSome result (λ p. p.1 < length text.now) }
@@ -76,9 +77,11 @@ fn name_end(text: &[u8], at: usize) -> usize
 fn operands(operation: Operation, text: &[u8], at: usize, count: usize) -> Option<(Step, usize)>
     requires blank { is_blank (get_or text.now at 0) ≡ true }
     requires within { at < length text.now }
-    ensures step { IfSome result (λ p. step_with count operation (left_of (drop at text.now)).words ≡ Some p.0) }
+    ensures step { IfSome result
+        (λ p. step_with count operation (left_of (drop at text.now)).words ≡ Some p.0) }
     ensures within { IfSome result (λ p. StepWithin count p.0) }
-    ensures later { IfSome result (λ p. word_lines (drop p.1 text.now) ≡ (left_of (drop at text.now)).later) }
+    ensures later { IfSome result
+        (λ p. word_lines (drop p.1 text.now) ≡ (left_of (drop at text.now)).later) }
     ensures order { IfSome result (λ p. at < p.1) }
     ensures room { IfSome result (λ p. p.1 ≤ length text.now) }
 {
@@ -94,9 +97,11 @@ fn operands(operation: Operation, text: &[u8], at: usize, count: usize) -> Optio
 fn two(op: TwoOp, text: &[u8], at: usize, count: usize) -> Option<(Step, usize)>
     requires blank { is_blank (get_or text.now at 0) ≡ true }
     requires within { at < length text.now }
-    ensures step { IfSome result (λ p. step_with count (Operation.Two op) (left_of (drop at text.now)).words ≡ Some p.0) }
+    ensures step { IfSome result
+        (λ p. step_with count (Operation.Two op) (left_of (drop at text.now)).words ≡ Some p.0) }
     ensures within { IfSome result (λ p. StepWithin count p.0) }
-    ensures later { IfSome result (λ p. word_lines (drop p.1 text.now) ≡ (left_of (drop at text.now)).later) }
+    ensures later { IfSome result
+        (λ p. word_lines (drop p.1 text.now) ≡ (left_of (drop at text.now)).later) }
     ensures order { IfSome result (λ p. at < p.1) }
     ensures room { IfSome result (λ p. p.1 ≤ length text.now) }
 {
@@ -119,9 +124,11 @@ fn two(op: TwoOp, text: &[u8], at: usize, count: usize) -> Option<(Step, usize)>
 fn one(op: OneOp, text: &[u8], at: usize, count: usize) -> Option<(Step, usize)>
     requires blank { is_blank (get_or text.now at 0) ≡ true }
     requires within { at < length text.now }
-    ensures step { IfSome result (λ p. step_with count (Operation.One op) (left_of (drop at text.now)).words ≡ Some p.0) }
+    ensures step { IfSome result
+        (λ p. step_with count (Operation.One op) (left_of (drop at text.now)).words ≡ Some p.0) }
     ensures within { IfSome result (λ p. StepWithin count p.0) }
-    ensures later { IfSome result (λ p. word_lines (drop p.1 text.now) ≡ (left_of (drop at text.now)).later) }
+    ensures later { IfSome result
+        (λ p. word_lines (drop p.1 text.now) ≡ (left_of (drop at text.now)).later) }
     ensures order { IfSome result (λ p. at < p.1) }
     ensures room { IfSome result (λ p. p.1 ≤ length text.now) }
 {
@@ -135,9 +142,11 @@ fn one(op: OneOp, text: &[u8], at: usize, count: usize) -> Option<(Step, usize)>
 fn by(op: ByOp, text: &[u8], at: usize, count: usize) -> Option<(Step, usize)>
     requires blank { is_blank (get_or text.now at 0) ≡ true }
     requires within { at < length text.now }
-    ensures step { IfSome result (λ p. step_with count (Operation.By op) (left_of (drop at text.now)).words ≡ Some p.0) }
+    ensures step { IfSome result
+        (λ p. step_with count (Operation.By op) (left_of (drop at text.now)).words ≡ Some p.0) }
     ensures within { IfSome result (λ p. StepWithin count p.0) }
-    ensures later { IfSome result (λ p. word_lines (drop p.1 text.now) ≡ (left_of (drop at text.now)).later) }
+    ensures later { IfSome result
+        (λ p. word_lines (drop p.1 text.now) ≡ (left_of (drop at text.now)).later) }
     ensures order { IfSome result (λ p. at < p.1) }
     ensures room { IfSome result (λ p. p.1 ≤ length text.now) }
 {
@@ -163,7 +172,8 @@ fn next_register(text: &[u8], at: usize, count: usize) -> Option<(usize, usize)>
     ensures number { IfSome result (λ p. first_number count (left_of (drop at text.now)).words
         ≡ Some (p.0, (left_of (drop p.1 text.now)).words)) }
     ensures below { IfSome result (λ p. p.0 < count) }
-    ensures later { IfSome result (λ p. (left_of (drop p.1 text.now)).later ≡ (left_of (drop at text.now)).later) }
+    ensures later { IfSome result
+        (λ p. (left_of (drop p.1 text.now)).later ≡ (left_of (drop at text.now)).later) }
     ensures blank { IfSome result (λ p. is_blank (get_or text.now p.1 0) ≡ true) }
     ensures order { IfSome result (λ p. at < p.1) }
     ensures within { IfSome result (λ p. p.1 < length text.now) }
@@ -181,9 +191,11 @@ fn next_register(text: &[u8], at: usize, count: usize) -> Option<(usize, usize)>
 fn last_register(text: &[u8], at: usize, count: usize) -> Option<(usize, usize)>
     requires blank { is_blank (get_or text.now at 0) ≡ true }
     requires within { at < length text.now }
-    ensures number { IfSome result (λ p. first_number count (left_of (drop at text.now)).words ≡ Some (p.0, [])) }
+    ensures number { IfSome result
+        (λ p. first_number count (left_of (drop at text.now)).words ≡ Some (p.0, [])) }
     ensures below { IfSome result (λ p. p.0 < count) }
-    ensures later { IfSome result (λ p. word_lines (drop p.1 text.now) ≡ (left_of (drop at text.now)).later) }
+    ensures later { IfSome result
+        (λ p. word_lines (drop p.1 text.now) ≡ (left_of (drop at text.now)).later) }
     ensures order { IfSome result (λ p. at < p.1) }
     ensures room { IfSome result (λ p. p.1 ≤ length text.now) }
 {
@@ -197,8 +209,10 @@ fn last_register(text: &[u8], at: usize, count: usize) -> Option<(usize, usize)>
 fn last_amount(text: &[u8], at: usize) -> Option<(u32, usize)>
     requires blank { is_blank (get_or text.now at 0) ≡ true }
     requires within { at < length text.now }
-    ensures number { IfSome result (λ p. first_number (2 ^ 32) (left_of (drop at text.now)).words ≡ Some (p.0, [])) }
-    ensures later { IfSome result (λ p. word_lines (drop p.1 text.now) ≡ (left_of (drop at text.now)).later) }
+    ensures number { IfSome result
+        (λ p. first_number (2 ^ 32) (left_of (drop at text.now)).words ≡ Some (p.0, [])) }
+    ensures later { IfSome result
+        (λ p. word_lines (drop p.1 text.now) ≡ (left_of (drop at text.now)).later) }
     ensures order { IfSome result (λ p. at < p.1) }
     ensures room { IfSome result (λ p. p.1 ≤ length text.now) }
 {
@@ -213,7 +227,8 @@ fn number(text: &[u8], at: usize, limit: u64) -> Option<(u64, usize)>
     requires blank { is_blank (get_or text.now at 0) ≡ true }
     requires within { at < length text.now }
     requires limit { limit ≤ 2 ^ 60 }
-    ensures number { IfSome result (λ p. BeginsWithNumber (drop at text.now) p.0 (drop p.1 text.now)) }
+    ensures number { IfSome result
+        (λ p. BeginsWithNumber (drop at text.now) p.0 (drop p.1 text.now)) }
     ensures below { IfSome result (λ p. p.0 < limit) }
     ensures order { IfSome result (λ p. at < p.1) }
     ensures room { IfSome result (λ p. p.1 ≤ length text.now) }

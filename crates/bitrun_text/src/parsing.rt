@@ -25,7 +25,8 @@ pub fn registers<'a, R: FixedWidth, A: Allocator>(
     requires narrow { R.BITS ≤ 120 }
     ensures values { IfOk result (λ found. MatchOption found
         (HasRegistersForm R.IS_SIGNED R.BITS line.old.words → ⊥)
-        (λ registers. AllZip (IsValue R.IS_SIGNED R.BITS) line.old.words (map R.number registers.items))) }
+        (λ registers. AllZip (IsValue R.IS_SIGNED R.BITS) line.old.words
+        (map R.number registers.items))) }
     ensures later { line.new.later ≡ line.old.later }
 {
     let mut registers = Vec::new(alloc);
@@ -45,7 +46,8 @@ pub fn steps<'a, A: Allocator>(
     lines: &mut Cursor,
 ) -> Result<Vec<Step, &'a A>, Fault>
     requires { length lines.old.later ≤ 65536 }
-    ensures found { IfOk result (λ steps. AllZip (IsStep count) (filter has_items lines.old.later) steps.items) }
+    ensures found { IfOk result
+        (λ steps. AllZip (IsStep count) (filter has_items lines.old.later) steps.items) }
     ensures within { IfOk result (λ steps. All (StepWithin count) steps.items) }
     ensures fault { IfErr result (StepsFault count lines.old.later) }
 {
@@ -82,7 +84,8 @@ fn fast_steps<'a, 't, A: Allocator>(
     number: &mut usize,
 ) -> &'t [u8]
     requires { number.old + length (word_lines text.now) ≤ 65538 }
-    ensures read { (all : List (List (List ℕ))) → ReadSoFar count all steps.old.items number.old (word_lines text.now)
+    ensures read { (all : List (List (List ℕ)))
+        → ReadSoFar count all steps.old.items number.old (word_lines text.now)
         → ReadSoFar count all steps.new.items number.new (word_lines result.now) }
     ensures order { number.old ≤ number.new }
 {
@@ -128,7 +131,8 @@ fn after_empty_lines(text: &[u8], at: usize) -> usize
     ensures read { (count : ℕ) → (all : List (List (List ℕ))) → (steps : List Step) → (number : ℕ)
         → ReadSoFar count all steps number (word_lines (drop at text.now))
         → ReadSoFar count all steps (number + (result - at)) (word_lines (drop result text.now)) }
-    ensures counted { (result - at) + length (word_lines (drop result text.now)) ≡ length (word_lines (drop at text.now)) }
+    ensures counted { (result - at) + length (word_lines (drop result text.now))
+        ≡ length (word_lines (drop at text.now)) }
     ensures order { at ≤ result }
     ensures room { result ≤ length text.now }
 {

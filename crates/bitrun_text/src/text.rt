@@ -22,7 +22,8 @@ impl<'a> Model for Cursor<'a> {
 impl<'a> Cursor<'a> {
     /// The beginning of the first line, where there is one.
     pub fn new(text: &'a [u8]) -> Option<Self>
-        ensures { MatchOption result (word_lines text.now ≡ []) (λ cursor. word_lines text.now ≡ cursor.words ∷ cursor.later) }
+        ensures { MatchOption result (word_lines text.now ≡ [])
+            (λ cursor. word_lines text.now ≡ cursor.words ∷ cursor.later) }
     {
         if text.is_empty() {
             None
@@ -33,7 +34,8 @@ impl<'a> Cursor<'a> {
 
     /// Takes the next word of the line, where there is one.
     pub fn next_word(&mut self) -> Option<&'a [u8]>
-        ensures word { MatchOption result ((self.old.words ≡ []) × (self.new.words ≡ [])) (λ word. self.old.words ≡ word.now ∷ self.new.words) }
+        ensures word { MatchOption result ((self.old.words ≡ []) × (self.new.words ≡ []))
+            (λ word. self.old.words ≡ word.now ∷ self.new.words) }
         ensures later { self.new.later ≡ self.old.later }
     {
         let (word, rest) = split_word(without_blanks(self.rest));

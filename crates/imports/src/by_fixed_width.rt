@@ -3,7 +3,7 @@
 ghost use Rattle.std.specs.Prelude.{◌≡◌, ◌≤◌, ◌+◌, ◌+ℤ◌, ◌*ℤ◌, pos, take, drop, count_by};
 ghost use Rattle.arbitrary_int.specs.BitList.{bits, val};
 ghost use Rattle.arbitrary_int.specs.Residue.{wrap};
-ghost use Rattle.arbitrary_int.specs.Saturation.{clamp};
+ghost use Rattle.arbitrary_int.specs.Saturating.{clamp};
 
 use arbitrary_int::traits::FixedWidth;
 
