@@ -13,7 +13,7 @@ stop() {
 
 crate="${1:-arbitrary_int}"
 command -v rt > /dev/null || stop "there is no rt on the PATH: install the Rattle kit, whose rt proves the crates"
-grep -q "^$crate[ :]" crates.txt || stop "crates.txt has no crate $crate"
+grep -qE "^${crate}( [^:]*)?:" crates.txt || stop "crates.txt has no crate $crate"
 [ -d "crates/$crate/src" ] || stop "there is no folder crates/$crate/src"
 free_disk=$(df -Pm . | awk 'NR == 2 { print $4 }')
 [ "$free_disk" -ge 3000 ] || stop "the disk has $free_disk MB free, and the proofs need 3,000"
@@ -27,7 +27,7 @@ jobs=$(nproc)
 # The libraries of this repository that a crate names.
 uses() {
     local name
-    for name in $(sed -n "s/^$1[^:]*://p" crates.txt); do
+    for name in $(sed -nE "s/^$1( [^:]*)?://p" crates.txt); do
         if [ -d "crates/$name" ]; then echo "$name"; fi
     done
 }
@@ -105,9 +105,9 @@ while [ "${state[$crate]-}" != proved ]; do
         share=$(((jobs + ${#ready[@]} - 1) / ${#ready[@]}))
         for name in "${ready[@]}"; do begin "$name" "$share"; done
     fi
-    sleep 1
+    sleep 0.3
     for name in "${crates[@]}"; do
-        [ "${state[$name]-}" = running ] && [ -f "$logs/$name.status" ] || continue
+        if [ "${state[$name]-}" != running ] || [ ! -f "$logs/$name.status" ]; then continue; fi
         if [ "$(cat "$logs/$name.status")" = 0 ]; then
             state[$name]=proved
             printf 'prove.sh: %4d s  %s is proved\n' "$SECONDS" "$name"

@@ -1,8 +1,8 @@
 #!/usr/bin/env python3
 """bitrun_cases.py
 
-Tells whether bitrun.sh does what it should in the cases that are easy to get wrong: a source that is edited while it
-proves, CDPATH, a symbolic link, two at once, no `rt`, a source that isn't proved. Each case has a small copy of the
+Fails unless bitrun.sh and prove.sh do what they should in the cases that are easy to get wrong: a source that is edited during the
+proof, CDPATH, a symbolic link, two at once, no `rt`, a source that is not proved, an interrupt. Each case has a small copy of the
 repository, and a stand-in for `rt`, whose program answers with the source that it was built from. So it takes seconds.
 """
 import os
@@ -15,9 +15,19 @@ from pathlib import Path
 
 ROOT = Path(__file__).resolve().parent.parent
 
-# Says that it began, and what it read; waits where the file `hold` is there until that is gone; refuses a broken source.
+# A check refuses a broken source. A run says what it read, waits until the file `hold` is gone, and refuses a broken source.
 STAND_IN = r'''#!/usr/bin/env bash
 set -eu
+if [ "$1" = check ]; then
+    echo "checked a function, 1 of 2"
+    while [ -e ../../hold_check ]; do sleep 0.02; done
+    if grep -qs broken src/*.rt; then
+        echo "rt: not proved: broken" >&2
+        exit 1
+    fi
+    echo "logic=proved"
+    exit 0
+fi
 [ "$1" = run ] && [ "$(basename "$PWD")" = bitrun ]
 source="$(cat src/main.rt)"
 echo "rt: reads $source" >&2
@@ -51,10 +61,10 @@ class Run:
         self.errors.seek(0)
         return self.errors.read().splitlines()
 
-    def says(self, count):
-        """Waits until standard error has so many lines, but no longer than it may take."""
-        end = time.monotonic() + 10
-        while len(self.said()) < count and time.monotonic() < end:
+    def says(self, word):
+        """Waits until a line of standard error begins with the word, for at most 20 seconds."""
+        end = time.monotonic() + 20
+        while not any(line.startswith(word) for line in self.said()) and time.monotonic() < end:
             time.sleep(0.01)
         return self.said()
 
@@ -74,7 +84,8 @@ class Clone:
     def __init__(self, folder):
         self.root = folder / 'clone'
         (self.root / 'crates/bitrun/src').mkdir(parents=True)
-        shutil.copy(ROOT / 'bitrun.sh', self.root)
+        for script in ('bitrun.sh', 'prove.sh'):
+            shutil.copy(ROOT / script, self.root)
         (self.root / 'crates/bitrun_text/src').mkdir(parents=True)
         (self.root / 'crates.txt').write_text('bitrun_text:\nbitrun: bitrun_text\n')
         self.source = self.root / 'crates/bitrun/src/main.rt'
@@ -124,10 +135,10 @@ def refuses(result, word):
 def progress_is_shown_as_it_goes(clone):
     clone.hold()
     begun = clone.start()
-    # Both lines come while `rt` still works.
-    said = begun.says(2)
+    # The lines come while `rt` still works.
+    said = begun.says('rt: reads')
     clone.let_go()
-    return answers(begun.ended()) and len(said) == 2 and 'minutes' in said[0] and said[1] == 'rt: reads first'
+    return answers(begun.ended()) and said[0].startswith('prove.sh: 2 crates') and said[-1] == 'rt: reads first'
 
 
 def what_is_built_runs_at_once(clone):
@@ -144,7 +155,7 @@ def an_edit_is_seen(clone):
 def an_edit_while_it_proves_is_seen(clone):
     clone.hold()
     begun = clone.start()
-    begun.says(2)
+    begun.says('rt: reads')
     clone.source.write_text('second')
     clone.let_go()
     return answers(begun.ended()) and answers(run(clone), 'second')
@@ -154,7 +165,7 @@ def an_edit_that_is_undone_while_it_proves_is_seen(clone):
     clone.source.write_text('second')
     clone.hold()
     begun = clone.start()
-    begun.says(2)
+    begun.says('rt: reads')
     clone.source.write_text('first')
     clone.let_go()
     return answers(begun.ended(), 'second') and answers(run(clone))
@@ -203,7 +214,7 @@ def a_symbolic_link_is_followed(clone):
 def the_second_of_two_at_once_is_refused(clone):
     clone.hold()
     begun = clone.start()
-    begun.says(2)
+    begun.says('rt: reads')
     second = run(clone)
     clone.let_go()
     return refuses(second, 'another') and answers(begun.ended()) and answers(run(clone)) and clone.calls() == 1
@@ -226,6 +237,26 @@ def a_program_that_was_built_does_not_hide_a_broken_source(clone):
     return answers(first) and refuses(run(clone), 'not proved') and refuses(run(clone), 'not proved')
 
 
+def a_crate_that_is_not_there_is_refused(clone):
+    status, _, errors = run(clone, ['./prove.sh', 'other'])
+    return status == 1 and errors == ['prove.sh: crates.txt has no crate other']
+
+
+def a_broken_library_is_named(clone):
+    (clone.root / 'crates/bitrun_text/src/lib.rt').write_text('broken')
+    status, _, errors = run(clone, ['./prove.sh', 'bitrun'])
+    return status == 1 and 'rt: not proved: broken' in errors and errors[-1] == 'prove.sh: bitrun_text is not proved: its messages are above'
+
+
+def an_interrupt_is_said(clone):
+    (clone.root / 'hold_check').touch()
+    begun = clone.start(['./prove.sh', 'bitrun'])
+    time.sleep(1)
+    begun.process.terminate()
+    status, _, errors = begun.ended()
+    return status == 130 and errors[-1].startswith('prove.sh: interrupted')
+
+
 CASES = [
     progress_is_shown_as_it_goes,
     what_is_built_runs_at_once,
@@ -241,6 +272,9 @@ CASES = [
     without_rt_it_is_refused,
     a_broken_source_is_refused,
     a_program_that_was_built_does_not_hide_a_broken_source,
+    a_crate_that_is_not_there_is_refused,
+    a_broken_library_is_named,
+    an_interrupt_is_said,
 ]
 
 
@@ -250,9 +284,9 @@ def main():
         with tempfile.TemporaryDirectory() as folder:
             if not case(Clone(Path(folder))):
                 wrong += 1
-                print(f'bitrun.sh: not so: {case.__name__.replace("_", " ")}')
+                print(f'not so: {case.__name__.replace("_", " ")}')
     if not wrong:
-        print(f'bitrun.sh: as it should be, in {len(CASES)} cases')
+        print(f'bitrun.sh and prove.sh: as they should be, in {len(CASES)} cases')
     return 1 if wrong else 0
 
 
