@@ -12,7 +12,8 @@ ROOT = Path(__file__).resolve().parent.parent
 PAGE = ROOT / 'docs/API.md'
 CALLS = ROOT / 'docs/CALLS.md'
 BASE = 'arbitrary_base'
-LIBRARIES = ['arbitrary_int', 'bit_fields', 'arbitrary_calls', 'arbitrary_core', 'arbitrary_traits', BASE]
+LIBRARIES = ['arbitrary_int', 'bit_fields', 'arbitrary_calls', 'arbitrary_version_1', 'arbitrary_constants', 'arbitrary_core', 'arbitrary_widths', 'arbitrary_traits',
+             BASE]
 HEAD = '''# The public items of the libraries
 
 [api_index.py](../tools/api_index.py) writes this page from the sources. A row has an item, the first sentence of its comment, and the names of

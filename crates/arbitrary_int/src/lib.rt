@@ -6,7 +6,6 @@ pub mod borsh;
 pub mod byte_laws;
 pub mod byte_orders;
 pub mod laws;
-pub mod number;
 pub mod prelude;
 pub mod ranges;
 pub mod runs;
@@ -18,7 +17,6 @@ pub mod widths;
 
 pub use crate::borsh::{BorshDeserialize, BorshSerialize};
 pub use crate::byte_orders::ByteOrders;
-pub use crate::number::Number;
 pub use crate::ranges::{ValueRange, range_inclusive};
 pub use crate::runs::{run, well_formed};
 pub use crate::stepping::Stepping;
@@ -49,3 +47,4 @@ pub use arbitrary_core::aliases::unsigned::{
 };
 pub use arbitrary_core::signed::Int;
 pub use arbitrary_core::unsigned::UInt;
+pub use arbitrary_version_1::number::Number;
