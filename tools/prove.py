@@ -68,10 +68,6 @@ class Function:
         self.name = name
         file, line = PLACE.search(offer).groups()
         self.file, self.line = file, int(line)
-        self.take_goals(offer)
-
-    def take_goals(self, offer):
-        self.offer = offer
         self.head = '\n'.join(it for it in offer.splitlines() if it.startswith('use '))
         self.goals = {goal: (type_, rest) for goal, type_, rest in GOAL.findall(offer)}
         # by goal, values that break it whatever the laws
@@ -124,6 +120,10 @@ class Copies:
             raise Stop(why(self.crate, said, code))
         return said
 
+    @staticmethod
+    def answers_of(room, function):
+        return room / 'crate/proofs' / function.name.replace('::', '/') / 'Answers.antt'
+
     def tried(self, attempts):
         """Tries these attempts, lists of a goal and laws by function, side by side. Notes what closes a goal, and the words of each."""
         shares = [{} for _ in self.rooms]
@@ -137,14 +137,12 @@ class Copies:
             if not share:
                 return {}
             for function, listed in share.items():
-                file = room / 'crate/proofs' / function.name.replace('::', '/') / 'Answers.antt'
-                file.parent.mkdir(parents=True, exist_ok=True)
-                file.write_text(function.answers(listed))
+                write({self.answers_of(room, function): function.answers(listed)})
             said = self.check(room, [function.name for function in share], '--allow-holes')
             failed = {(path.replace('/', '::'), int(number)) for path, number in FAILED.findall(said)}
             shown = {(path.replace('/', '::'), goal): text for path, goal, text in HOLE.findall(said)}
             for function, listed in share.items():
-                shutil.rmtree(room / 'crate/proofs' / function.name.replace('::', '/'))
+                self.answers_of(room, function).unlink()
                 for number, (goal, laws) in enumerate(listed):
                     # where the goal is not shown the answers were not read
                     if (function.name, goal) in shown:
@@ -219,8 +217,12 @@ def verdicts(crate, said):
 
 def offers(said):
     """The functions whose goals a check shows, by name."""
-    found = {path.replace('/', '::'): re.sub(r'^    ', '', text, flags=re.M) for path, text in OFFER.findall(said)}
-    return {name: Function(name, text) for name, text in found.items() if GOAL.search(text) and PLACE.search(text)}
+    texts = {path.replace('/', '::'): re.sub(r'^    ', '', text, flags=re.M) for path, text in OFFER.findall(said)}
+    found = {name: Function(name, text) for name, text in texts.items() if GOAL.search(text) and PLACE.search(text)}
+    for goal, path, values in FALSE.findall(said):
+        if (name := path.replace('/', '::')) in found:
+            found[name].broken[goal] = values
+    return found
 
 
 def with_attribute(text, function, paths):
@@ -405,11 +407,7 @@ def first_check(crate, names):
     said, code = run(['rt', 'check', *(word for name in names for word in ('--only', name))], ROOT / 'crates' / crate)
     if not ENDED.search(said):
         raise Stop(why(crate, said, code))
-    found = {name: it for name, it in offers(said).items() if not names or name in names}
-    for goal, path, values in FALSE.findall(said):
-        if (name := path.replace('/', '::')) in found:
-            found[name].broken[goal] = values
-    return verdicts(crate, said), found
+    return verdicts(crate, said), {name: it for name, it in offers(said).items() if not names or name in names}
 
 
 def found_in(copies, index, functions):
