@@ -66,7 +66,7 @@ pub fn back_and_forth(a: u12, b: u12) -> u12
 }
 
 /// Modulo 4096. That it is the same value as `a.wrapping_add(u12::new(2))` is not found.
-#[tactic(auto, using(arbitrary_laws::proofs::Sets::numbers))]
+#[tactic(auto, using(arbitrary_laws::proofs::Everyday::everyday))]
 pub fn wrapping_twice(a: u12) -> u12
     ensures { Congruent 12 result (a +ℤ pos 2) }
 {

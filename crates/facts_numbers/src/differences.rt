@@ -1,6 +1,6 @@
 //! Distances that wrap, and negation.
 //! None has a proof of its own: the file names one set of laws.
-#![tactic(auto, using(arbitrary_laws::proofs::Sets::sums))]
+#![tactic(auto, using(arbitrary_laws::proofs::sums::Rulesets::negations))]
 
 ghost use Rattle.std.specs.Prelude.{◌≡◌, pos, IsTrue};
 

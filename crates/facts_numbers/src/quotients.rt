@@ -1,6 +1,6 @@
 //! Quotients times their divisor, and powers.
 //! None has a proof of its own: the file names one set of laws.
-#![tactic(auto, using(arbitrary_laws::proofs::Sets::numbers))]
+#![tactic(auto, using(arbitrary_laws::proofs::numbers::Rulesets::quotients))]
 
 ghost use Rattle.std.specs.Prelude.{◌≡◌, ◌*ℤ◌, ◌≤ℤ◌, ◌<ℤ◌, pos};
 

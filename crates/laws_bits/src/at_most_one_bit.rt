@@ -1,5 +1,5 @@
 //! A law of a number of which one bit is one, told by the bit that is cleared and by the count at once.
-#![tactic(auto, using(arbitrary_laws::proofs::Sets::counts))]
+#![tactic(auto, using(arbitrary_laws::proofs::bits::AtMostOneBit::at_most_one_bit))]
 
 ghost use Rattle.std.specs.Prelude.{IsTrue};
 

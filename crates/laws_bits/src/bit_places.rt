@@ -1,11 +1,12 @@
 //! Laws of bits by their places, at types with and without a sign: one bit that is set, cleared or turned over, and then tested; and flags
 //! that are tested at once, beside the tests of each.
-#![tactic(auto, using(arbitrary_laws::proofs::Sets::masks))]
+#![tactic(auto, using(arbitrary_laws::proofs::masks::FlagTests::flag_tests))]
 
 ghost use Rattle.std.specs.Prelude.{◌<◌, IsTrue};
 
 use arbitrary_int::prelude::*;
 
+#[tactic(auto, using(arbitrary_laws::proofs::places::BitPlaces::bit_places))]
 pub fn turned_then_tested(x: u12, place: u32) -> bool
     requires { place < 12 }
     ensures { IsTrue result }
@@ -14,6 +15,7 @@ pub fn turned_then_tested(x: u12, place: u32) -> bool
     ((x ^ one) & one == u12::new(0)) == (x & one != u12::new(0))
 }
 
+#[tactic(auto, using(arbitrary_laws::proofs::places::BitPlaces::bit_places))]
 pub fn set_then_tested_with_a_sign(x: i12, place: u32) -> bool
     requires { place < 12 }
     ensures { IsTrue result }
@@ -21,6 +23,7 @@ pub fn set_then_tested_with_a_sign(x: i12, place: u32) -> bool
     ((x | (i12::new(1) << place)) >> place) & i12::new(1) == i12::new(1)
 }
 
+#[tactic(auto, using(arbitrary_laws::proofs::places::Rulesets::bit_tests))]
 pub fn turned_then_read(x: u12, place: u32) -> bool
     requires { place < 12 }
     ensures { IsTrue result }

@@ -1,6 +1,6 @@
 //! Laws of one of `& | ^` with `!`, once or nested, each by the set `bits` alone. `distribution` has two of them, one over the
 //! other.
-#![tactic(auto, using(arbitrary_laws::proofs::Sets::bits))]
+#![tactic(auto, using(arbitrary_laws::proofs::bits::Rulesets::bits))]
 
 ghost use Rattle.std.specs.Prelude.{IsTrue};
 

@@ -1,5 +1,5 @@
 //! Laws of the counts of a number that is converted: to the other sign, and to one of Rust's own integers.
-#![tactic(auto, using(arbitrary_laws::proofs::Sets::counts))]
+#![tactic(auto, using(arbitrary_laws::proofs::counts::ConvertedCounts::converted_counts))]
 
 ghost use Rattle.std.specs.Prelude.{◌≢◌, pos, IsTrue};
 

@@ -1,5 +1,5 @@
 //! Laws of counts beside other counts, of shifted numbers and of one bit. `counts` has those of one number that is turned or complemented.
-#![tactic(auto, using(arbitrary_laws::proofs::Sets::counts))]
+#![tactic(auto, using(arbitrary_laws::proofs::counts::CountBounds::count_bounds))]
 
 ghost use Rattle.std.specs.Prelude.{◌<◌, IsTrue};
 

@@ -1,5 +1,5 @@
 //! Laws of counts of bits.
-#![tactic(auto, using(arbitrary_laws::proofs::Sets::counts))]
+#![tactic(auto, using(arbitrary_laws::proofs::counts::Rulesets::counts))]
 
 ghost use Rattle.std.specs.Prelude.{IsTrue};
 

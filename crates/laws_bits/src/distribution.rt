@@ -1,5 +1,5 @@
 //! Laws of `& | ^ !`, one over another.
-#![tactic(auto, using(arbitrary_laws::proofs::Sets::bits))]
+#![tactic(auto, using(arbitrary_laws::proofs::bits::Rulesets::distribution))]
 
 ghost use Rattle.std.specs.Prelude.{IsTrue};
 

@@ -1,32 +1,31 @@
 //! Laws of fields that `|` puts together, of fields written in place, and of one bit and the others.
-#![tactic(auto)]
+#![tactic(auto, using(arbitrary_laws::proofs::fields::Rulesets::written_fields))]
 
 ghost use Rattle.std.specs.Prelude.{◌≡◌, ◌≢◌, ◌/◌, ◌%◌, ◌^◌, ◌<◌, ◌+ℤ◌, ◌*ℤ◌, ◌<ℤ◌, ℕ, pos, int_div, unsigned_abs, IsTrue};
 
 use arbitrary_int::prelude::*;
 
-#[tactic(auto, using(arbitrary_laws::proofs::Sets::fields))]
+#[tactic(auto, using(arbitrary_laws::proofs::fields::Rulesets::fields))]
 pub fn or_of_fields(high: u5, middle: u6, low: u5) -> u16
     ensures { pos result ≡ pos 2048 *ℤ high +ℤ pos 32 *ℤ middle +ℤ low }
 {
     (u16::from_(high) << 11) | (u16::from_(middle) << 5) | u16::from_(low)
 }
 
-#[tactic(auto, using(arbitrary_laws::proofs::Sets::fields))]
+#[tactic(auto, using(arbitrary_laws::proofs::fields::Rulesets::replaced_fields))]
 pub fn replaced_is_read(register: u16, field: u6) -> u6
     ensures { result ≡ field }
 {
     u6::extract_u16((register & !0x07E0) | (u16::from_(field) << 5), 5)
 }
 
-#[tactic(auto, using(arbitrary_laws::proofs::Sets::fields))]
+#[tactic(auto, using(arbitrary_laws::proofs::fields::Rulesets::cleared_fields))]
 pub fn written_below(register: u12, field: u4) -> u12
     ensures { result ≡ pos 16 *ℤ int_div register (pos 16) +ℤ field }
 {
     (register & !u12::new(15)) | u12::from_(field)
 }
 
-#[tactic(auto, using(arbitrary_laws::proofs::Sets::fields))]
 pub fn written_is_under_the_mask(register: u24, mode: u2) -> bool
     ensures { IsTrue result }
 {
@@ -34,7 +33,6 @@ pub fn written_is_under_the_mask(register: u24, mode: u2) -> bool
     written & u24::new(0x30) == u24::from_(mode) << 4
 }
 
-#[tactic(auto, using(arbitrary_laws::proofs::Sets::fields))]
 pub fn others_are_outside_the_mask(register: u24, mode: u2) -> bool
     ensures { IsTrue result }
 {
@@ -42,7 +40,6 @@ pub fn others_are_outside_the_mask(register: u24, mode: u2) -> bool
     written & !u24::new(0x30) == register & !u24::new(0x30)
 }
 
-#[tactic(auto, using(arbitrary_laws::proofs::Sets::fields))]
 pub fn lowest_is_under_the_mask(register: u48, level: u7) -> bool
     ensures { IsTrue result }
 {
@@ -50,7 +47,7 @@ pub fn lowest_is_under_the_mask(register: u48, level: u7) -> bool
     written & u48::new(127) == u48::from_(level)
 }
 
-#[tactic(auto, using(arbitrary_laws::proofs::Sets::masks))]
+#[tactic(auto, using(arbitrary_laws::proofs::places::Rulesets::other_bits))]
 pub fn other_bits_stay(map: u24, place: u5) -> u24
     requires { place <ℤ pos 24 }
     ensures { (k : ℕ) → k ≢ unsigned_abs place
@@ -59,7 +56,7 @@ pub fn other_bits_stay(map: u24, place: u5) -> u24
     map | (u24::new(1) << place.value())
 }
 
-#[tactic(auto, using(arbitrary_laws::proofs::Sets::masks))]
+#[tactic(auto, using(arbitrary_laws::proofs::places::Rulesets::bit_tests))]
 pub fn another_bit_is_tested_as_before(map: u24, place: u8, other: u8) -> bool
     requires place { place < 24 }
     requires other { other < 24 }
@@ -70,7 +67,7 @@ pub fn another_bit_is_tested_as_before(map: u24, place: u8, other: u8) -> bool
     ((set >> place) & u24::new(1) == u24::new(1)) == ((map >> place) & u24::new(1) == u24::new(1))
 }
 
-#[tactic(auto, using(arbitrary_laws::proofs::Sets::masks))]
+#[tactic(auto, using(arbitrary_laws::proofs::places::Rulesets::bit_tests))]
 pub fn complement_is_tested(map: u24, place: u8) -> bool
     requires { place < 24 }
     ensures { IsTrue result }
@@ -78,7 +75,7 @@ pub fn complement_is_tested(map: u24, place: u8) -> bool
     ((!map >> place) & u24::new(1) == u24::new(1)) == ((map >> place) & u24::new(1) == u24::zero())
 }
 
-#[tactic(auto, using(arbitrary_laws::proofs::Sets::fields))]
+#[tactic(auto, using(arbitrary_laws::proofs::fields::Rulesets::fields))]
 pub fn six_fields(a: u7, b: u5, c: u5, d: u3, e: u5, f: u7) -> u32
     ensures { pos result ≡ pos 33554432 *ℤ a +ℤ pos 1048576 *ℤ b +ℤ pos 32768 *ℤ c +ℤ pos 4096 *ℤ d
         +ℤ pos 128 *ℤ e +ℤ f }

@@ -1,6 +1,6 @@
 //! Words of any number of fields, put together by `|` and read back: one set for every spelling and either order.
 //! None has a proof of its own: the file names one set of laws, and some functions that with tests by `==`.
-#![tactic(auto, using(arbitrary_laws::proofs::Sets::fields))]
+#![tactic(auto, using(arbitrary_laws::proofs::fields::JoinedWords::joined_words))]
 
 ghost use Rattle.std.specs.Prelude.{◌≡◌, ◌+◌, ◌*◌, ◌/◌, ◌%◌, ◌+ℤ◌, ◌*ℤ◌, pos, IsTrue, false, if◌then◌else◌};
 ghost use Rattle.arbitrary_int.specs.Field.{field};
@@ -220,6 +220,7 @@ pub fn one_of_five_under_a_mask(a: u3, b: u5, c: u8, d: u6, e: u10) -> u32
     (word >> 10) & 0x3F
 }
 
+#[tactic(auto, using(arbitrary_laws::proofs::fields::JoinedWords::words_read_back))]
 pub fn each_read_back(version: u4, kind: u4, size: u24) -> bool
     ensures { IsTrue result }
 {
@@ -229,6 +230,7 @@ pub fn each_read_back(version: u4, kind: u4, size: u24) -> bool
         && u24::extract_u32(word, 0) == size
 }
 
+#[tactic(auto, using(arbitrary_laws::proofs::fields::JoinedWords::words_read_back))]
 pub fn read_back_beside_numbers(mode: u3, source: u5) -> bool
     ensures { IsTrue result }
 {
@@ -236,6 +238,7 @@ pub fn read_back_beside_numbers(mode: u3, source: u5) -> bool
     u3::extract_u16(word, 8) == mode && word.as_::<u5>() == source && word >> 15 == 1
 }
 
+#[tactic(auto, using(arbitrary_laws::proofs::fields::JoinedWords::words_read_back))]
 pub fn read_back_below_a_mask(word: u32, low: u5, high: u3) -> bool
     ensures { IsTrue result }
 {

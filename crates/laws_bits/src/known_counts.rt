@@ -1,5 +1,5 @@
 //! Laws of the counts of a number that is written out.
-#![tactic(auto, using(arbitrary_laws::proofs::Sets::counts))]
+#![tactic(auto, using(arbitrary_laws::proofs::counts::Rulesets::known_counts))]
 
 ghost use Rattle.std.specs.Prelude.{IsTrue};
 

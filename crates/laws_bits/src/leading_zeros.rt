@@ -1,6 +1,6 @@
 //! Laws of the zeros at the high end: of a number that is written out, below a power of two or from one on, of the greater of two, and beside
 //! the count of a primitive.
-#![tactic(auto, using(arbitrary_laws::proofs::Sets::counts))]
+#![tactic(auto, using(arbitrary_laws::proofs::counts::LeadingZeros::leading_zeros))]
 
 ghost use Rattle.std.specs.Prelude.{◌≤◌, ◌≤ℤ◌, ◌<ℤ◌, pos, IsTrue};
 

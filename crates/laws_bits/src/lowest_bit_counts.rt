@@ -1,5 +1,5 @@
 //! Laws of the bits that are one in a number's lowest bit and the zeros below it.
-#![tactic(auto, using(arbitrary_laws::proofs::Sets::counts))]
+#![tactic(auto, using(arbitrary_laws::proofs::counts::LowestBitCounts::lowest_bit_counts))]
 
 ghost use Rattle.std.specs.Prelude.{◌<◌, IsTrue};
 

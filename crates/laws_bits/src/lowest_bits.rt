@@ -1,5 +1,5 @@
 //! Laws of the lowest bit that is one: `x & (x - 1)` clears it, which leaves 0 of a power of two, and `x & -x` leaves it alone.
-#![tactic(auto, using(arbitrary_laws::proofs::Sets::counts))]
+#![tactic(auto, using(arbitrary_laws::proofs::places::LowestBit::lowest_bits))]
 
 ghost use Rattle.std.specs.Prelude.{◌≢◌, ◌<◌, pos, IsTrue};
 
@@ -30,6 +30,7 @@ pub fn left_alone_has_as_many_zeros_below(x: u24) -> bool
     (x & x.wrapping_neg()).trailing_zeros() == x.trailing_zeros()
 }
 
+#[tactic(auto, using(arbitrary_laws::proofs::places::LowestBit::powers_of_two))]
 pub fn power_of_two_has_none_left(x: u24) -> bool
     requires { x ≢ pos 0 }
     ensures { IsTrue result }
@@ -37,6 +38,7 @@ pub fn power_of_two_has_none_left(x: u24) -> bool
     (x & (x - u24::new(1)) == u24::zero()) == (x.count_ones() == 1)
 }
 
+#[tactic(auto, using(arbitrary_laws::proofs::places::LowestBit::powers_of_two))]
 pub fn one_shifted_is_a_power_of_two(place: u8) -> bool
     requires { place < 12 }
     ensures { IsTrue result }

@@ -1,5 +1,5 @@
 //! Two tests of bits that tell the same, each by the set `mask_tests` alone.
-#![tactic(auto, using(arbitrary_laws::proofs::Sets::bits))]
+#![tactic(auto, using(arbitrary_laws::proofs::bits::Rulesets::mask_tests))]
 
 ghost use Rattle.std.specs.Prelude.{◌≡◌, ◌↔◌, pos, IsTrue};
 

@@ -1,5 +1,5 @@
 //! Laws of numbers under a mask, at types of both signs.
-#![tactic(auto, using(arbitrary_laws::proofs::Sets::bits))]
+#![tactic(auto, using(arbitrary_laws::proofs::bits::Rulesets::masks))]
 
 ghost use Rattle.std.specs.Prelude.{IsTrue};
 

@@ -1,5 +1,5 @@
 //! Laws of a number shifted by the zeros at its low end: an odd number is left, and shifted back it is the number again.
-#![tactic(auto, using(arbitrary_laws::proofs::Sets::counts))]
+#![tactic(auto, using(arbitrary_laws::proofs::counts::NormalShifts::normal_shifts))]
 
 ghost use Rattle.std.specs.Prelude.{◌≡◌, ◌≢◌, ◌%◌, pos, unsigned_abs, IsTrue};
 

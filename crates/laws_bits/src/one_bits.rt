@@ -1,5 +1,5 @@
 //! Laws of the numbers `1 << place` and `(1 << place) - 1`.
-#![tactic(auto, using(arbitrary_laws::proofs::Sets::masks))]
+#![tactic(auto, using(arbitrary_laws::proofs::places::OneBits::one_bits))]
 
 ghost use Rattle.std.specs.Prelude.{◌≢◌, ◌<◌, IsTrue};
 
@@ -21,7 +21,7 @@ pub fn apart(place: u32, other: u32) -> bool
     u12::new(1) << place != u12::new(1) << other
 }
 
-#[tactic(auto, using(arbitrary_laws::proofs::Sets::counts))]
+#[tactic(auto, using(arbitrary_laws::proofs::places::OneBits::one_bit_counts))]
 pub fn zeros_above(place: u32) -> bool
     requires { place < 24 }
     ensures { IsTrue result }
@@ -29,7 +29,7 @@ pub fn zeros_above(place: u32) -> bool
     (u24::new(1) << place).leading_zeros() == 23 - place
 }
 
-#[tactic(auto, using(arbitrary_laws::proofs::Sets::counts))]
+#[tactic(auto, using(arbitrary_laws::proofs::places::OneBits::one_bit_counts))]
 pub fn ones_of_the_number_before(place: u32) -> bool
     requires { place < 12 }
     ensures { IsTrue result }

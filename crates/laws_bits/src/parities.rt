@@ -1,5 +1,5 @@
 //! Laws of whether the number of ones is odd.
-#![tactic(auto, using(arbitrary_laws::proofs::Sets::counts))]
+#![tactic(auto, using(arbitrary_laws::proofs::counts::Population::parities))]
 
 ghost use Rattle.std.specs.Prelude.{◌<◌, IsTrue};
 

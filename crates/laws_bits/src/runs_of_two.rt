@@ -1,5 +1,5 @@
 //! Laws of the zeros and ones at the ends of `&`, `|` and `^` of two numbers and of a shifted one, and of both ends of one number.
-#![tactic(auto, using(arbitrary_laws::proofs::Sets::counts))]
+#![tactic(auto, using(arbitrary_laws::proofs::counts::RunsOfTwo::runs_of_two))]
 
 ghost use Rattle.std.specs.Prelude.{◌≢◌, pos, IsTrue};
 
@@ -17,6 +17,7 @@ pub fn leading_zeros_of_right_shift(x: u24) -> bool
     (x >> 3).leading_zeros() == (x.leading_zeros() + 3).min(24)
 }
 
+#[tactic(auto, using(arbitrary_laws::proofs::counts::RunsOfTwo::both_ends))]
 pub fn zeros_at_both_ends(x: u12) -> bool
     requires { x ≢ pos 0 }
     ensures { IsTrue result }
@@ -24,6 +25,7 @@ pub fn zeros_at_both_ends(x: u12) -> bool
     x.leading_zeros() + x.trailing_zeros() < 12
 }
 
+#[tactic(auto, using(arbitrary_laws::proofs::counts::RunsOfTwo::highest_one))]
 pub fn moved_up_to_the_highest_place(x: u12) -> bool
     requires { x ≢ pos 0 }
     ensures { IsTrue result }

@@ -1,5 +1,5 @@
 //! Laws of the zeros at the low end of a multiple of a power of two.
-#![tactic(auto, using(arbitrary_laws::proofs::Sets::counts))]
+#![tactic(auto, using(arbitrary_laws::proofs::counts::TrailingZeros::trailing_zeros))]
 
 ghost use Rattle.std.specs.Prelude.{◌≢◌, pos, IsTrue};
 

@@ -1,5 +1,5 @@
 //! Written numbers that follow each other under `&`, `|` and `^`, and the parts of a number under written masks.
-#![tactic(auto, using(arbitrary_laws::proofs::Sets::masks))]
+#![tactic(auto, using(arbitrary_laws::proofs::masks::Rulesets::written_masks))]
 
 ghost use Rattle.std.specs.Prelude.{IsTrue};
 

@@ -1,5 +1,5 @@
 //! Written numbers at any width of one storage that has room for them.
-#![tactic(auto, using(arbitrary_laws::proofs::Sets::numbers))]
+#![tactic(auto, using(arbitrary_laws::proofs::written::AnyWidth::any_width))]
 
 ghost use Rattle.std.specs.Prelude.{◌≡◌, ◌≤◌, ◌<◌, ◌+ℤ◌, ◌<ℤ◌, false, pos, IsTrue};
 ghost use Rattle.arbitrary_int.specs.Range.{hi};

@@ -1,5 +1,5 @@
 //! A number in a type of as many bits or more, where the widths are not known.
-#![tactic(auto, using(arbitrary_laws::proofs::Sets::numbers))]
+#![tactic(auto, using(arbitrary_laws::proofs::numbers::WiderRanges::wider_ranges))]
 
 ghost use Rattle.std.specs.Prelude.{◌≡◌, ◌≤◌, ◌<◌, ◌+ℤ◌, false};
 ghost use Rattle.arbitrary_int.specs.Residue.{Congruent};

@@ -1,5 +1,5 @@
 //! How far two numbers with a sign are apart, read without one: it is exact also where the difference itself would be out of range.
-#![tactic(auto, using(arbitrary_laws::proofs::Sets::numbers))]
+#![tactic(auto, using(arbitrary_laws::proofs::sums::Distances::distances))]
 
 ghost use Rattle.std.specs.Prelude.{◌≡◌, ◌-ℤ◌, ◌≤ℤ◌};
 

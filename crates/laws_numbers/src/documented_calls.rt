@@ -1,6 +1,6 @@
 //! What the Rust crate's documentation shows of its calls on written numbers, where the contracts alone don't tell it: the other
 //! examples prove with no set.
-#![tactic(auto, using(arbitrary_laws::proofs::Sets::numbers))]
+#![tactic(auto, using(arbitrary_laws::proofs::written::KnownCalls::known_calls))]
 
 ghost use Rattle.std.specs.Prelude.{IsTrue};
 

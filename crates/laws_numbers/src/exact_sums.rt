@@ -1,5 +1,5 @@
 //! Laws of sums and differences that wrap, of numbers that were converted or wrapped before: in range they are exact.
-#![tactic(auto, using(arbitrary_laws::proofs::Sets::numbers))]
+#![tactic(auto, using(arbitrary_laws::proofs::sums::ExactSums::exact_sums))]
 
 ghost use Rattle.std.specs.Prelude.{◌≡◌, ◌+ℤ◌, ◌-ℤ◌, ◌≤ℤ◌, pos, IsTrue};
 

@@ -1,5 +1,5 @@
 //! Laws of bits of numbers that are extended: at the wider type, and at the storage and wider primitives, they are the same.
-#![tactic(auto, using(arbitrary_laws::proofs::Sets::numbers))]
+#![tactic(auto, using(arbitrary_laws::proofs::signs::Extensions::extensions))]
 
 ghost use Rattle.std.specs.Prelude.{◌<◌, IsTrue};
 

@@ -1,5 +1,5 @@
 //! What the calls give on numbers that are written out.
-#![tactic(auto, using(arbitrary_laws::proofs::Sets::numbers))]
+#![tactic(auto, using(arbitrary_laws::proofs::written::Rulesets::known_numbers))]
 
 ghost use Rattle.std.specs.Prelude.{IsTrue};
 

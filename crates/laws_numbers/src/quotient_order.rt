@@ -1,5 +1,5 @@
 //! Laws of quotients beside their dividends, beside other quotients, and of a product that is divided again.
-#![tactic(auto, using(arbitrary_laws::proofs::Sets::numbers))]
+#![tactic(auto, using(arbitrary_laws::proofs::numbers::QuotientOrder::quotient_order))]
 
 ghost use Rattle.std.specs.Prelude.{◌≢◌, ◌<ℤ◌, ◌≤ℤ◌, ◌≡◌, pos, IsTrue};
 

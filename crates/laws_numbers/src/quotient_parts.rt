@@ -1,5 +1,5 @@
 //! Laws of quotients whose dividend is a sum, a product, a quotient or a negated number, of those that are 0, and of two in order.
-#![tactic(auto, using(arbitrary_laws::proofs::Sets::numbers))]
+#![tactic(auto, using(arbitrary_laws::proofs::numbers::QuotientParts::quotient_parts))]
 
 ghost use Rattle.std.specs.Prelude.{◌+ℤ◌, ◌-ℤ◌, ◌<ℤ◌, ◌≤ℤ◌, IsTrue, pos};
 
@@ -54,6 +54,7 @@ pub fn of_a_negated_number(x: i12, y: i12) -> bool
     (-x) / y == -(x / y)
 }
 
+#[tactic(auto, using(arbitrary_laws::proofs::numbers::QuotientParts::quotient_pairs))]
 pub fn in_order_by_less(x: u63, y: u63, a: u63, b: u63) -> bool
     requires dividends { x ≤ℤ y }
     requires some { pos 0 <ℤ a }

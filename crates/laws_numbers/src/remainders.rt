@@ -1,5 +1,5 @@
 //! A number less its quotient times the divisor: the remainder, and where it lies.
-#![tactic(auto, using(arbitrary_laws::proofs::Sets::numbers))]
+#![tactic(auto, using(arbitrary_laws::proofs::numbers::Remainders::remainders))]
 
 ghost use Rattle.std.specs.Prelude.{◌≡◌, ◌<ℤ◌, IsTrue, int_rem, neg_ℤ, pos};
 
@@ -20,12 +20,14 @@ pub fn signed_remainder(x: i24, y: i24) -> i24
     x - (x / y) * y
 }
 
+#[tactic(auto, using(arbitrary_laws::proofs::numbers::Remainders::natural_remainders))]
 pub fn below_natural_divisor(x: u12, y: u12) -> bool
     ensures { IsTrue result }
 {
     y == u12::new(0) || x - (x / y) * y < y
 }
 
+#[tactic(auto, using(arbitrary_laws::proofs::numbers::Remainders::natural_remainders))]
 pub fn remainder(x: u24, y: u24) -> u24
     requires { pos 0 <ℤ y }
     ensures high { result <ℤ y }

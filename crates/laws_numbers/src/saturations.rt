@@ -1,5 +1,5 @@
 //! Laws of differences that clamp, one after another, and what clamps by tests.
-#![tactic(auto, using(arbitrary_laws::proofs::Sets::orders))]
+#![tactic(auto, using(arbitrary_laws::proofs::sums::Saturations::saturations))]
 
 ghost use Rattle.std.specs.Prelude.{◌≡◌, true, IsTrue};
 ghost use Rattle.arbitrary_int.specs.Saturating.{clamp};

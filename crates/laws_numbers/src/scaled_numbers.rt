@@ -1,5 +1,5 @@
 //! Laws of numbers that are multiplied, and divided by no less: percents and other parts of a whole.
-#![tactic(auto, using(arbitrary_laws::proofs::Sets::numbers))]
+#![tactic(auto, using(arbitrary_laws::proofs::numbers::QuotientOrder::scaled_numbers))]
 
 ghost use Rattle.std.specs.Prelude.{◌<ℤ◌, ◌≤ℤ◌, pos};
 

@@ -1,5 +1,5 @@
 //! Laws of a number with its bytes in the other order, beside bits, counts and reversals.
-#![tactic(auto, using(arbitrary_laws::proofs::Sets::bytes))]
+#![tactic(auto, using(arbitrary_laws::proofs::bytes::SwappedBytes::swapped_words))]
 
 ghost use Rattle.std.specs.Prelude.{IsTrue};
 

@@ -1,5 +1,5 @@
 //! Laws of a result that is converted to a narrower type: the operation may come before the conversion or behind it.
-#![tactic(auto, using(arbitrary_laws::proofs::Sets::numbers))]
+#![tactic(auto, using(arbitrary_laws::proofs::shifts::Truncations::truncations))]
 
 ghost use Rattle.std.specs.Prelude.{IsTrue};
 

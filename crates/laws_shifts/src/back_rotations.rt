@@ -1,5 +1,5 @@
 //! Laws of a rotation to the right by an amount that varies, as one to the left by the rest of the width.
-#![tactic(auto, using(arbitrary_laws::proofs::Sets::shifts))]
+#![tactic(auto, using(arbitrary_laws::proofs::rotations::BackRotations::back_rotations))]
 
 ghost use Rattle.std.specs.Prelude.{◌≤◌, IsTrue};
 

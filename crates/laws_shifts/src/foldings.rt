@@ -1,11 +1,12 @@
 //! A number under `^` with itself shifted: Gray codes there and back, and steps of generators that undo themselves.
-#![tactic(auto, using(arbitrary_laws::proofs::Sets::shifts))]
+#![tactic(auto, using(arbitrary_laws::proofs::shifts::Rulesets::shifted_xors))]
 
 ghost use Rattle.std.specs.Prelude.{IsTrue};
 
 use arbitrary_int::prelude::*;
 
 /// Of four bits, back by doubled shifts.
+#[tactic(auto, using(arbitrary_laws::proofs::shifts::Rulesets::folds))]
 pub fn gray_of_four_bits(x: u4) -> bool
     ensures { IsTrue result }
 {
@@ -15,6 +16,7 @@ pub fn gray_of_four_bits(x: u4) -> bool
 }
 
 /// Of four bits, where the code is shifted by two places first.
+#[tactic(auto, using(arbitrary_laws::proofs::shifts::FoldingOrder::folding_orders))]
 pub fn gray_by_two_places_first(x: u4) -> bool
     ensures { IsTrue result }
 {
@@ -24,6 +26,7 @@ pub fn gray_by_two_places_first(x: u4) -> bool
 }
 
 /// Of twelve bits.
+#[tactic(auto, using(arbitrary_laws::proofs::shifts::Rulesets::folds))]
 pub fn gray_of_twelve_bits(x: u12) -> bool
     ensures { IsTrue result }
 {

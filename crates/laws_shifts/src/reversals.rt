@@ -1,5 +1,5 @@
 //! Laws of the reversal, and a rotation as two shifts.
-#![tactic(auto, using(arbitrary_laws::proofs::Sets::shifts))]
+#![tactic(auto, using(arbitrary_laws::proofs::rotations::Rulesets::reversals))]
 
 ghost use Rattle.std.specs.Prelude.{IsTrue, ◌<◌};
 

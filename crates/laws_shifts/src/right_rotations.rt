@@ -1,5 +1,5 @@
 //! Laws of rotations to the right, and of any two rotations in either order, by amounts that may vary.
-#![tactic(auto, using(arbitrary_laws::proofs::Sets::shifts))]
+#![tactic(auto, using(arbitrary_laws::proofs::rotations::RightRotations::right_rotations))]
 
 ghost use Rattle.std.specs.Prelude.{IsTrue};
 

@@ -1,5 +1,5 @@
 //! Laws of rotations.
-#![tactic(auto, using(arbitrary_laws::proofs::Sets::shifts))]
+#![tactic(auto, using(arbitrary_laws::proofs::rotations::Rulesets::rotations))]
 
 ghost use Rattle.std.specs.Prelude.{IsTrue};
 

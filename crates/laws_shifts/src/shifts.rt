@@ -1,5 +1,5 @@
 //! Laws of shifts, alone and over bits and sums.
-#![tactic(auto, using(arbitrary_laws::proofs::Sets::shifts))]
+#![tactic(auto, using(arbitrary_laws::proofs::shifts::Rulesets::shifts))]
 
 ghost use Rattle.std.specs.Prelude.{IsTrue, ◌≤ℤ◌, ◌<ℤ◌, negsuc, pos};
 

@@ -1,5 +1,5 @@
 //! Laws of the mask of the k lowest bits, where k varies, and of what it leaves of a number and clears.
-#![tactic(auto, using(arbitrary_laws::proofs::Sets::shifts))]
+#![tactic(auto, using(arbitrary_laws::proofs::masks::VariableMasks::variable_masks))]
 
 ghost use Rattle.std.specs.Prelude.{◌<◌, IsTrue};
 

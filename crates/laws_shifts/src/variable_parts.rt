@@ -1,5 +1,5 @@
 //! Laws of the k lowest bits of a number, where k varies, and of the bits above them: as exact sums and differences, and in order.
-#![tactic(auto, using(arbitrary_laws::proofs::Sets::shifts))]
+#![tactic(auto, using(arbitrary_laws::proofs::masks::VariableMasks::variable_parts))]
 
 ghost use Rattle.std.specs.Prelude.{◌<◌, IsTrue};
 

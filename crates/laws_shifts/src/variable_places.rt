@@ -1,5 +1,5 @@
 //! Laws of left shifts by an amount that varies, beside products and negation, and of bits at places that vary.
-#![tactic(auto, using(arbitrary_laws::proofs::Sets::shifts))]
+#![tactic(auto, using(arbitrary_laws::proofs::shifts::MovedProducts::moved_products))]
 
 ghost use Rattle.std.specs.Prelude.{◌<◌, ◌≢◌, IsTrue};
 
@@ -34,6 +34,7 @@ pub fn shifted_factor(x: u24, y: u24, k: u32) -> bool
     (x << k).wrapping_mul(y) == x.wrapping_mul(y) << k
 }
 
+#[tactic(auto, using(arbitrary_laws::proofs::places::VariablePlaces::variable_places))]
 pub fn set_beside_cleared(x: u24, i: u32, j: u32) -> bool
     requires one { i < 24 }
     requires other { j < 24 }
@@ -43,6 +44,7 @@ pub fn set_beside_cleared(x: u24, i: u32, j: u32) -> bool
     (x | u24::new(1) << i) & !(u24::new(1) << j) == (x & !(u24::new(1) << j)) | u24::new(1) << i
 }
 
+#[tactic(auto, using(arbitrary_laws::proofs::places::VariablePlaces::variable_places))]
 pub fn turned_beside_cleared(x: i12, i: u32, j: u32) -> bool
     requires one { i < 12 }
     requires other { j < 12 }
@@ -52,6 +54,7 @@ pub fn turned_beside_cleared(x: i12, i: u32, j: u32) -> bool
     (x ^ i12::new(1) << i) & !(i12::new(1) << j) == (x & !(i12::new(1) << j)) ^ i12::new(1) << i
 }
 
+#[tactic(auto, using(arbitrary_laws::proofs::places::VariablePlaces::variable_places))]
 pub fn lowest_bit_of_a_rotation(x: i24, place: u32) -> bool
     requires { place < 24 }
     ensures { IsTrue result }
@@ -59,6 +62,7 @@ pub fn lowest_bit_of_a_rotation(x: i24, place: u32) -> bool
     x.rotate_right(place) & i24::new(1) == (x >> place) & i24::new(1)
 }
 
+#[tactic(auto, using(arbitrary_laws::proofs::places::VariablePlaces::variable_places))]
 pub fn shifted_then_reversed(x: i24, k: u32) -> bool
     requires { k < 24 }
     ensures { IsTrue result }

@@ -1,5 +1,5 @@
 //! Laws of `|` and `^` beside the sum, which is no less.
-#![tactic(auto, using(arbitrary_laws::proofs::Sets::orders))]
+#![tactic(auto, using(arbitrary_laws::proofs::bits::BitSums::at_most_sums))]
 
 ghost use Rattle.std.specs.Prelude.{◌+ℤ◌, ◌≤ℤ◌, pos};
 

@@ -1,5 +1,5 @@
 //! Laws of bits beside exact sums and differences, and beside what clamps.
-#![tactic(auto, using(arbitrary_laws::proofs::Sets::orders))]
+#![tactic(auto, using(arbitrary_laws::proofs::bits::BitSums::bit_sums))]
 
 ghost use Rattle.std.specs.Prelude.{IsTrue};
 

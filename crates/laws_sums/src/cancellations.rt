@@ -1,6 +1,6 @@
 //! Laws of an operand that both sides of a test have, and that may be left out: each by the set `cancellations` alone. `order`
 //! has the laws of `<=` and its kin.
-#![tactic(auto, using(arbitrary_laws::proofs::Sets::orders))]
+#![tactic(auto, using(arbitrary_laws::proofs::orders::Rulesets::cancellations))]
 
 ghost use Rattle.std.specs.Prelude.{IsTrue};
 

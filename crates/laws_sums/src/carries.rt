@@ -1,5 +1,5 @@
 //! Laws of carries and borrows.
-#![tactic(auto, using(arbitrary_laws::proofs::Sets::sums))]
+#![tactic(auto, using(arbitrary_laws::proofs::sums::Rulesets::carries))]
 
 ghost use Rattle.std.specs.Prelude.{IsTrue};
 

@@ -1,5 +1,5 @@
 //! Laws of the complement of `^` and of `|` beside sums, and of `^` without carries.
-#![tactic(auto, using(arbitrary_laws::proofs::Sets::sums))]
+#![tactic(auto, using(arbitrary_laws::proofs::bits::ComplementParts::complement_parts))]
 
 ghost use Rattle.std.specs.Prelude.{IsTrue};
 
@@ -29,6 +29,7 @@ pub fn zeros_below_filled(x: i12) -> bool
     x | x.wrapping_sub(i12::new(1)) == x.wrapping_add(!x & x.wrapping_sub(i12::new(1)))
 }
 
+#[tactic(auto, using(arbitrary_laws::proofs::bits::ComplementParts::carried))]
 pub fn xor_without_carries(x: u12, y: u12) -> bool
     ensures { IsTrue result }
 {

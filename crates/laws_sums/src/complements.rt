@@ -1,5 +1,5 @@
 //! Laws of the complement beside sums and differences.
-#![tactic(auto, using(arbitrary_laws::proofs::Sets::sums))]
+#![tactic(auto, using(arbitrary_laws::proofs::sums::Rulesets::complements))]
 
 ghost use Rattle.std.specs.Prelude.{IsTrue};
 

@@ -1,5 +1,5 @@
 //! Powers, quotients and conversions at their ends.
-#![tactic(auto, using(arbitrary_laws::proofs::Sets::sums))]
+#![tactic(auto, using(arbitrary_laws::proofs::sums::Rulesets::exact))]
 
 ghost use Rattle.std.specs.Prelude.{IsTrue};
 

@@ -1,5 +1,5 @@
 //! Laws of a number below the place to which another one is moved: `|` and `^` of both are their sum, exact and wrapped.
-#![tactic(auto, using(arbitrary_laws::proofs::Sets::sums))]
+#![tactic(auto, using(arbitrary_laws::proofs::sums::LowSums::low_sums))]
 
 ghost use Rattle.std.specs.Prelude.{◌<ℤ◌, ◌≤ℤ◌, IsTrue, pos};
 

@@ -1,5 +1,5 @@
 //! Laws of bits beside sums.
-#![tactic(auto, using(arbitrary_laws::proofs::Sets::sums))]
+#![tactic(auto, using(arbitrary_laws::proofs::sums::Rulesets::mixed))]
 
 ghost use Rattle.std.specs.Prelude.{IsTrue};
 

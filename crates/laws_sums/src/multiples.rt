@@ -1,5 +1,5 @@
 //! Multiples of one number by shifts, sums and written factors, wrapped.
-#![tactic(auto, using(arbitrary_laws::proofs::Sets::sums))]
+#![tactic(auto, using(arbitrary_laws::proofs::sums::Rulesets::multiples))]
 
 ghost use Rattle.std.specs.Prelude.{IsTrue};
 

@@ -1,5 +1,5 @@
 //! Laws of differences of `&`, `|` and `^` that give a negated one.
-#![tactic(auto, using(arbitrary_laws::proofs::Sets::sums))]
+#![tactic(auto, using(arbitrary_laws::proofs::bits::NegatedParts::negated_parts))]
 
 ghost use Rattle.std.specs.Prelude.{IsTrue};
 

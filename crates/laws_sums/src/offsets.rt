@@ -1,5 +1,5 @@
 //! A number moved by written numbers, up and down, round its range.
-#![tactic(auto, using(arbitrary_laws::proofs::Sets::sums))]
+#![tactic(auto, using(arbitrary_laws::proofs::sums::Rulesets::offsets))]
 
 ghost use Rattle.std.specs.Prelude.{IsTrue};
 

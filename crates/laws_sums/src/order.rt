@@ -1,6 +1,6 @@
 //! Laws of the order beside bits, shifts and signs, each by the set `order` alone. `bits` and `shifts` have laws of these with
 //! no order, and `cancellations` those of `==`.
-#![tactic(auto, using(arbitrary_laws::proofs::Sets::orders))]
+#![tactic(auto, using(arbitrary_laws::proofs::orders::Rulesets::order))]
 
 ghost use Rattle.std.specs.Prelude.{IsTrue, ◌≤◌, ◌<◌};
 

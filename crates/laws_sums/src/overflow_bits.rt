@@ -1,5 +1,5 @@
 //! Laws of signs: an overflow told by those of the operands and of what wraps.
-#![tactic(auto, using(arbitrary_laws::proofs::Sets::signs))]
+#![tactic(auto, using(arbitrary_laws::proofs::signs::OverflowBits::overflow_bits))]
 
 ghost use Rattle.std.specs.Prelude.{◌↔◌, ◌⊎◌, ◌<ℤ◌, ◌+ℤ◌, ◌-ℤ◌, pos, neg_ℤ, IsTrue};
 
@@ -25,6 +25,7 @@ pub fn sum_and_flag(x: i12, y: i12) -> bool
     overflow == ((x ^ sum) & (y ^ sum) < i12::zero())
 }
 
+#[tactic(auto, using(arbitrary_laws::proofs::signs::OverflowBits::sign_of_xor))]
 pub fn signs_differ(x: i48, y: i48) -> bool
     ensures { IsTrue result }
 {

@@ -1,5 +1,5 @@
 //! Laws of products that wrap.
-#![tactic(auto, using(arbitrary_laws::proofs::Sets::sums))]
+#![tactic(auto, using(arbitrary_laws::proofs::sums::Rulesets::products))]
 
 ghost use Rattle.std.specs.Prelude.{IsTrue};
 

@@ -1,5 +1,5 @@
 //! Laws of sums and differences that wrap.
-#![tactic(auto, using(arbitrary_laws::proofs::Sets::sums))]
+#![tactic(auto, using(arbitrary_laws::proofs::sums::Rulesets::ring))]
 
 ghost use Rattle.std.specs.Prelude.{IsTrue};
 

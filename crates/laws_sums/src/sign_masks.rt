@@ -1,5 +1,5 @@
 //! Laws of a number under a spread sign, `x >> (BITS - 1)`, and of what it gives: the absolute, the lesser and the greater of two, one of 0 and -1.
-#![tactic(auto, using(arbitrary_laws::proofs::Sets::signs))]
+#![tactic(auto, using(arbitrary_laws::proofs::signs::SignMasks::sign_masks))]
 
 ghost use Rattle.std.specs.Prelude.{IsTrue};
 

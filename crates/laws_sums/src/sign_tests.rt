@@ -1,5 +1,5 @@
 //! Laws of signs: the order of two numbers, whether they are equal, and an overflow, told by the sign of what bits make of them.
-#![tactic(auto, using(arbitrary_laws::proofs::Sets::signs))]
+#![tactic(auto, using(arbitrary_laws::proofs::signs::SignTests::sign_tests))]
 
 ghost use Rattle.std.specs.Prelude.{◌≡◌, ◌≤ℤ◌, ◌<ℤ◌, ◌+ℤ◌, pos, IsTrue};
 
@@ -56,6 +56,7 @@ pub fn positive(x: i63) -> bool
     (x.wrapping_neg() & !x < i63::zero()) == x.is_positive()
 }
 
+#[tactic(auto, using(arbitrary_laws::proofs::signs::SignTests::overflow_tests))]
 pub fn overflow_of_like_signs(x: i7, y: i7) -> bool
     ensures { IsTrue result }
 {
@@ -63,6 +64,7 @@ pub fn overflow_of_like_signs(x: i7, y: i7) -> bool
     (!(x ^ y) & (x ^ sum) < i7::zero()) == x.checked_add(y).is_none()
 }
 
+#[tactic(auto, using(arbitrary_laws::proofs::signs::TurnedSigns::turned_signs))]
 pub fn order_with_the_sign_turned(x: i12, y: i12) -> bool
     ensures { IsTrue result }
 {
@@ -70,6 +72,7 @@ pub fn order_with_the_sign_turned(x: i12, y: i12) -> bool
     (x < y) == ((x ^ sign).to_unsigned() < (y ^ sign).to_unsigned())
 }
 
+#[tactic(auto, using(arbitrary_laws::proofs::signs::TurnedSigns::turned_signs))]
 pub fn at_most_with_the_sign_turned(x: i63, y: i63) -> bool
     ensures { IsTrue result }
 {
@@ -77,6 +80,7 @@ pub fn at_most_with_the_sign_turned(x: i63, y: i63) -> bool
     ((x ^ sign).to_unsigned() <= (y ^ sign).to_unsigned()) == (x <= y)
 }
 
+#[tactic(auto, using(arbitrary_laws::proofs::signs::TurnedSigns::turned_signs))]
 pub fn number_with_the_sign_turned(x: i12) -> u12
     ensures { result ≡ x +ℤ pos 2048 }
 {

@@ -1,5 +1,5 @@
 //! Laws of the order of a signed number and its `&` or `|` with another.
-#![tactic(auto, using(arbitrary_laws::proofs::Sets::orders))]
+#![tactic(auto, using(arbitrary_laws::proofs::orders::Rulesets::signed_order))]
 
 ghost use Rattle.std.specs.Prelude.{IsTrue};
 

@@ -1,5 +1,5 @@
 //! Laws of the sign spread over all bits, `x >> (BITS - 1)`, and of a number under it.
-#![tactic(auto, using(arbitrary_laws::proofs::Sets::signs))]
+#![tactic(auto, using(arbitrary_laws::proofs::signs::SignWord::signs))]
 
 ghost use Rattle.std.specs.Prelude.{IsTrue};
 
