@@ -101,8 +101,8 @@ while [ "${state[$crate]-}" != proved ]; do
     ready=()
     for name in "${crates[@]}"; do if is_ready "$name"; then ready+=("$name"); fi; done
     if [ ${#ready[@]} -gt 0 ] && [ "$(running)" -eq 0 ]; then
-        # Crates that do not use each other share the jobs.
-        share=$(((jobs + ${#ready[@]} - 1) / ${#ready[@]}))
+        # Crates that do not use each other share the jobs; the first to end leaves its own idle, so each gets more than its part.
+        share=$((jobs > ${#ready[@]} ? jobs - ${#ready[@]} + 1 : 1))
         for name in "${ready[@]}"; do begin "$name" "$share"; done
     fi
     sleep 0.3
