@@ -3,7 +3,7 @@ pub mod RunLemmas
 pub mod LowBitRuns
 pub mod WiderRuns
 pub mod TotalSteps
-pub mod Stepping
+pub mod SteppingLemmas
 pub mod RangeSteps
 pub mod ByteLaws
 pub mod StreamBytes

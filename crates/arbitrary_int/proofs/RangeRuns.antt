@@ -11,7 +11,7 @@ use Rattle.std.proofs.iter.runs.Sources.{lists}
 use Rattle.arbitrary_base.specs.Range.{InRange}
 use Rattle.arbitrary_base.proofs.modular.Congruence.{span}
 use Rattle.arbitrary_int.specs.Ranges.{numbers, CountsUp}
-use Rattle.arbitrary_int.proofs.Stepping.{gap-some, length-numbers, numbers-none, numbers-placed}
+use Rattle.arbitrary_int.proofs.SteppingLemmas.{gap-some, length-numbers, numbers-none, numbers-placed}
 use Rattle.arbitrary_int.proofs.RangeNumbers.{numbers-count}
 
 gap-less : (a b : ℤ) (k : ℕ) → k < int_gap a b → (a +ℤ pos k) <ℤ b

@@ -6,7 +6,7 @@ use Rattle.std.specs.Ordering.{int_cmp}
 use Rattle.std.specs.declared.cmp.Ordering.{Ordering}
 use Rattle.std.specs.declared.cmp.Ordering.TheVariants.{Less, Equal, Greater}
 use Rattle.arbitrary_int.specs.Ranges.{values_left}
-use Rattle.arbitrary_int.proofs.Stepping.{left-first, left-last, left-one, left-one_back, left-none}
+use Rattle.arbitrary_int.proofs.SteppingLemmas.{left-first, left-last, left-one, left-one_back, left-none}
 
 below-cmp : (a b : ℤ) → int_cmp a b ≡ Less → a <ℤ b
 below-cmp a b e = grind (arith, ints)

@@ -1,5 +1,5 @@
 //! Steps from one value to another: the calls of Rust's unstable trait `Step`, which ranges move by. The lemmas stand in
-//! proofs/Stepping.antt, and the words in specs/Ranges.antt.
+//! proofs/SteppingLemmas.antt, and the words in specs/Ranges.antt.
 //!
 //! Each function first reads the number of what it takes, as in `let _known = x.to_u128_bits();`. In generic code no range of a value is
 //! known before a call on it, and the proof needs that range.
@@ -13,7 +13,7 @@ use arbitrary_calls::calls::sums::SumCalls;
 use arbitrary_calls::fixed_width::FixedWidth;
 
 /// The next value. The limit shows that there is one.
-#[tactic(auto, using(crate::proofs::Stepping::in_up))]
+#[tactic(auto, using(crate::proofs::SteppingLemmas::in_up))]
 pub(crate) fn after<V: SumCalls>(x: V, limit: V) -> V
     requires { V.number x <ℤ V.number limit }
     ensures { V.number result ≡ V.number x +ℤ pos 1 }
@@ -24,7 +24,7 @@ pub(crate) fn after<V: SumCalls>(x: V, limit: V) -> V
 }
 
 /// The value before. The limit shows that there is one.
-#[tactic(auto, using(crate::proofs::Stepping::in_down))]
+#[tactic(auto, using(crate::proofs::SteppingLemmas::in_down))]
 pub(crate) fn before<V: SumCalls>(x: V, limit: V) -> V
     requires { V.number limit <ℤ V.number x }
     ensures { V.number result ≡ V.number x -ℤ pos 1 }
@@ -35,7 +35,7 @@ pub(crate) fn before<V: SumCalls>(x: V, limit: V) -> V
 }
 
 /// The value `by` above, which the type has.
-#[tactic(auto, using(crate::proofs::Stepping::moves))]
+#[tactic(auto, using(crate::proofs::SteppingLemmas::moves))]
 fn forward<V: SumCalls>(x: V, by: u128) -> V
     requires { InRange V.IS_SIGNED V.BITS (V.number x +ℤ pos by) }
     ensures { V.number result ≡ V.number x +ℤ pos by }
@@ -45,7 +45,7 @@ fn forward<V: SumCalls>(x: V, by: u128) -> V
 }
 
 /// The value `by` below, which the type has.
-#[tactic(auto, using(crate::proofs::Stepping::moves))]
+#[tactic(auto, using(crate::proofs::SteppingLemmas::moves))]
 fn backward<V: SumCalls>(x: V, by: u128) -> V
     requires { InRange V.IS_SIGNED V.BITS (V.number x -ℤ pos by) }
     ensures { V.number result ≡ V.number x -ℤ pos by }
@@ -55,7 +55,7 @@ fn backward<V: SumCalls>(x: V, by: u128) -> V
 }
 
 /// How far it is from `start` up to `end`, which is not less.
-#[tactic(auto, using(crate::proofs::Stepping::distances))]
+#[tactic(auto, using(crate::proofs::SteppingLemmas::distances))]
 fn distance<V: SumCalls>(start: V, end: V) -> u128
     requires { V.number start ≤ℤ V.number end }
     ensures { pos result ≡ V.number end -ℤ V.number start }
@@ -84,7 +84,7 @@ pub trait Stepping: FixedWidth {
     }
 
     /// The value `count` steps above, and `None` exactly where the type has none.
-    #[tactic(auto, using(crate::proofs::Stepping::ends))]
+    #[tactic(auto, using(crate::proofs::SteppingLemmas::ends))]
     final fn forward_checked(start: Self, count: usize) -> Option<Self>
         ensures { SomeIff (option_map Self.number result)
             (InRange Self.IS_SIGNED Self.BITS (Self.number start +ℤ pos count))
@@ -99,7 +99,7 @@ pub trait Stepping: FixedWidth {
     }
 
     /// The value `count` steps below, and `None` exactly where the type has none.
-    #[tactic(auto, using(crate::proofs::Stepping::ends))]
+    #[tactic(auto, using(crate::proofs::SteppingLemmas::ends))]
     final fn backward_checked(start: Self, count: usize) -> Option<Self>
         ensures { SomeIff (option_map Self.number result)
             (InRange Self.IS_SIGNED Self.BITS (Self.number start -ℤ pos count))

@@ -1,7 +1,7 @@
 -- The first number of a range, and the last.
 use Rattle.std.specs.Prelude.{List, [], pos, ℤ, ◌++◌, ◌+ℤ◌, ◌-ℤ◌, ◌∷◌, ◌≡◌, ◌≤ℤ◌}
 use Rattle.std.proofs.Common.{ap, refl, ◌∙◌}
-use Rattle.arbitrary_int.proofs.Stepping.{numbers-first, numbers-last}
+use Rattle.arbitrary_int.proofs.SteppingLemmas.{numbers-first, numbers-last}
 use Rattle.arbitrary_int.specs.Ranges.{numbers}
 
 pub numbers-head : (a b : ℤ) → a ≤ℤ b → numbers a b ≡ a ∷ numbers (a +ℤ pos 1) b

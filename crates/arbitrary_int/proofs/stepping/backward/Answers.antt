@@ -1,4 +1,4 @@
-use Rattle.arbitrary_int.proofs.Stepping.{moved_down}
+use Rattle.arbitrary_int.proofs.SteppingLemmas.{moved_down}
 use Rattle.arbitrary_int.proofs.stepping.backward.Goals as goal
 
 pub returns : goal.returns

@@ -1,4 +1,4 @@
-use Rattle.arbitrary_int.proofs.Stepping.{apart_by}
+use Rattle.arbitrary_int.proofs.SteppingLemmas.{apart_by}
 use Rattle.arbitrary_int.proofs.stepping.distance.Goals as goal
 
 pub returns : goal.returns

@@ -1,4 +1,4 @@
-use Rattle.arbitrary_int.proofs.Stepping.{moved_up}
+use Rattle.arbitrary_int.proofs.SteppingLemmas.{moved_up}
 use Rattle.arbitrary_int.proofs.stepping.forward.Goals as goal
 
 pub returns : goal.returns
