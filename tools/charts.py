@@ -17,28 +17,30 @@ import layout
 ROOT = Path(__file__).resolve().parent.parent
 MEASURED = ROOT / 'tools/measured.txt'
 PAGE = ROOT / 'docs/PERFORMANCE.md'
-CALLS = 'Instructions per call'
-INPUTS = '`bitrun` on heavy inputs'
-SUMMARY = 'In short'
+# The first cells of the heads of tables.
+CALL, PROGRAM = 'Call in a loop, an element', 'Program, an item'
+SUMMARY = ('Measure', 'Figure')
 PICTURES = ROOT / 'docs/pictures'
 GREY, BLUE, ORANGE, GREEN, PALE = '#7a828d', '#3b82f6', '#dd7a1f', '#2f9e58', '#7a828d40'
-
-
-def sections(file):
-    """Each heading of a file, with the text below it."""
-    parts = re.split(r'^##+ (.*)\n', file.read_text(), flags=re.M)
-    return dict(zip(parts[1::2], parts[2::2]))
 
 
 def cells(row):
     return [cell.strip() for cell in row[1:-1].split('|')]
 
 
-def tables(heading):
-    """The stored tables below a heading, each as a list of rows of cells, the first of which is its head."""
-    for block in re.findall(r'(?:^\|.*\n)+', sections(MEASURED)[heading], re.M):
+def tables():
+    """The stored tables, each as a list of rows of cells, the first of which is its head."""
+    for block in re.findall(r'(?:^\|.*\n)+', MEASURED.read_text(), re.M):
         rows = [cells(row) for row in block.splitlines()]
         yield [rows[0], *rows[2:]]
+
+
+def rows_of(first):
+    """The rows of the table whose head begins so, each by the names of its columns."""
+    table = next((table for table in tables() if table[0][0] == first), None)
+    if not table:
+        sys.exit(f'{MEASURED}: no table of {first}')
+    return [dict(zip(table[0], row)) for row in table[1:]]
 
 
 def number(cell):
@@ -62,11 +64,7 @@ def line(x1, y1, x2, y2, colour=PALE, width=1.0):
 def dot(x, y, colour, shape):
     if shape == 'circle':
         return f'<circle cx="{x:g}" cy="{y:g}" r="4.5" fill="{colour}"/>'
-    if shape == 'square':
-        return f'<rect x="{x - 3.5:g}" y="{y - 3.5:g}" width="7" height="7" fill="none" stroke="{colour}" stroke-width="1.8"/>'
-    if shape == 'cross':
-        return f'<path d="M{x - 4:g} {y - 4:g}L{x + 4:g} {y + 4:g}M{x - 4:g} {y + 4:g}L{x + 4:g} {y - 4:g}" stroke="{colour}" stroke-width="1.8"/>'
-    return f'<path d="M{x:g} {y - 5:g}L{x + 5:g} {y + 4:g}L{x - 5:g} {y + 4:g}Z" fill="none" stroke="{colour}" stroke-width="1.6"/>'
+    return f'<rect x="{x - 3.5:g}" y="{y - 3.5:g}" width="7" height="7" fill="none" stroke="{colour}" stroke-width="1.8"/>'
 
 
 def arrow(x1, y1, x2, y2, colour=GREY):
@@ -97,12 +95,11 @@ def key(x, y):
 
 
 def calls():
-    """Each call in a loop over arrays, beside the Rust crate: three widths across, without a sign above, with one below."""
-    rows = next(tables(CALLS))[1:]
-    figures = {(row[0].strip('`'), row[1].strip('`')): [number(cell) for cell in row[2:4]] for row in rows}
+    """Each call in a loop over arrays, here and in the Rust crate: three widths across, unsigned types above signed ones."""
+    figures = {(row[CALL].strip('`'), row['Type'].strip('`')): [number(row['here']), number(row['crate'])] for row in rows_of(CALL)}
     names = list(dict.fromkeys(call for call, _ in figures))
-    left, wide, high, top = 140, 235, 17, 56
-    ticks = [0, 1, 3, 10, 30, 100]
+    left, wide, high, top = 150, 200, 20, 60
+    ticks = [0, 1, 3, 10, 30, 100, 300]
 
     def at(value):
         return math.log2(1 + value) / math.log2(1 + most) * (wide - 34)
@@ -110,18 +107,18 @@ def calls():
     for across, width in enumerate((7, 14, 120)):
         most = min(tick for tick in ticks if tick >= max(max(pair) for (_, kind), pair in figures.items() if kind[1:] == str(width)))
         for down, sign in enumerate('ui'):
-            x0, y0 = left + across * wide, top + down * (len(names) * high + 60)
-            parts.append(text(x0, y0 - 6, f'{sign}{width}, instructions an element', weight='bold'))
+            x0, y0 = left + across * wide, top + down * (len(names) * high + 64)
+            parts.append(text(x0, y0 - 8, f'{sign}{width}: instructions', size=13, weight='bold'))
             for tick in ticks[:ticks.index(most) + 1]:
                 parts += [line(x0 + at(tick), y0, x0 + at(tick), y0 + len(names) * high)]
-                parts += [text(x0 + at(tick), y0 + len(names) * high + 14, str(tick), 'middle', 10)]
+                parts += [text(x0 + at(tick), y0 + len(names) * high + 16, str(tick), 'middle')]
             for place, name in enumerate(names):
-                y = y0 + place * high + 9
+                y = y0 + place * high + 10
                 if across == 0:
-                    parts.append(text(left - 12, y + 4, name, 'end', 11))
+                    parts.append(text(left - 12, y + 4, name, 'end', 13))
                 for (_, colour, shape), value in reversed([*zip(MARKS, figures.get((name, f'{sign}{width}'), []))]):
                     parts.append(dot(x0 + at(value), y, colour, shape))
-    return picture(left + 3 * wide, top + 2 * (len(names) * high + 60) - 34, 'Instructions of each call in a loop, beside the Rust crate', parts)
+    return picture(left + 3 * wide, top + 2 * (len(names) * high + 64) - 34, 'Instructions of each call in a loop, here and in the Rust crate', parts)
 
 
 def grid(places, top, high, ends):
@@ -139,9 +136,7 @@ def grid(places, top, high, ends):
 
 def ratios():
     """For each input the share of the instructions of ordinary Rust that `bitrun` takes, the greatest first."""
-    table = next(tables(INPUTS))
-    ratio = next(place for place, name in enumerate(table[0]) if name == 'ratio')
-    return sorted(((number(row[ratio]), row[0].strip('`')) for row in table[1:]), reverse=True)
+    return sorted(((number(row['ratio']), row['Input'].strip('`')) for row in rows_of('Input')), reverse=True)
 
 
 def inputs():
@@ -162,8 +157,7 @@ def inputs():
 
 def gate_rows():
     """The processor seconds of each crate: of its proof and edits, and of its tests."""
-    table = next(tables('The gate'))
-    return [(row[0].strip('`'), [number(cell) or 0 for cell in row[1:3]]) for row in table[1:]]
+    return [(row['Crate'].strip('`'), [number(row[name]) or 0 for name in ('proof and edits', 'its tests')]) for row in rows_of('Crate')]
 
 
 def gate():
@@ -253,12 +247,13 @@ def layers():
         'bitrun': 'the program', 'bitrun_service': 'reads, runs, writes the output', 'bitrun_text': 'reads and checks the text',
         'arbitrary_laws': 'laws for your proofs', 'bit_fields': 'fields in a record',
         'arbitrary_int': 'what you import; also run, run_wide, bytes, streams, sums, ranges',
-        'arbitrary_calls': 'wrapping, saturating, checked .. calls, shifts, counts', 'arbitrary_constants': 'MIN, MAX, ZERO, MASK',
+        'arbitrary_calls': 'wrapping, checked .. calls, shifts, counts', 'arbitrary_constants': 'MIN, MAX, ZERO, MASK',
+        'arbitrary_version_1': 'the deprecated Number',
         'arbitrary_core': 'UInt and Int, their operators, order, hash and text',
         'arbitrary_traits': 'Integer, and the primitives as integers', 'arbitrary_widths': 'widths that a storage has',
         'arbitrary_base': 'the definitions, and arithmetic over every storage', 'examples': '', 'examples_tour': '',
     }
-    rows = [['arbitrary_int'], ['arbitrary_calls', 'arbitrary_constants'], ['arbitrary_core'], ['arbitrary_traits', 'arbitrary_widths'], ['arbitrary_base']]
+    rows = [['arbitrary_int'], ['arbitrary_calls', 'arbitrary_constants', 'arbitrary_version_1'], ['arbitrary_core'], ['arbitrary_traits', 'arbitrary_widths'], ['arbitrary_base']]
     rows = [[name for name in row if name in crates] for row in rows]
     drawn = [name for name in said if name in crates]
     missing = {other for name in drawn for other in crates[name]} - {*drawn}
@@ -283,47 +278,51 @@ def layers():
         crate(x + across * (wide + gap), y, wide, high, name, [said[name]], BLUE)
     for down, row in enumerate(rows):
         x = 10
-        for name, share in zip(row, [0.68, 0.32] if len(row) == 2 else [1]):
+        for name, share in zip(row, {1: [1], 2: [0.68, 0.32], 3: [0.48, 0.26, 0.26]}[len(row)]):
             width = (full - gap * (len(row) - 1)) * share
             crate(x, 10 + (3 + down) * (high + gap), width, high, name, [said[name]], BLUE)
             x += width + gap
     return picture(full + 20, 14 + 8 * (high + gap), 'The crates as layers', parts)
 
 
+def mean(shares):
+    """The geometric mean."""
+    return math.exp(sum(math.log(share) for share in shares) / len(shares))
+
+
 def summary():
     """The figures that follow from the tables, as the page shows them."""
-    shares = ratios()
-    mean = math.exp(sum(math.log(share) for share, _ in shares) / len(shares))
-    mixed = [share for share, name in shares if name.startswith('mix_')]
-    (most, worst), (least, best) = shares[0], shares[-1]
-    seconds = sum(sum(part) for _, part in gate_rows())
+    loops = {sign: [(number(row['ratio']), f'{row[CALL]} of {row["Type"]}') for row in rows_of(CALL) if row['Type'][1] == sign] for sign in 'ui'}
+    programs = [number(row['ratio']) for row in rows_of(PROGRAM)]
+    inputs = ratios()
+    mixed = [share for share, name in inputs if name.startswith('mix_')]
+
+    def shown(sign):
+        most, worst = max(loops[sign])
+        return f'{mean([share for share, _ in loops[sign]]):.2f}; worst {most:.2f} ({worst})'
     return [
-        ['`bitrun` and ordinary Rust, geometric mean of the inputs', f'{mean:.2f}'], ['the same on mixed steps', f'{min(mixed):.2f} to {max(mixed):.2f}'],
-        ['the best input and the worst', f'{least:.2f} (`{best}`), {most:.2f} (`{worst}`)'], ['processor seconds of `rt ci`', f'{seconds:,.0f}'],
+        ['unsigned calls in loops, of the Rust crate', shown('u')], ['signed calls in loops, of the Rust crate', shown('i')],
+        ['programs and lists of steps, of the Rust crate', f'{mean(programs):.2f}; worst {max(programs):.2f}'],
+        ['`bitrun`, of ordinary Rust', f'{mean([share for share, _ in inputs]):.2f}; worst {inputs[0][0]:.2f} (`{inputs[0][1]}`)'],
+        ['`bitrun` on mixed steps, of ordinary Rust', f'{min(mixed):.2f} to {max(mixed):.2f}'],
+        ['processor seconds of `rt ci`', f'{sum(sum(part) for _, part in gate_rows()):,.0f}'],
     ]
 
 
 def page_tables(page):
     """The page with the rows of its tables as measured.txt has them, and what is wrong with it."""
-    kept, wrong, heading = [], [], None
-    stored = {}
-    for title in sections(MEASURED):
-        for table in tables(title):
-            for row in table[1:]:
-                stored[title, tuple(table[0]), row_key(row)] = row
-    stored |= {(SUMMARY, ('Measure', 'Figure'), (row[0],)): row for row in summary()}
-    known = {(title, head) for title, head, _ in stored}
-    head = None
+    stored = {(tuple(table[0]), row_key(row)): row for table in tables() for row in table[1:]}
+    stored |= {(SUMMARY, row_key(row)): row for row in summary()}
+    heads = {head for head, _ in stored}
+    kept, wrong, head = [], [], None
     for row in page.splitlines():
-        if row.startswith('#'):
-            heading = row.lstrip('# ')
         if not row.startswith('|'):
             head = None
         elif head is None:
             head = tuple(cells(row))
-        elif (heading, head) in known and not re.fullmatch(r'[|:-]+', row):
-            right = stored.get((heading, head, row_key(cells(row))))
-            if right is None or cells(row) != right:
+        elif head in heads and not re.fullmatch(r'[|:-]+', row):
+            right = stored.get((head, row_key(cells(row))))
+            if cells(row) != right:
                 wrong.append(f'{PAGE}: not a row of {MEASURED}: {row}')
             row = '| ' + ' | '.join(right or cells(row)) + ' |'
         kept.append(row)
