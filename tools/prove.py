@@ -128,8 +128,8 @@ class Copies:
         """Tries these attempts, lists of a goal and laws by function, side by side. Notes what closes a goal, and the words of each."""
         shares = [{} for _ in self.rooms]
         parts = math.ceil(self.count / max(1, len(attempts)))
-        pieces = [(function, listed[part::parts]) for function, listed in attempts.items() for part in range(parts)]
-        for function, piece in sorted((it for it in pieces if it[1]), key=lambda it: -len(it[1])):
+        pieces = [(function, listed[part::parts]) for function, listed in attempts.items() for part in range(min(parts, len(listed) or 1))]
+        for function, piece in sorted(pieces, key=lambda it: -len(it[1])):
             share = min(shares, key=lambda it: sum(len(listed) + 3 for listed in it.values()))
             share.setdefault(function, []).extend(piece)
 
@@ -151,8 +151,7 @@ class Copies:
                             function.closed[goal].append(laws)
             return shown
 
-        with ThreadPoolExecutor(self.count) as pool:
-            found = list(pool.map(work, self.rooms, shares))
+        found = self.side_by_side(work, self.rooms, shares)
         for function in attempts:
             for goal in function.goals:
                 for shown in found:
@@ -168,14 +167,19 @@ class Copies:
             write(changes(room / 'crate', solutions))
         say(f'attributes: {len(names)} functions')
         shares = [names[number :: self.count] for number in range(self.count)]
-        with ThreadPoolExecutor(self.count) as pool:
-            said = list(pool.map(lambda it: self.check(*it) if it[1] else '', zip(self.rooms, shares)))
+        said = self.side_by_side(lambda room, share: self.check(room, share) if share else '', self.rooms, shares)
         proved = {name for it in said for name, verdict in verdicts(self.crate, it).items() if verdict == 'proved'}
         return {it: found for it, found in solutions.items() if it.name in proved}
 
-    def stop(self):
-        for it in self.running:
-            it.kill()
+    def side_by_side(self, work, *lists):
+        """What this work returns for each entry of the lists. Where one fails, or the run is interrupted, no check runs on."""
+        with ThreadPoolExecutor(self.count) as pool:
+            try:
+                return list(pool.map(work, *lists))
+            except BaseException:
+                for it in list(self.running):
+                    it.kill()
+                raise
 
 
 def strengths(shown):
@@ -185,19 +189,21 @@ def strengths(shown):
     return {**dict.fromkeys(words(known), 0.8), **dict.fromkeys(words(goal.partition('⊢')[2]), 1.0)}
 
 
-def run(words, folder, running=None):
+def run(words, folder, running):
     """Runs a command, tells of each function that it has checked, and returns what it says and its status."""
     with subprocess.Popen(words, cwd=folder, stdout=subprocess.PIPE, stderr=subprocess.STDOUT, text=True, errors='replace') as child:
-        if running is not None:
-            running.append(child)
+        running.append(child)
         said = []
-        for line in child.stdout:
-            if found := CHECKED.match(line):
-                say(f'  {found[1]}')
-            else:
-                said.append(line)
-    if running is not None:
-        running.remove(child)
+        try:
+            for line in child.stdout:
+                if found := CHECKED.match(line):
+                    say(f'  {found[1]}')
+                else:
+                    said.append(line)
+        except BaseException:
+            child.terminate()
+            raise
+    running.remove(child)
     return ''.join(said), child.returncode
 
 
@@ -273,17 +279,22 @@ class Search:
         self.public = [it for it in index.sets if it[0] == f'Rattle.{LAWS}.proofs.Sets' or it[1] == 'words']
 
     def choices(self, stage, known):
-        """What to try at a goal: the public sets, then sets and ranked laws, ever more of them."""
-        if stage == 0:
-            return [[it] for it in self.public]
-        first, last, counts = [(0, 8, (8, 16, 32)), (8, 20, (12, 24, 64)), (20, 40, (48,)), (40, 60, ())][stage - 1]
-        sets = [it for it in self.index.ranked_sets(known) if it not in self.public and len(self.index.members(it)) <= MOST]
-        laws = self.index.ranked_laws(known, max(counts, default=0))
-        return [*([it] for it in sets[first:last]), *(laws[:count] for count in counts)]
+        """What to try at a goal with these words: in each round further sets, the public ones first, and more laws."""
+        ranked = [it for it in self.index.ranked_sets(known) if it in self.public or len(self.index.members(it)) <= MOST]
+        public, others = ([it for it in ranked if (it in self.public) is wanted] for wanted in (True, False))
+        sets, counts = [
+            (public[:4] + others[:6], (8, 16, 32)),
+            (public[4:8] + others[6:16], (12, 24, 64)),
+            (public[8:] + others[16:40], (48,)),
+        ][stage]
+        laws = self.index.ranked_laws(known, max(counts))
+        return [*([it] for it in sets), *(laws[:count] for count in counts)]
 
     def close(self):
         """Tries more and more laws until each goal is closed or all was tried."""
-        for stage in range(5):
+        say(f'the goals of {len(self.functions)} functions')
+        self.copies.tried({it: [] for it in self.functions})
+        for stage in range(3):
             attempts = {}
             for it in self.functions:
                 listed = [(goal, laws) for goal in it.open_goals() for laws in self.choices(stage, it.words[goal])]
@@ -404,7 +415,7 @@ def link(goal, source):
 def first_check(crate, names):
     """Checks the crate as it is. Returns what it says of each function, and the functions with open goals that were asked for."""
     say(f'the check of {crate}')
-    said, code = run(['rt', 'check', *(word for name in names for word in ('--only', name))], ROOT / 'crates' / crate)
+    said, code = run(['rt', 'check', *(word for name in names for word in ('--only', name))], ROOT / 'crates' / crate, [])
     if not ENDED.search(said):
         raise Stop(why(crate, said, code))
     return verdicts(crate, said), {name: it for name, it in offers(said).items() if not names or name in names}
@@ -465,7 +476,7 @@ def searched(crate, names, functions, jobs):
     uses = libraries()
     if LAWS not in uses[crate]:
         say(f'{LAWS}, which has the laws')
-        said, code = run(['rt', 'lib'], ROOT / 'crates' / LAWS)
+        said, code = run(['rt', 'lib'], ROOT / 'crates' / LAWS, [])
         if code:
             raise Stop(why(LAWS, said, code))
     with_laws = [LAWS, *sorted(below(LAWS, uses))]
@@ -473,12 +484,9 @@ def searched(crate, names, functions, jobs):
     index = Index([ROOT / 'crates' / it for it in with_laws], KIT / 'rattle')
     with tempfile.TemporaryDirectory(prefix='prove-') as room:
         copies = Copies(crate, Path(room), uses, jobs)
-        try:
-            has_laws = any(USING.search(file.read_text()) for file in (copies.folder / 'src').rglob('*.rt'))
-            functions = bare(copies, names) if has_laws else functions
-            return functions, found_in(copies, index, functions)
-        finally:
-            copies.stop()
+        has_laws = any(USING.search(file.read_text()) for file in (copies.folder / 'src').rglob('*.rt'))
+        functions = bare(copies, names) if has_laws else functions
+        return functions, found_in(copies, index, functions)
 
 
 def prove(crate, names, is_writing, is_anew, jobs):
