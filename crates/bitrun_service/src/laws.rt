@@ -20,5 +20,6 @@ pub fn one_bad_line()
 
 /// Where an input has an output, each line is there where it must be, and has its form: it has no bad line.
 pub fn every_line_is_fine()
-    ensures { (input text : List ℕ) → IsOutput input text → (i : ℕ) → HasForm (word_lines input) i }
+    ensures { (input text : List ℕ) → IsOutput input text
+        → (i : ℕ) → HasForm (word_lines input) i }
 {}

@@ -7,6 +7,14 @@ use Rattle.bitrun_text.specs.Text.{ends_word, left_of, word_lines}
 use Rattle.bitrun_text.specs.Operation.{step_named}
 use Rattle.arbitrary_int.specs.declared.steps.Step.{Step}
 
+-- the words that are left on the line from a place of the text on
+abbrev pub words_at : List ℕ → ℕ → List (List ℕ)
+words_at text at = (left_of (drop at text)).words
+
+-- the words of each later line
+abbrev pub later_at : List ℕ → ℕ → List (List (List ℕ))
+later_at text at = (left_of (drop at text)).later
+
 -- no word goes on where the text begins
 abbrev pub Ends : List ℕ → Type 0
 Ends text = position_or_len ends_word text ≡ 0

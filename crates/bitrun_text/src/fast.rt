@@ -1,15 +1,15 @@
-//! Steps as they are written as a rule: the line begins with the name, and an LF ends it. Nothing here makes a call for a line with one
-//! blank between its words, so that no part of it need be stored in memory.
-//!
-//! A result of `None` says nothing of the line: whoever asks reads its words.
+//! Lines of steps as they are written as a rule: the name comes first, and an LF ends the line. For a
+//! line with one space between its words nothing here makes a call, so no part of it is stored in
+//! memory. A result of `None` says nothing of the line: the caller reads its words.
 
 ghost use Rattle.std.specs.Prelude.{◌≡◌, ◌≤◌, ◌<◌, ◌+◌, ◌-◌, ◌^◌, [], true, length, take, drop, get_or, Some, IfSome};
 ghost use Rattle.arbitrary_int.specs.Steps.{StepWithin};
 ghost use Rattle.bitrun_text.specs.Text.{is_blank, left_of, word_lines};
 ghost use Rattle.bitrun_text.specs.Numeral.{first_number};
 ghost use Rattle.bitrun_text.specs.Operation.{operation_named, step_with};
-ghost use Rattle.bitrun_text.specs.Fast.{Reads, BeginsWithNumber, EndsLine, NamesLine, Ends};
+ghost use Rattle.bitrun_text.specs.Fast.{BeginsWithNumber, EndsLine, NamesLine, Ends, words_at, later_at};
 
+use crate::numeral::{digits, one_digit};
 use crate::operation::{Operation, operation_named};
 use crate::text::is_blank;
 use arbitrary_int::{ByOp, OneOp, Step, TwoOp};
@@ -24,7 +24,8 @@ const LARGE: u64 = 1 << 60;
 #[inline(always)]
 pub fn fast_line(text: &[u8], at: usize, count: usize) -> Option<(Step, usize)>
     requires { at ≤ length text.now }
-    ensures step { IfSome result (λ p. NamesLine count (drop at text.now) p.0 (drop p.1 text.now)) }
+    ensures step { IfSome result
+        (λ p. NamesLine count (drop at text.now) p.0 (drop p.1 text.now)) }
     ensures within { IfSome result (λ p. StepWithin count p.0) }
     ensures order { IfSome result (λ p. at < p.1) }
     ensures room { IfSome result (λ p. p.1 ≤ length text.now) }
@@ -37,7 +38,7 @@ pub fn fast_line(text: &[u8], at: usize, count: usize) -> Option<(Step, usize)>
     Some((step, end))
 }
 
-/// The operation with whose name the text goes on at the place, and the place of the blank after the name.
+/// The operation whose name stands at the place, and the place of the blank after the name.
 #[inline(always)]
 fn name_at(text: &[u8], at: usize) -> Option<(Operation, usize)>
     requires { at + 5 ≤ length text.now }
@@ -72,16 +73,16 @@ fn name_end(text: &[u8], at: usize) -> usize
     }
 }
 
-/// The step of an operation on so many registers, with the operands after the blank at the place, and the place after the line.
+/// The step of an operation with the operands after the blank at the place, and the place after the
+/// line.
 #[inline(always)]
 fn operands(operation: Operation, text: &[u8], at: usize, count: usize) -> Option<(Step, usize)>
     requires blank { is_blank (get_or text.now at 0) ≡ true }
     requires within { at < length text.now }
     ensures step { IfSome result
-        (λ p. step_with count operation (left_of (drop at text.now)).words ≡ Some p.0) }
+        (λ p. step_with count operation (words_at text.now at) ≡ Some p.0) }
     ensures within { IfSome result (λ p. StepWithin count p.0) }
-    ensures later { IfSome result
-        (λ p. word_lines (drop p.1 text.now) ≡ (left_of (drop at text.now)).later) }
+    ensures later { IfSome result (λ p. word_lines (drop p.1 text.now) ≡ later_at text.now at) }
     ensures order { IfSome result (λ p. at < p.1) }
     ensures room { IfSome result (λ p. p.1 ≤ length text.now) }
 {
@@ -98,10 +99,9 @@ fn two(op: TwoOp, text: &[u8], at: usize, count: usize) -> Option<(Step, usize)>
     requires blank { is_blank (get_or text.now at 0) ≡ true }
     requires within { at < length text.now }
     ensures step { IfSome result
-        (λ p. step_with count (Operation.Two op) (left_of (drop at text.now)).words ≡ Some p.0) }
+        (λ p. step_with count (Operation.Two op) (words_at text.now at) ≡ Some p.0) }
     ensures within { IfSome result (λ p. StepWithin count p.0) }
-    ensures later { IfSome result
-        (λ p. word_lines (drop p.1 text.now) ≡ (left_of (drop at text.now)).later) }
+    ensures later { IfSome result (λ p. word_lines (drop p.1 text.now) ≡ later_at text.now at) }
     ensures order { IfSome result (λ p. at < p.1) }
     ensures room { IfSome result (λ p. p.1 ≤ length text.now) }
 {
@@ -125,10 +125,9 @@ fn one(op: OneOp, text: &[u8], at: usize, count: usize) -> Option<(Step, usize)>
     requires blank { is_blank (get_or text.now at 0) ≡ true }
     requires within { at < length text.now }
     ensures step { IfSome result
-        (λ p. step_with count (Operation.One op) (left_of (drop at text.now)).words ≡ Some p.0) }
+        (λ p. step_with count (Operation.One op) (words_at text.now at) ≡ Some p.0) }
     ensures within { IfSome result (λ p. StepWithin count p.0) }
-    ensures later { IfSome result
-        (λ p. word_lines (drop p.1 text.now) ≡ (left_of (drop at text.now)).later) }
+    ensures later { IfSome result (λ p. word_lines (drop p.1 text.now) ≡ later_at text.now at) }
     ensures order { IfSome result (λ p. at < p.1) }
     ensures room { IfSome result (λ p. p.1 ≤ length text.now) }
 {
@@ -143,10 +142,9 @@ fn by(op: ByOp, text: &[u8], at: usize, count: usize) -> Option<(Step, usize)>
     requires blank { is_blank (get_or text.now at 0) ≡ true }
     requires within { at < length text.now }
     ensures step { IfSome result
-        (λ p. step_with count (Operation.By op) (left_of (drop at text.now)).words ≡ Some p.0) }
+        (λ p. step_with count (Operation.By op) (words_at text.now at) ≡ Some p.0) }
     ensures within { IfSome result (λ p. StepWithin count p.0) }
-    ensures later { IfSome result
-        (λ p. word_lines (drop p.1 text.now) ≡ (left_of (drop at text.now)).later) }
+    ensures later { IfSome result (λ p. word_lines (drop p.1 text.now) ≡ later_at text.now at) }
     ensures order { IfSome result (λ p. at < p.1) }
     ensures room { IfSome result (λ p. p.1 ≤ length text.now) }
 {
@@ -164,16 +162,15 @@ fn by(op: ByOp, text: &[u8], at: usize, count: usize) -> Option<(Step, usize)>
     ))
 }
 
-/// The number of one of so many registers, after the blank at the place, and the place of the blank that follows it.
+/// The number of a register, after the blank at the place, and the place of the blank after it.
 #[inline(always)]
 fn next_register(text: &[u8], at: usize, count: usize) -> Option<(usize, usize)>
     requires blank { is_blank (get_or text.now at 0) ≡ true }
     requires within { at < length text.now }
-    ensures number { IfSome result (λ p. first_number count (left_of (drop at text.now)).words
-        ≡ Some (p.0, (left_of (drop p.1 text.now)).words)) }
+    ensures number { IfSome result
+        (λ p. first_number count (words_at text.now at) ≡ Some (p.0, words_at text.now p.1)) }
     ensures below { IfSome result (λ p. p.0 < count) }
-    ensures later { IfSome result
-        (λ p. (left_of (drop p.1 text.now)).later ≡ (left_of (drop at text.now)).later) }
+    ensures later { IfSome result (λ p. later_at text.now p.1 ≡ later_at text.now at) }
     ensures blank { IfSome result (λ p. is_blank (get_or text.now p.1 0) ≡ true) }
     ensures order { IfSome result (λ p. at < p.1) }
     ensures within { IfSome result (λ p. p.1 < length text.now) }
@@ -186,16 +183,16 @@ fn next_register(text: &[u8], at: usize, count: usize) -> Option<(usize, usize)>
     }
 }
 
-/// The number of one of so many registers, after the blank at the place, and the place after the line, which holds nothing else.
+/// The number of a register, after the blank at the place, and the place after the line, which
+/// holds nothing else.
 #[inline(always)]
 fn last_register(text: &[u8], at: usize, count: usize) -> Option<(usize, usize)>
     requires blank { is_blank (get_or text.now at 0) ≡ true }
     requires within { at < length text.now }
     ensures number { IfSome result
-        (λ p. first_number count (left_of (drop at text.now)).words ≡ Some (p.0, [])) }
+        (λ p. first_number count (words_at text.now at) ≡ Some (p.0, [])) }
     ensures below { IfSome result (λ p. p.0 < count) }
-    ensures later { IfSome result
-        (λ p. word_lines (drop p.1 text.now) ≡ (left_of (drop at text.now)).later) }
+    ensures later { IfSome result (λ p. word_lines (drop p.1 text.now) ≡ later_at text.now at) }
     ensures order { IfSome result (λ p. at < p.1) }
     ensures room { IfSome result (λ p. p.1 ≤ length text.now) }
 {
@@ -210,9 +207,8 @@ fn last_amount(text: &[u8], at: usize) -> Option<(u32, usize)>
     requires blank { is_blank (get_or text.now at 0) ≡ true }
     requires within { at < length text.now }
     ensures number { IfSome result
-        (λ p. first_number (2 ^ 32) (left_of (drop at text.now)).words ≡ Some (p.0, [])) }
-    ensures later { IfSome result
-        (λ p. word_lines (drop p.1 text.now) ≡ (left_of (drop at text.now)).later) }
+        (λ p. first_number (2 ^ 32) (words_at text.now at) ≡ Some (p.0, [])) }
+    ensures later { IfSome result (λ p. word_lines (drop p.1 text.now) ≡ later_at text.now at) }
     ensures order { IfSome result (λ p. at < p.1) }
     ensures room { IfSome result (λ p. p.1 ≤ length text.now) }
 {
@@ -221,7 +217,7 @@ fn last_amount(text: &[u8], at: usize) -> Option<(u32, usize)>
     Some((number as u32, end))
 }
 
-/// The number below the limit that digits write after the blank at the place, and the place after them.
+/// The number below the limit after the blank at the place, and the place after its digits.
 #[inline(always)]
 fn number(text: &[u8], at: usize, limit: u64) -> Option<(u64, usize)>
     requires blank { is_blank (get_or text.now at 0) ≡ true }
@@ -247,43 +243,6 @@ fn number(text: &[u8], at: usize, limit: u64) -> Option<(u64, usize)>
     } else {
         Some((number, end))
     }
-}
-
-/// The number of the one digit at the place, where no digit follows it.
-#[inline(always)]
-fn one_digit(text: &[u8], at: usize) -> Option<u64>
-    requires { at ≤ length text.now }
-    ensures reads { IfSome result (λ n. Reads (drop at text.now) (at + 1 - at) n) }
-    ensures within { IfSome result (λ n. at < length text.now) }
-{
-    if at + 1 < text.len() && text[at].is_ascii_digit() && !text[at + 1].is_ascii_digit() {
-        Some(u64::from(text[at] - b'0'))
-    } else {
-        None
-    }
-}
-
-/// The number that digits write from the place on, and the place after them. A digit that takes it to the limit is left.
-#[inline(always)]
-fn digits(text: &[u8], start: usize, limit: u64) -> (u64, usize)
-    requires start { start ≤ length text.now }
-    requires limit { limit ≤ 2 ^ 60 }
-    ensures reads { Reads (drop start text.now) (result.1 - start) result.0 }
-    ensures order { start ≤ result.1 }
-    ensures room { result.1 ≤ length text.now }
-    ensures below { start < result.1 → result.0 < limit }
-{
-    let mut number = 0;
-    let mut at = start;
-    while at < text.len() && text[at].is_ascii_digit() {
-        let next = 10 * number + u64::from(text[at] - b'0');
-        if next >= limit {
-            break;
-        }
-        number = next;
-        at += 1;
-    }
-    (number, at)
 }
 
 /// The place after the LF, where nothing but blanks stands before it.

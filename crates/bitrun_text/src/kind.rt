@@ -80,27 +80,20 @@ fn pair_named(wide: &[u8], narrow: &[u8]) -> Option<WidePair>
     }
 }
 
+/// The type that a word names.
 #[tactic(auto, unfolding(crate::specs::Kind::type_named))]
 fn type_named(word: &[u8]) -> Option<RegisterType>
     ensures { result ≡ type_named word.now }
 {
-    if word == b"u1".as_slice() {
-        Some(RegisterType::U1)
-    } else if word == b"i1".as_slice() {
-        Some(RegisterType::I1)
-    } else if word == b"u7".as_slice() {
-        Some(RegisterType::U7)
-    } else if word == b"i7".as_slice() {
-        Some(RegisterType::I7)
-    } else if word == b"u14".as_slice() {
-        Some(RegisterType::U14)
-    } else if word == b"i14".as_slice() {
-        Some(RegisterType::I14)
-    } else if word == b"u120".as_slice() {
-        Some(RegisterType::U120)
-    } else if word == b"i120".as_slice() {
-        Some(RegisterType::I120)
-    } else {
-        None
+    match word {
+        b"u1" => Some(RegisterType::U1),
+        b"i1" => Some(RegisterType::I1),
+        b"u7" => Some(RegisterType::U7),
+        b"i7" => Some(RegisterType::I7),
+        b"u14" => Some(RegisterType::U14),
+        b"i14" => Some(RegisterType::I14),
+        b"u120" => Some(RegisterType::U120),
+        b"i120" => Some(RegisterType::I120),
+        _ => None,
     }
 }

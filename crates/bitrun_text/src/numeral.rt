@@ -1,9 +1,10 @@
 //! The numbers that words write.
 
-ghost use Rattle.std.specs.Prelude.{◌≡◌, ◌≤◌, ◌<◌, ◌^◌, pos, neg_ℤ, option_map, MatchOption, IfSome};
+ghost use Rattle.std.specs.Prelude.{◌≡◌, ◌≤◌, ◌<◌, ◌+◌, ◌-◌, ◌^◌, length, drop, pos, neg_ℤ, option_map, MatchOption, IfSome};
 ghost use Rattle.std.specs.Bool.{then_some};
 ghost use Rattle.arbitrary_int.specs.Range.{in_range};
 ghost use Rattle.bitrun_text.specs.Numeral.{number_in, integer_in, number_below, value_named, IsFar};
+ghost use Rattle.bitrun_text.specs.Fast.{Reads};
 
 use arbitrary_int::traits::{FixedWidth, Numbered};
 
@@ -13,20 +14,59 @@ pub fn number_below(word: &[u8], limit: u128) -> Option<u128>
     ensures value { result ≡ number_below limit word.now }
     ensures below { IfSome result (λ number. number < limit) }
 {
-    if word.is_empty() {
-        return None;
-    }
-    let mut number = 0;
-    for byte in word {
-        if !byte.is_ascii_digit() {
+    // As a rule these are all digits of the word.
+    let (first, end) = digits(word, 0, limit.min(1 << 60) as u64);
+    let mut number = u128::from(first);
+    let mut at = end;
+    while at < word.len() {
+        if !word[at].is_ascii_digit() {
             return None;
         }
-        number = 10 * number + u128::from(*byte - b'0');
+        number = 10 * number + u128::from(word[at] - b'0');
         if number >= limit {
             return None;
         }
+        at += 1;
     }
-    Some(number)
+    if word.is_empty() { None } else { Some(number) }
+}
+
+/// The number of the one digit at the place, where no digit follows it.
+#[inline(always)]
+pub fn one_digit(text: &[u8], at: usize) -> Option<u64>
+    requires { at ≤ length text.now }
+    ensures reads { IfSome result (λ n. Reads (drop at text.now) (at + 1 - at) n) }
+    ensures within { IfSome result (λ n. at < length text.now) }
+{
+    if at + 1 < text.len() && text[at].is_ascii_digit() && !text[at + 1].is_ascii_digit() {
+        Some(u64::from(text[at] - b'0'))
+    } else {
+        None
+    }
+}
+
+/// The number that the digits from the place on write, and the place after them. A digit with which
+/// the number is no longer below the limit is left.
+#[inline(always)]
+pub fn digits(text: &[u8], start: usize, limit: u64) -> (u64, usize)
+    requires start { start ≤ length text.now }
+    requires limit { limit ≤ 2 ^ 60 }
+    ensures reads { Reads (drop start text.now) (result.1 - start) result.0 }
+    ensures order { start ≤ result.1 }
+    ensures room { result.1 ≤ length text.now }
+    ensures below { start < result.1 → result.0 < limit }
+{
+    let mut number = 0;
+    let mut at = start;
+    while at < text.len() && text[at].is_ascii_digit() {
+        let next = 10 * number + u64::from(text[at] - b'0');
+        if next >= limit {
+            break;
+        }
+        number = next;
+        at += 1;
+    }
+    (number, at)
 }
 
 /// The value that the word is a numeral of, if the type has it.

@@ -25,8 +25,8 @@ pub fn registers<'a, R: FixedWidth, A: Allocator>(
     requires narrow { R.BITS ≤ 120 }
     ensures values { IfOk result (λ found. MatchOption found
         (HasRegistersForm R.IS_SIGNED R.BITS line.old.words → ⊥)
-        (λ registers. AllZip (IsValue R.IS_SIGNED R.BITS) line.old.words
-        (map R.number registers.items))) }
+        (λ registers. AllZip (IsValue R.IS_SIGNED R.BITS)
+        line.old.words (map R.number registers.items))) }
     ensures later { line.new.later ≡ line.old.later }
 {
     let mut registers = Vec::new(alloc);
@@ -74,8 +74,8 @@ pub fn steps<'a, A: Allocator>(
     }
 }
 
-/// Adds the steps of the fast lines with which the text begins, as far as there is room for them, counts these lines and those that have an LF
-/// alone, and gives what follows them. No call is made for such a line, so that what goes on need not be stored in memory.
+/// Adds the steps of the fast lines at the beginning of the text, while there is room for them. It
+/// counts these lines and the empty ones among them, and returns what follows.
 #[inline(never)]
 fn fast_steps<'a, 't, A: Allocator>(
     count: usize,
@@ -124,11 +124,11 @@ fn after_indent(text: &[u8], at: usize) -> usize
 }
 
 /// The place after the lines at the place that have an LF alone.
-// In line, this loop would take processor registers from that of the fast lines.
+// In line, it would take processor registers from the loop over the fast lines.
 #[inline(never)]
 fn after_empty_lines(text: &[u8], at: usize) -> usize
     requires { at ≤ length text.now }
-    ensures read { (count : ℕ) → (all : List (List (List ℕ))) → (steps : List Step) → (number : ℕ)
+    ensures read { (count : ℕ) (all : List (List (List ℕ))) (steps : List Step) (number : ℕ)
         → ReadSoFar count all steps number (word_lines (drop at text.now))
         → ReadSoFar count all steps (number + (result - at)) (word_lines (drop result text.now)) }
     ensures counted { (result - at) + length (word_lines (drop result text.now))

@@ -33,23 +33,6 @@ impl Read for Drip<'_> {
     }
 }
 
-/// Gives one byte a call, without end.
-#[derive(Drop)]
-struct Endless {
-    calls: usize,
-}
-
-impl Read for Endless {
-    fn read(&mut self, buf: &mut [u8]) -> io::Result<usize> {
-        self.calls = self.calls.saturating_add(1);
-        if buf.is_empty() {
-            return Ok(0);
-        }
-        buf[0] = b'x';
-        Ok(1)
-    }
-}
-
 /// Takes one byte a call, and fails at one of its calls, or takes nothing there.
 #[derive(Drop)]
 struct Nibble {
@@ -135,8 +118,14 @@ fn writer_fails(rt: HostRuntime) -> Result<(), Fail> {
 }
 
 #[test]
-fn reader_never_ends(rt: HostRuntime) -> Result<(), Fail> {
-    let mut reader = Watched::new(Endless { calls: 0 });
+fn reader_has_too_much(rt: HostRuntime) -> Result<(), Fail> {
+    let input = vec![in rt.alloc(); b'x'; 70_000]?;
+    let mut reader = Watched::new(Drip {
+        rest: input.as_slice(),
+        calls: 0,
+        fails_at: 0,
+        kind: ErrorKind::Other,
+    });
     let mut writer = Watched::new(Vec::new(rt.alloc()));
     let outcome = serve(rt.alloc(), &mut reader, &mut writer);
     assert_eq!(rt; outcome, Err(Fault::TooLong));

@@ -15,6 +15,6 @@ returns-else-end-start-clause-number c =
     let text = c.args.text.now in
     let at = c.args.at in
     let start = c.after_blanks-start in
-    let read = c.digits.ensures in
-    number_from text at start.result c.digits.result.1 c.digits.result.0 (start.ensures.same ∙ blank_passed text at c.requires.within c.requires.blank)
+    let read = c.digits-number.ensures in
+    number_from text at start.result c.digits-number.result.1 c.digits-number.result.0 (start.ensures.same ∙ blank_passed text at c.requires.within c.requires.blank)
     (omega (arith, read.order, c.if-end-start.false)) read.reads

@@ -1,6 +1,6 @@
 use Rattle.std.proofs.Common.{◌≡◌, ◌+◌, ◌-◌, ◌*◌, drop, get_or, sym, arith}
 use Rattle.bitrun_text.proofs.Numbers.{reads-none, reads-later}
-use Rattle.bitrun_text.proofs.fast.digits.Goals as goal
+use Rattle.bitrun_text.proofs.numeral.digits.Goals as goal
 
 pub loop-at-init : goal.loop-at-init
 loop-at-init c =

@@ -1,7 +1,7 @@
 -- What the loop over the digits keeps: those passed write the number. A round ends nearer to the end of the text.
 use Rattle.std.proofs.Common.{◌≤◌, ◌<◌, ◌-◌, ◌^◌, length, drop}
 use Rattle.bitrun_text.specs.Fast.{Reads}
-use Rattle.bitrun_text.proofs.fast.digits.Given as goal
+use Rattle.bitrun_text.proofs.numeral.digits.Given as goal
 
 abbrev pub invariant-loop-at : goal.invariant-loop-at
 invariant-loop-at l = record {
