@@ -1,5 +1,4 @@
-//! The code on the pages: the functions of the README, the forms of docs/PROVING.md, the lines of docs/DIFFERENCES.md, and the facts of
-//! docs/SETS.md.
+//! The code on the pages: the functions of the README, the forms of docs/PROVING.md, and the lines of docs/DIFFERENCES.md.
 #![tactic(auto)]
 
 pub mod clauses;
@@ -12,5 +11,4 @@ pub mod first;
 mod from_rust;
 pub mod generic;
 pub mod places;
-pub mod sets;
 pub mod storages;
