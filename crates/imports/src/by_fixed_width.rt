@@ -30,7 +30,7 @@ pub fn sum_by_type<V: FixedWidth>(x: V, y: V) -> V
 }
 
 /// How many bits are one.
-pub fn ones<V: FixedWidth>(x: V) -> u32
+pub fn count_ones<V: FixedWidth>(x: V) -> u32
     ensures { result ≡ count_by (λ b. b) (bits V.BITS (V.number x)) }
 {
     x.count_ones()

@@ -68,7 +68,7 @@ fn of_fixed_width(rt: HostRuntime) {
         by_fixed_width::product(u7::new(25), u7::new(12)),
         u7::new(127)
     );
-    assert_eq!(rt; by_fixed_width::ones(i7::new(-1)), 7);
+    assert_eq!(rt; by_fixed_width::count_ones(i7::new(-1)), 7);
     assert_eq!(rt; by_fixed_width::turned(u4::new(9)), u4::new(3));
     assert_eq!(rt; by_fixed_width::field::<i5>(0b0011_1110, 1), i5::new(-1));
     assert_eq!(rt; by_fixed_width::signed_field::<u4>(-1, 60), u4::new(15));
