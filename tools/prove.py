@@ -98,8 +98,8 @@ class Function:
 class Copies:
     """Copies of the crate, in each of which a check runs beside the others."""
 
-    def __init__(self, crate, room, uses, jobs):
-        self.crate, self.uses, self.running = crate, uses, []
+    def __init__(self, crate, room, uses, index, jobs):
+        self.crate, self.uses, self.index, self.running = crate, uses, index, []
         free = int(re.search(r'MemAvailable: *(\d+)', Path('/proc/meminfo').read_text())[1]) / 2**20
         self.count = max(1, min(jobs or len(os.sched_getaffinity(0)), int(free / MEMORY)))
         self.rooms = [room / str(number) for number in range(self.count)]
@@ -156,7 +156,7 @@ class Copies:
             for goal in function.goals:
                 for shown in found:
                     if (function.name, goal) in shown:
-                        function.words[goal] = strengths(shown[function.name, goal])
+                        function.words[goal] = strengths(shown[function.name, goal], self.index)
 
     def confirmed(self, solutions):
         """Those of these functions that the check proves with their attributes."""
@@ -182,11 +182,12 @@ class Copies:
                 raise
 
 
-def strengths(shown):
-    """The words of a goal and, with less strength, of what is known there."""
+def strengths(shown, index):
+    """The words of a goal and, with less strength, of what is known there: of the facts that are shown, and of what the calls before it ensure."""
     goal, _, known = shown.partition('names you can use')
-    known = ' '.join(re.findall(r'^ *c\.\S+ : (.*)$', known, re.M))
-    return {**dict.fromkeys(words(known), 0.8), **dict.fromkeys(words(goal.partition('⊢')[2]), 1.0)}
+    facts = ' '.join(re.findall(r'^ *c\.\S+ : (.*)$', known, re.M))
+    calls = {call for step in re.findall(r'\bc\.(\w+)', known) for call in index.ensured.get(step, ())}
+    return {**dict.fromkeys(words(facts) | calls, 0.8), **dict.fromkeys(words(goal.partition('⊢')[2]), 1.0)}
 
 
 def run(words, folder, running):
@@ -483,7 +484,7 @@ def searched(crate, names, functions, jobs):
     uses[crate] = list(dict.fromkeys([*uses[crate], *with_laws]))
     index = Index([ROOT / 'crates' / it for it in with_laws], KIT / 'rattle')
     with tempfile.TemporaryDirectory(prefix='prove-') as room:
-        copies = Copies(crate, Path(room), uses, jobs)
+        copies = Copies(crate, Path(room), uses, index, jobs)
         has_laws = any(USING.search(file.read_text()) for file in (copies.folder / 'src').rglob('*.rt'))
         functions = bare(copies, names) if has_laws else functions
         return functions, found_in(copies, index, functions)

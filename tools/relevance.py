@@ -16,6 +16,8 @@ LAW = re.compile(r' *pub (?!ruleset|mod|use|data|record)(\S+) : (.*)$')
 DEFINED = re.compile(r'^ *(?:abbrev|unfoldable) pub (\S+) :', re.M)
 # Where the part of a law's conclusion that the search looks for ends: at its first relation.
 RELATION = re.compile(r' (?:≡|≤|<|≤ℤ|<ℤ) ')
+# A method, and the first clause that it ensures, which is the exact one.
+ENSURES = re.compile(r'^ +(?:pub )?(?:final )?fn (\w+)\b(?:(?! *\{\n)(?! *(?:pub )?fn ).*\n)*? *ensures(?: \w+)? \{(.*(?:\n {9,}.*)*)', re.M)
 # Words that a term has whatever it is about.
 PLAIN = {'≡', 'ℕ', 'ℤ', 'pos', 'Bool', 'true', 'false', '×'}
 
@@ -55,7 +57,7 @@ def laws(text):
 def words(text):
     """The words of a term as the check prints it: the names without their modules, and no path into the goal's context."""
     tokens = re.findall(r'[^\s(){}\[\],;]+', text)
-    return {it.split('.')[-1].strip('◌') for it in tokens if not re.match(r'c\.|goal\.|\d', it)} - PLAIN
+    return {it.split('.')[-1].strip('◌') for it in tokens if not re.match(r'c\.|goal\.|T\.|g\.|\d', it)} - PLAIN
 
 
 class Index:
@@ -63,7 +65,7 @@ class Index:
 
     def __init__(self, crates, kit):
         """Reads the crates of these folders, and from the kit the laws of std that their sets have."""
-        self.laws, self.sets, self.kit, names = {}, {}, kit, set()
+        self.laws, self.sets, self.kit, self.ensured, names = {}, {}, kit, {}, set()
         for crate in crates:
             for file in sorted((crate / 'proofs').rglob('*.antt')):
                 text = file.read_text()
@@ -75,6 +77,9 @@ class Index:
                 self.laws.update(((module, name), text) for name, text in laws(text))
                 for name, members in SET.findall(text):
                     self.sets[module, name] = [imported.get(it, (module, it)) for it in members.split(', ')]
+            for file in (crate / 'src').rglob('*.rt'):
+                for call, clause in ENSURES.findall(file.read_text()):
+                    self.ensured.setdefault(call, set()).update(words(clause))
         for entry in {it for members in self.sets.values() for it in members} - {*self.laws, *self.sets}:
             self.laws[entry] = self.of_std(*entry)
         self.vocabulary = {it.strip('◌') for it in names} | {name for _, name in self.laws}
@@ -137,6 +142,6 @@ class Index:
             members = self.members(name)
             said = {word for law in members for word in self.left[law]}
             covered = sum(self.weight.get(word, 0) * known.get(word, 0) for word in said) / total
-            return covered + sum(self.relevance(law, known) for law in members) / len(members)
+            return covered / 2 + sum(self.relevance(law, known) for law in members) / len(members)
 
         return sorted(self.sets, key=lambda name: -rank(name))
