@@ -7,7 +7,7 @@ use Rattle.std.proofs.lemmas.Bool.{cases_lt}
 use Rattle.std.proofs.lemmas.Bool.Decides.{Decides-int_eq}
 use Rattle.arbitrary_base.specs.BitList.{bits}
 use Rattle.arbitrary_base.specs.Operation.{rotated_left, rotated_right}
-use Rattle.arbitrary_base.proofs.bit_lists.Movement.{length-rotr}
+use Rattle.arbitrary_base.proofs.bit_lists.Movement.{length-rotr, rotr}
 use Rattle.arbitrary_base.proofs.bit_lists.UnsignedNumber.{length-bits}
 use Rattle.arbitrary_base.proofs.operations.Definition.{bits-rotl, by-bits, rotl-is, rotr-is}
 use Rattle.arbitrary_base.proofs.operations.RotateAndReverse.{reversed-rotated_left, rotated_right-none}
