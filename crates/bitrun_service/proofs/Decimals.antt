@@ -1,9 +1,8 @@
 -- The digits of a number, the last ones first.
-use Rattle.std.proofs.Common.{◌≡◌, ℕ, ◌+◌, ◌*◌, ◌/◌, ◌%◌, ◌^◌, ◌<◌, ◌≤◌, [], ◌∷◌, ◌++◌, length, ℤ, pos, negsuc, ◌≤ℤ◌, ◌<ℤ◌, true, false, true≢false, int_le, int_lt, unsigned_abs, refl, sym, ap, ◌∙◌, arith, add-one, mul_assoc, length-append}
+use Rattle.std.proofs.Common.{◌≡◌, ℕ, ◌+◌, ◌*◌, ◌/◌, ◌%◌, ◌^◌, ◌<◌, ◌≤◌, [], ◌∷◌, ◌++◌, length, ℤ, pos, negsuc, true, false, true≢false, int_le, unsigned_abs, refl, sym, ap, ◌∙◌, arith, add-one, mul_assoc, length-append}
 use lib.Dec.{leb-zero}
 use Rattle.std.specs.Fmt.{decimal, signed_decimal}
 use Rattle.std.proofs.lemmas.Fmt.{decimal_digit, decimal_step_wide, length-decimal-le_wide}
-use Rattle.std.proofs.lemmas.Int.{ints}
 use Rattle.std.proofs.lemmas.Nat.{mul-le}
 use Rattle.std.proofs.Math.Nat.{one-le-pow, pow-suc, pow-le-pow_right}
 
@@ -40,7 +39,3 @@ length-high n h = length-decimal-le_wide 22 n (omega arith) (omega arith) (omega
 pub minus_first : (z : ℤ) → int_le (pos 0) z ≡ false → 45 ∷ decimal (unsigned_abs z) ≡ signed_decimal z
 minus_first (pos n) e = absurd (true≢false (sym (leb-zero n) ∙ e))
 minus_first (negsuc n) e = refl
-
-pub one_digit : (z : ℤ) → int_le (pos 0) z ≡ true → int_lt z (pos 10) ≡ true → (48 + unsigned_abs z) ∷ [] ≡ signed_decimal z
-one_digit (pos n) h k = sym (decimal_digit n (let less : pos n <ℤ pos 10 = grind (arith, ints) in omega (arith, ints, less)))
-one_digit (negsuc n) h k = absurd (let less : pos 0 ≤ℤ negsuc n = grind (arith, ints) in omega (arith, ints, less))

@@ -16,10 +16,6 @@ pub fn push_decimal<B: Allocator>(text: &mut Vec<u8, B>, number: i128) -> Result
     requires { unsigned_abs number < 2 ^ 120 }
     ensures { OnOk result (text.new.items ≡ text.old.items ++ signed_decimal number) }
 {
-    if 0 <= number && number < 10 {
-        text.push(b'0' + number as u8)?;
-        return Ok(());
-    }
     let mut buffer = [0; LONGEST];
     let start = write_signed(number, &mut buffer);
     text.extend_from_slice(&buffer[start..])

@@ -1,6 +1,6 @@
 //! The words of a step.
 
-ghost use Rattle.std.specs.Prelude.{◌≡◌, ◌∷◌, ◌≤◌, ◌<◌, ◌^◌, Some, None, IfSome, MatchOption};
+ghost use Rattle.std.specs.Prelude.{◌≡◌, ◌∷◌, ◌<◌, ◌^◌, Some, None, IfSome, MatchOption};
 ghost use Rattle.arbitrary_int.specs.Steps.{StepWithin};
 ghost use Rattle.bitrun_text.specs.Text.{Left};
 ghost use Rattle.bitrun_text.specs.Numeral.{first_number};
@@ -108,7 +108,7 @@ fn register(operands: &mut Cursor, count: usize) -> Option<usize>
     ensures within { IfSome result (λ n. n < count) }
     ensures later { operands.new.later ≡ operands.old.later }
 {
-    let number = next_number(operands, count as u128)?;
+    let number = number_below(operands.next_word()?, count as u128)?;
     Some(number as usize)
 }
 
@@ -118,17 +118,6 @@ fn amount(operands: &mut Cursor) -> Option<u32>
         (λ n. first_number (2 ^ 32) operands.old.words ≡ Some (n, operands.new.words)) }
     ensures later { operands.new.later ≡ operands.old.later }
 {
-    let number = next_number(operands, 1 << 32)?;
+    let number = number_below(operands.next_word()?, 1 << 32)?;
     Some(number as u32)
-}
-
-/// Takes a number below the limit.
-fn next_number(operands: &mut Cursor, limit: u128) -> Option<u128>
-    requires { limit ≤ 2 ^ 124 }
-    ensures number { MatchOption result (first_number limit operands.old.words ≡ None)
-        (λ n. first_number limit operands.old.words ≡ Some (n, operands.new.words)) }
-    ensures below { IfSome result (λ n. n < limit) }
-    ensures later { operands.new.later ≡ operands.old.later }
-{
-    number_below(operands.next_word()?, limit)
 }
