@@ -4,6 +4,7 @@ pub mod bits
 pub mod places
 pub mod masks
 pub mod fields
+pub mod words
 pub mod written
 pub mod signs
 pub mod counts

@@ -111,6 +111,9 @@ use Rattle.arbitrary_laws.proofs.sums.Ring.{difference-of_difference_right, diff
 use Rattle.arbitrary_laws.proofs.sums.Saturations.{clamped-difference_twice, clamped-differences_exchanged, difference-of_clamped_sum}
 use Rattle.arbitrary_laws.proofs.sums.SerialNumbers.{none-apart, step-back, turned-none, turned-of_least, turned-with_sign, turned-without_sign}
 use Rattle.arbitrary_laws.proofs.sums.WrappedWords.{word_difference-right, word_sum-after, word_sum-before, word_sum-left, wrap-masked, wrap-remainder, wrap-word_difference}
+use Rattle.arbitrary_laws.proofs.words.ApartParts.{apart_parts}
+use Rattle.arbitrary_laws.proofs.words.OverflowFlags.{one_bits}
+use Rattle.arbitrary_laws.proofs.words.WrittenMasks.{written_masks}
 use Rattle.arbitrary_laws.proofs.written.AnyWidth.{negative-in_range, number-in_range, number-in_range_signed}
 use Rattle.arbitrary_laws.proofs.written.KnownBytes.{bytes-of_negative, bytes-of_positive}
 use Rattle.arbitrary_laws.proofs.written.KnownCount.{popcount-of_numeral}
@@ -149,6 +152,13 @@ pub ruleset orders = (Decides-int_eq, le-tested, lt-tested, ge-tested, gt-tested
 
 -- conversions, quotients, remainders, small powers, and calls on written numbers
 pub ruleset numbers = (wrap-of_in_range, wrap-congruent, wrap-wrap, clamp-fits, length-bits, num-bits_residue, val-bits_in_range, in_range-tells, sums-associate, or_three, signed_primitive, sum-right, sum-left, difference-right, difference-left, product-right, product-left, word_sum-right, congruent-by_remainder, Decides-int_eq, wrap-wide, and-truncated, or-truncated, xor-truncated, not-truncated, sum-truncated, difference-truncated, product-truncated, left-truncated, left_rotation-converted, right_rotation-converted, reversal-converted, and-at_128, or-at_128, xor-at_128, shifted_right-is_shr, primitive_and, primitive_or, primitive_xor, sum-exact, difference-exact, product-exact, sum-left_of_ExactSums, sum-right_of_ExactSums, difference-left_of_ExactSums, difference-right_of_ExactSums, sum-converted, difference-converted, product-converted, sum-of_sum, sum-of_difference_of_ExactSums, difference-of_sum_of_ExactSums, difference-of_difference, quotient-beside, quotient-orders, quotient-of_product, quotient-of_quotient, signed_quotient-beside, signed_quotient-below, signed_quotient-orders, signed_quotient-by_more, quotient-of_parts, signed_quotient-of_parts, lt-tested, le-tested, quotient-none, quotient-of_next, quotients-exchanged, quotient-of_negated, quotients-ordered, ints, gt-tested, ge-tested, signed_quotient-with_remainder, quotient-with_remainder, power-zero, power-one, power-twice, power-thrice, quotient-self, quotient-times, wrap-of_positive, wrap-of_negative, signed_wrap-of_positive, signed_wrap-of_negative, and-of_positive, or-of_positive, xor-of_positive, not-of_positive, left-of_positive, right-of_positive, rotated_left-of_positive, rotated_right-of_positive, reversed-of_positive, and-of_negative, or-of_negative, xor-of_negative, not-of_negative, left-of_negative, right-of_negative, rotated_left-of_negative, rotated_right-of_negative, reversed-of_negative, and-with_negative, or-with_negative, xor-with_negative, popcount-of_numeral, popcount-of_negative, front-of_numeral, front-of_negative, front_ones-of_numeral, front_ones-of_negative, tail-of_numeral, tail_ones-of_negative, tail_ones-of_numeral, bytes-of_positive, bytes-of_negative, number-in_range, number-in_range_signed, negative-in_range, mod_self, apart-at_least, apart-above, turned-none, turned-with_sign, turned-of_least, turned-without_sign, step-back, none-apart, least-falls, greatest-rises, power-rises)
+
+-- register words: any expression of `&`, `|`, `^`, `!`, shifts and conversions over written masks is a sum of fields. The laws compute on the
+-- masks, so none of them says how many fields there are, or how wide they are
+pub ruleset words = (written_masks, apart_parts)
+
+-- carry, overflow and borrow by one bit of a primitive or a `UInt`, and pages that differ
+pub ruleset overflow_flags = (written_masks, one_bits)
 
 -- words of fields and flags: joined, written in place, read back, with a sign, beside conversions
 pub ruleset fields = (or_next, or_after_shift, or_above, or_above_numeral, numeral_next, or_numeral_first, or_numeral_last, or_numeral_between, or_masked, and_above, and_numeral, ints, Decides-eqb, Decides-int_eq, and_beside, and_around, or_into_hole, or_flags, or_moved_in, or_moved_above, xor_flags, or-into_cleared, and-by_complement, and-digits, one_shifted, pos-unsigned_abs, bit_tested, bit_set, bit_set-other, bit_turned, bit_turned-other, bit_cleared, bit_cleared-other, set_then_cleared, Borsh-told, number-of_Borsh, number-of_Borsh_signed, first-of_Borsh, first-of_Borsh_signed, reverse-reverse, signed_items, length-of_text, numbers-head, last_of-joined, numbers-end, numbers-count, with_field-of_nothing, and-digits_signed, and-run, and-congruent, and-multiple, and-multiple_by_negative, and-within, and-below, and-by_negative, or-by_and, xor-by_and, and-of_cleared, and-of_set, own_bits-in_range, wrap-congruent, signed_primitive, sum-right, sum-left, difference-right, difference-left, product-right, product-left, word_sum-right, congruent-by_remainder, wrap-of_in_range, wrap-wrap, clamp-fits, length-bits, num-bits_residue, val-bits_in_range, in_range-tells, sums-associate, or_three, wrap-remainder, wrap-masked, word_sum-left, word_sum-before, word_sum-after, word_difference-right, wrap-word_difference, lowest_field, lowest_field-wrapped, or_below_flag, signed-of_bits, signed-of_unsigned, unsigned-of_signed, bits-of_signed, written-congruent, bitwise_and-complement, field_cleared, field_written, placed-written)

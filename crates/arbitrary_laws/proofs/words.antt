@@ -1,0 +1,4 @@
+pub mod ApartParts
+pub mod LowestOne
+pub mod OverflowFlags
+pub mod WrittenMasks

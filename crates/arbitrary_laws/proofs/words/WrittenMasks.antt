@@ -1,0 +1,96 @@
+-- A number under a written mask is the sum of what the mask's runs of ones let through, each as a quotient and a remainder.
+use Rattle.std.specs.Prelude.{◌≡◌, ℕ, zero, suc, ◌+◌, ◌-◌, ◌*◌, ◌/◌, ◌%◌, ◌^◌, ◌<◌}
+use Rattle.std.specs.Int.Bits.{bit_and, bit_or, bit_xor, or_add_and, xor_add_and}
+use Rattle.std.proofs.Common.{refl, sym, ap, ap₂, ◌∙◌, arith, div-add-mod', mod-lt}
+use Rattle.std.proofs.Math.Nat.{add-mul, mod-mod}
+use Rattle.std.proofs.lemmas.Nat.{and_assoc, and_block, and_comm, and_le_l, and_mask, pow_pos, shl-shr}
+use Rattle.arbitrary_laws.proofs.words.LowestOne.{low_bit, low_power, none}
+
+-- a mask that is moved up
+pub up : (n a k : ℕ) → bit_and n (a * 2 ^ k) ≡ bit_and (n / 2 ^ k) a * 2 ^ k
+up n a k =
+    let e : n / 2 ^ k * 2 ^ k + n % 2 ^ k ≡ n = div-add-mod' n (2 ^ k) in
+    let z : a * 2 ^ k + 0 ≡ a * 2 ^ k = omega arith in
+    ap₂ bit_and (sym e) (sym z) ∙ and_block k (n / 2 ^ k) a (n % 2 ^ k) 0 (mod-lt n (pow_pos k)) (pow_pos k)
+    ∙ ap (λ (i : ℕ). bit_and (n / 2 ^ k) a * 2 ^ k + i) (none (n % 2 ^ k)) ∙ omega arith
+
+-- a mask with k ones at its low end
+low : (n a k : ℕ) → bit_and n (a * 2 ^ k + (2 ^ k - 1)) ≡ bit_and n (a * 2 ^ k) + n % 2 ^ k
+low n a k =
+    let p = pow_pos k in
+    let e : n / 2 ^ k * 2 ^ k + n % 2 ^ k ≡ n = div-add-mod' n (2 ^ k) in
+    let s : 2 ^ k - 1 < 2 ^ k = omega arith in
+    let m : n % 2 ^ k % 2 ^ k ≡ n % 2 ^ k = mod-mod n (2 ^ k) in
+    ap (λ (i : ℕ). bit_and i (a * 2 ^ k + (2 ^ k - 1))) (sym e) ∙ and_block k (n / 2 ^ k) a (n % 2 ^ k) (2 ^ k - 1) (mod-lt n p) s
+    ∙ ap₂ (λ (i j : ℕ). i + j) (sym (up n a k)) (and_mask (n % 2 ^ k) k ∙ m)
+
+peeled : (n m k l q r : ℕ) → m ≡ q * 2 ^ k → q + 1 ≡ suc r * 2 ^ l
+    → bit_and n m ≡ n / 2 ^ k % 2 ^ l * 2 ^ k + bit_and n (m - (2 ^ l - 1) * 2 ^ k)
+peeled n m k l q r e f =
+    let p = pow_pos l in
+    let s : suc r * 2 ^ l ≡ r * 2 ^ l + 2 ^ l = omega arith in
+    let g : q ≡ r * 2 ^ l + (2 ^ l - 1) = omega (arith, f, s, p) in
+    let h : m ≡ r * 2 ^ l * 2 ^ k + (2 ^ l - 1) * 2 ^ k = e ∙ ap (λ (i : ℕ). i * 2 ^ k) g ∙ add-mul (r * 2 ^ l) (2 ^ l - 1) (2 ^ k) in
+    let rest : m - (2 ^ l - 1) * 2 ^ k ≡ r * 2 ^ l * 2 ^ k = omega (arith, h) in
+    ap (bit_and n) (e ∙ ap (λ (i : ℕ). i * 2 ^ k) g) ∙ up n (r * 2 ^ l + (2 ^ l - 1)) k
+    ∙ ap (λ (i : ℕ). i * 2 ^ k) (low (n / 2 ^ k) r l) ∙ add-mul (bit_and (n / 2 ^ k) (r * 2 ^ l)) (n / 2 ^ k % 2 ^ l) (2 ^ k)
+    ∙ ap (λ (i : ℕ). i + n / 2 ^ k % 2 ^ l * 2 ^ k) (sym (up n (r * 2 ^ l) k)) ∙ omega (arith, ap (bit_and n) rest)
+
+some : (q k r : ℕ) → q + 1 ≡ r * k → (s : ℕ) × (q + 1 ≡ suc s * k)
+some q k zero e = absurd (omega arith)
+some q k (suc s) e = (s, e)
+
+-- the lowest run of ones is `run_length - 1` times the lowest one
+abbrev pub run_length : ℕ → ℕ
+run_length m = low_bit (m / low_bit m + 1)
+
+-- `suc m` fits a mask that is written out: its lowest run of ones, and the others
+pub and_runs : (n m : ℕ) → bit_and n (suc m)
+    ≡ n / low_bit (suc m) % run_length (suc m) * low_bit (suc m) + bit_and n (suc m - (run_length (suc m) - 1) * low_bit (suc m))
+and_runs n m =
+    let p = low_power (suc m) (omega arith) in
+    let k = p.place in
+    let c : suc m / low_bit (suc m) ≡ p.times = ap₂ (λ (i j : ℕ). i / j) p.number p.is ∙ shl-shr p.times k in
+    let b = low_power (p.times + 1) (omega arith) in
+    let l = b.place in
+    let e : run_length (suc m) ≡ 2 ^ l = ap (λ (i : ℕ). low_bit (i + 1)) c ∙ b.is in
+    let r = some p.times (2 ^ l) b.times b.number in
+    peeled n (suc m) k l p.times r.0 p.number r.1
+    ∙ sym (ap₂ (λ (i j : ℕ). n / i % j * i + bit_and n (suc m - (j - 1) * i)) p.is e)
+
+pub and_none : (n : ℕ) → bit_and n 0 ≡ 0
+and_none n = none n
+
+pub and_of_and : (x m k : ℕ) → bit_and (bit_and x m) (suc k) ≡ bit_and x (bit_and m (suc k))
+and_of_and x m k = and_assoc (suc k) x m
+
+-- ---- a written number that is set, and one that is turned over
+
+-- what a mask lets through of a word that is joined to it. It is opened by its runs alone
+unfoldable pub through : ℕ → ℕ → ℕ
+through n m = bit_and n m
+
+through-is : (n m : ℕ) → through n m ≡ bit_and n m
+unfolding through
+through-is n m = refl
+
+pub through_runs : (n m : ℕ) → through n (suc m)
+    ≡ n / low_bit (suc m) % run_length (suc m) * low_bit (suc m) + through n (suc m - (run_length (suc m) - 1) * low_bit (suc m))
+through_runs n m =
+    let k = suc m - (run_length (suc m) - 1) * low_bit (suc m) in
+    through-is n (suc m) ∙ and_runs n m ∙ ap (λ (i : ℕ). n / low_bit (suc m) % run_length (suc m) * low_bit (suc m) + i) (sym (through-is n k))
+
+pub through_none : (n : ℕ) → through n 0 ≡ 0
+through_none n = through-is n 0 ∙ none n
+
+pub or_written : (a m : ℕ) → bit_or a (suc m) ≡ a - through a (suc m) + suc m
+or_written a m = omega (arith, or_add_and a (suc m), and_le_l a (suc m), through-is a (suc m))
+
+pub written_or : (a m : ℕ) → bit_or (suc m) a ≡ a - through a (suc m) + suc m
+written_or a m = omega (arith, or_add_and (suc m) a, and_comm a (suc m), and_le_l a (suc m), through-is a (suc m))
+
+pub xor_written : (a m : ℕ) → bit_xor a (suc m) ≡ a + suc m - 2 * through a (suc m)
+xor_written a m = omega (arith, xor_add_and a (suc m), through-is a (suc m))
+
+-- a word under written masks, and written numbers that are set in it or turned over
+pub ruleset written_masks = (and_runs, and_none, and_of_and, through_runs, through_none, or_written, written_or, xor_written)
