@@ -58,13 +58,7 @@ fn take_fixed(rt: &impl Print, name: &str, limit: u32, passes: u32) -> io::Resul
     }
 }
 
-fn measure_fixed(
-    rt: &impl Print,
-    name: &str,
-    call: &str,
-    limit: u32,
-    passes: u32,
-) -> io::Result<()>
+fn measure_fixed(rt: &impl Print, name: &str, call: &str, limit: u32, passes: u32) -> io::Result<()>
     requires { 1 ≤ limit }
 {
     if call == "extract_u32" {
