@@ -126,9 +126,9 @@ module _ (a n m : ℕ) (p : bit_and (suc m + 1) (suc m) ≡ 0) (e : a % (suc m +
 
 whole : (v d : ℕ) → 0 < v → v % d ≡ 0 → 1 * d ≤ v
 whole v d b q = elim (cases_lt v d) [
-    | inl l ↦ absurd (omega (arith, mod-eq_of_lt l, q, b))
-    | inr l ↦ omega arith
-  ]
+  | inl l ↦ absurd (omega (arith, mod-eq_of_lt l, q, b))
+  | inr l ↦ omega arith
+]
 
 module _ (y d v : ℕ) (c : 0 < d) (p : bit_and d (d - 1) ≡ 0) (b : 0 < v) (q : v % d ≡ 0) where
   moved_is : (z : ℕ) × (k : ℕ) × (d ≡ 2 ^ k) × (y * d % v ≡ z * 2 ^ k) × (z ≤ y)

@@ -24,13 +24,13 @@ low_bit n = bit_xor n (n - 1) / 2 + 1
 odd_times : (f n : ℕ) → n < f → 0 < n → (k : ℕ) × (r : ℕ) × (n ≡ r * 2 ^ suc k + 2 ^ k)
 odd_times zero n l p = absurd (omega arith)
 odd_times (suc f) n l p = elim (cases_lt (n % 2) 1) [
-    | inl e ↦
-        let h = odd_times f (n / 2) (omega arith) (omega arith) in
-        let k = h.0 in
-        let r = h.1 in
-        (suc k, r, omega (arith, h.2, next k, next (suc k), ap (λ (i : ℕ). r * i) (next (suc k)), ap (λ (i : ℕ). r * i) (next k), twice r (2 ^ k), twice r (2 ^ suc k)))
-    | inr e ↦ (0, n / 2, omega arith)
-  ]
+  | inl e ↦
+      let h = odd_times f (n / 2) (omega arith) (omega arith) in
+      let k = h.0 in
+      let r = h.1 in
+      (suc k, r, omega (arith, h.2, next k, next (suc k), ap (λ (i : ℕ). r * i) (next (suc k)), ap (λ (i : ℕ). r * i) (next k), twice r (2 ^ k), twice r (2 ^ suc k)))
+  | inr e ↦ (0, n / 2, omega arith)
+]
 
 module _ (k r : ℕ) where
   before : r * 2 ^ suc k + 2 ^ k - 1 ≡ r * 2 ^ suc k + (2 ^ k - 1)

@@ -1,0 +1,101 @@
+//! Words of a `UInt` under written masks and shifts. The contracts are in quotients and remainders.
+#![tactic(auto, using(arbitrary_laws::proofs::Sets::words))]
+
+ghost use Rattle.std.specs.Prelude.{◌≡◌, ◌↔◌, ◌/◌, ◌%◌, ◌*◌, ◌+◌, ◌+ℤ◌, ◌*ℤ◌, ◌<ℤ◌, pos, int_rem, int_div, unsigned_abs, IsTrue};
+
+use arbitrary_int::prelude::*;
+
+/// Fields of two sources under a mask with a hole.
+pub fn rebuilt(v: u15, t: u15) -> u15
+    ensures low { int_rem result (pos 32) ≡ int_rem t (pos 32) }
+    ensures middle { int_rem (int_div result (pos 32)) (pos 32)
+        ≡ int_rem (int_div v (pos 32)) (pos 32) }
+{
+    (v & !u15::new(0x041F)) | (t & u15::new(0x041F))
+}
+
+/// Clears a field and turns a bit over.
+pub fn turned(v: u15) -> u15
+    ensures low { int_rem result (pos 32) ≡ pos 0 }
+{
+    (v & !u15::new(0x1F)) ^ u15::new(0x400)
+}
+
+/// A field under a mask.
+pub fn field(v: u24) -> u24
+    ensures { result ≡ int_rem (int_div v (pos 16)) (pos 256) *ℤ pos 16 }
+{
+    v & u24::new(0xFF0)
+}
+
+/// Three fields.
+pub fn three(a: u4, b: u3, c: u5) -> u12
+    ensures { result ≡ a *ℤ pos 256 +ℤ b *ℤ pos 32 +ℤ c }
+{
+    (u12::from_(a) << 8) | (u12::from_(b) << 5) | u12::from_(c)
+}
+
+/// The low bits cleared by two shifts.
+pub fn cleared_low(x: u12) -> u12
+    ensures { result ≡ int_div x (pos 32) *ℤ pos 32 }
+{
+    (x >> 5) << 5
+}
+
+/// A field moved up.
+pub fn moved(x: u12) -> u12
+    requires { x <ℤ pos 1024 }
+    ensures { result ≡ int_div x (pos 8) *ℤ pos 32 }
+{
+    (x >> 3) << 5
+}
+
+/// A byte and a carry in front, rotated up by one place.
+pub fn rotated_with_carry(word: u9) -> u9
+    ensures { result ≡ int_rem word (pos 256) *ℤ pos 2 +ℤ int_div word (pos 256) }
+{
+    (word << 1) | (word >> 8)
+}
+
+/// Writes a field behind `&mut`.
+pub fn in_place(v: &mut u15, x: u5)
+    ensures low { int_rem v.new (pos 32) ≡ x }
+{
+    *v = (*v & !u15::new(0x1F)) | u15::from_(x);
+}
+
+/// Writes a field by assigning operators.
+pub fn assigning(v: &mut u15, x: u3)
+    ensures { int_rem (int_div v.new (pos 4096)) (pos 8) ≡ x }
+{
+    *v &= !u15::new(0x7000);
+    *v |= u15::from_(x) << 12;
+}
+
+/// Reads a field behind `&`.
+pub fn fine_y(v: &u15) -> u3
+    ensures { result ≡ int_div v.now (pos 4096) }
+{
+    u3::new((*v >> 12).value() as u8)
+}
+
+/// Whether a flag is set.
+pub fn tested(v: u15) -> bool
+    ensures { IsTrue result ↔ (int_rem (int_div v (pos 1024)) (pos 2) ≡ pos 1) }
+{
+    v & u15::new(0x400) != u15::new(0)
+}
+
+/// Three fields of 40 bits.
+pub fn wide(a: u12, b: u24, c: u4) -> u40
+    ensures { result ≡ a *ℤ pos 268435456 +ℤ b *ℤ pos 16 +ℤ c }
+{
+    (u40::from_(a) << 28) | (u40::from_(b) << 4) | u40::from_(c)
+}
+
+/// A word with its high byte below.
+pub fn unsigned_words(v: u24) -> u24
+    ensures { unsigned_abs result ≡ unsigned_abs v % 256 * 65536 + unsigned_abs v / 256 }
+{
+    (v << 16) | (v >> 8)
+}
