@@ -155,35 +155,6 @@ def inputs():
     return picture(left + full + 50, top + high * len(rows) + 10, 'bitrun and ordinary Rust', parts)
 
 
-def gate_rows():
-    """The processor seconds of each crate: of its proof and edits, and of its tests."""
-    return [(row['Crate'].strip('`'), [number(row[name]) or 0 for name in ('proof and edits', 'its tests')]) for row in rows_of('Crate')]
-
-
-def gate():
-    """The processor seconds of the gate, crate by crate."""
-    rows = gate_rows()
-    most = max(sum(seconds) for _, seconds in rows)
-    left, full, high, top = 160, 480, 20, 48
-    parts, x = [text(left, 20, 'Processor seconds of the gate', size=13, weight='bold')], left + 240
-    for name, colour in [('proof and edits', BLUE), ('tests', GREEN)]:
-        parts += [box(x, 9, 12, 12, colour), text(x + 18, 20, name, size=13)]
-        x += 140
-    for tick in range(0, int(most) + 1, 100):
-        parts += [line(left + full * tick / most, top - 4, left + full * tick / most, top)]
-        parts += [text(left + full * tick / most, top - 8, str(tick), 'middle')]
-    places = [left + full * tick / most for tick in range(0, int(most) + 1, 100)]
-    parts += grid(places, top, high, [left + full * sum(seconds) / most for _, seconds in rows])
-    for place, (name, seconds) in enumerate(rows):
-        y, x = top + place * high, left
-        parts.append(text(left - 8, y + 14, name, 'end', 13))
-        for second, colour in zip(seconds, (BLUE, GREEN)):
-            parts += [box(x, y + 3, full * second / most, high - 6, colour, radius=0)] if second else []
-            x += full * second / most
-        parts.append(text(x + 6, y + 14, f'{sum(seconds):.0f}', size=12))
-    return picture(left + full + 60, top + high * len(rows) + 10, 'Processor seconds of the gate, crate by crate', parts)
-
-
 def record():
     """A put into a record, bit by bit: the lowest 16 of its 128 bits."""
     bits, start, value, width = 16, 3, 21, 5
@@ -305,7 +276,6 @@ def summary():
         ['programs and lists of steps, of the Rust crate', f'{mean(programs):.2f}; worst {max(programs):.2f}'],
         ['`bitrun`, of ordinary Rust', f'{mean([share for share, _ in inputs]):.2f}; worst {inputs[0][0]:.2f} (`{inputs[0][1]}`)'],
         ['`bitrun` on mixed steps, of ordinary Rust', f'{min(mixed):.2f} to {max(mixed):.2f}'],
-        ['processor seconds of `rt ci`', f'{sum(sum(part) for _, part in gate_rows()):,.0f}'],
     ]
 
 
@@ -336,7 +306,7 @@ def row_key(row):
 
 def main():
     drawn = {
-        'calls.svg': calls(), 'bitrun.svg': inputs(), 'gate.svg': gate(),
+        'calls.svg': calls(), 'bitrun.svg': inputs(),
         'record.svg': record(), 'widths.svg': widths(), 'layers.svg': layers(),
     }
     is_writing = '--write' in sys.argv[1:]
