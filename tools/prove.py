@@ -37,7 +37,8 @@ STEPS, MOST = 2000000, 80
 MEMORY = 2.5
 CHECKED = re.compile(r'^checked \w+::(\S+), \d+ of \d+')
 ENDED = re.compile(r'^(?:logic=|holes=|only=)', re.M)
-ERROR = re.compile(r'^(?!note|help|warning)(?:\./)?(\S.*\berror: .*|error: .*)', re.M)
+ERROR = re.compile(r'^(?:\./)?(\S*:? ?error(?:\[[\w-]+\])?: .*)', re.M)
+UNKNOWN = re.compile(r'error: (`\w+` has no function `[^`]*`)')
 # What the check offers for a function with open goals: the file of its answers, and in it each goal.
 OFFER = re.compile(r'^help: write \./proofs/(\S+)/Answers\.antt with these lines.*\n((?:    .*\n|\n)*)', re.M)
 GOAL = re.compile(r'^pub (\S+) : (.+)\n(?:unfolding .*\n)?\1(.*) = \?$', re.M)
@@ -212,6 +213,8 @@ def why(crate, said, code):
     """Why a check came to no end, in one line."""
     if code < 0 or code in (137, 143):
         return f'the check of {crate} was killed: nothing is changed'
+    if found := UNKNOWN.search(said):
+        return found[1]
     if found := ERROR.search(said):
         return f'{crate} does not compile: {found[1]}'
     return f'the check of {crate} came to no end: {(said.strip().splitlines() or ["it said nothing"])[-1]}'
@@ -284,9 +287,9 @@ class Search:
         ranked = [it for it in self.index.ranked_sets(known) if it in self.public or len(self.index.members(it)) <= MOST]
         public, others = ([it for it in ranked if (it in self.public) is wanted] for wanted in (True, False))
         sets, counts = [
-            (public[:4] + others[:6], (8, 16, 32)),
-            (public[4:8] + others[6:16], (12, 24, 64)),
-            (public[8:] + others[16:40], (48,)),
+            (public[:3] + others[:5], (8, 24)),
+            (public[3:7] + others[5:16], (16, 48)),
+            (public[7:] + others[16:40], (32, 80)),
         ][stage]
         laws = self.index.ranked_laws(known, max(counts))
         return [*([it] for it in sets), *(laws[:count] for count in counts)]
@@ -334,11 +337,13 @@ class Search:
             self.try_all({key: [rest(key, [it]) for it in found] for key, found in pieces.items()})
             for key, found in pieces.items():
                 spare[key] = [it for it in found if rest(key, [it]) in key[0].closed[key[1]]]
-            self.try_all({key: [rest(key, it), rest(key, it[::2]), rest(key, it[1::2])] for key, it in spare.items() if len(it) > 1})
+            # without all of those, without all but one of them, and without each half
+            parts = {key: [it, *([other for other in it if other is not kept] for kept in it), it[::2], it[1::2]] for key, it in spare.items() if len(it) > 1}
+            self.try_all({key: [rest(key, part) for part in found] for key, found in parts.items()})
             for key, laws in list(left.items()):
                 closed = key[0].closed[key[1]]
                 best = min((it for it in closed if set(it) < set(laws)), key=len, default=laws)
-                if len(best) == 1 or (len(pieces[key]) == len(laws) == len(best) + len(spare[key])):
+                if len(best) == 1 or (len(pieces[key]) == len(laws) and len(best) <= len(laws) - len(spare[key]) + 1):
                     closed.insert(0, best)
                     del left[key]
                 elif not spare[key]:
@@ -436,14 +441,17 @@ def found_in(copies, index, functions):
 
 
 def bare(copies, names):
-    """These functions with the goals that they have without the laws of attributes, which a new attribute replaces. Takes those away from them in
+    """Those of these functions that have open goals without the laws of attributes, which a new attribute replaces. Takes those away from them in
     each copy."""
     source = copies.rooms[0] / 'crate/src'
     texts = {file: file.read_text() for file in source.rglob('*.rt')}
     write({file: USING.sub(r'\1', text) for file, text in texts.items()})
     say('the goals without the laws of attributes')
-    found = offers(copies.check(copies.rooms[0], names))
+    said = copies.check(copies.rooms[0], names)
     write(texts)
+    found = offers(said)
+    for name in (name for name in names if name not in found):
+        say(f'{name}: without laws {verdicts(copies.crate, said).get(name, "unknown")}')
     functions = [found[name] for name in names if name in found]
     for room in copies.rooms:
         write(changes(room / 'crate', {it: ([], []) for it in functions}))
