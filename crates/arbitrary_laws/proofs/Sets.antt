@@ -2,7 +2,7 @@
 -- first `!` on a function. docs/SETS.md has two examples of each. The small sets that they are made of are next to their lemmas, and have a few
 -- laws that are not here: beside so many laws the search would come to its limit.
 use Rattle.arbitrary_base.proofs.LawProof.{in_range-tells, sums-associate}
-use Rattle.arbitrary_base.proofs.bit_lists.TwosComplement.{bits-wrap, num-bits_residue, val-bits_in_range}
+use Rattle.arbitrary_base.proofs.bit_lists.TwosComplement.{num-bits_residue, val-bits_in_range}
 use Rattle.arbitrary_base.proofs.bit_lists.UnsignedNumber.{length-bits}
 use Rattle.arbitrary_base.proofs.integers.Powers.{power-one, power-zero}
 use Rattle.arbitrary_base.proofs.integers.Ring.{pos-unsigned_abs}
@@ -12,37 +12,31 @@ use Rattle.arbitrary_base.proofs.modular.Residue.{wrap-congruent, wrap-of_in_ran
 use Rattle.arbitrary_base.proofs.operations.BitByBit.{bit-and, bit-not, bit-or, bit-xor}
 use Rattle.arbitrary_base.proofs.operations.BitsAndSums.{difference-of_or_and, or-above, sum-of_disjoint, sum-of_or_and}
 use Rattle.arbitrary_base.proofs.operations.Bitwise.{bitwise_and-commutes, bitwise_or-associates, bitwise_or-commutes, bitwise_xor-commutes, not-and_parts, not-or_parts}
-use Rattle.arbitrary_base.proofs.operations.Complement.{difference-of_or, negated-is_sum, not-is_difference, not-of_difference, not-of_sum, sum-with_not}
+use Rattle.arbitrary_base.proofs.operations.Complement.{difference-of_or, not-of_difference, not-of_sum, sum-with_not}
 use Rattle.arbitrary_base.proofs.operations.KnownMask.{and-congruent, and-within}
 use Rattle.arbitrary_base.proofs.operations.PopulationAndRuns.{front-of_reversed, front_ones-of_not, front_zeros-of_not, popcount-of_and, popcount-of_and_or, popcount-of_left, popcount-of_not, popcount-of_reversed, popcount-of_zero, tail-of_reversed, tail_ones-of_not, tail_zeros-of_not}
 use Rattle.arbitrary_base.proofs.operations.PowerAndQuotient.{power-of_one, power-of_zero, quotient-self, to_u128_bits-back}
 use Rattle.arbitrary_base.proofs.operations.RotateAndReverse.{reversed-and, reversed-not, reversed-not_zero, reversed-or, reversed-rotated_left, reversed-shifted_left, reversed-xor, reversed-zero, rotated_left-and, rotated_left-none, rotated_left-not, rotated_left-not_zero, rotated_left-or, rotated_left-xor, rotated_left-zero, rotated_right-as_left, rotated_right-none}
 use Rattle.arbitrary_base.proofs.operations.Shift.{left_right-mask_not, right_left-mask_not, shifted_left-and, shifted_left-difference, shifted_left-is_product, shifted_left-none, shifted_left-or, shifted_left-sum, shifted_left-xor, shifted_left-zero, shifted_right-and, shifted_right-is_shr, shifted_right-none, shifted_right-not, shifted_right-or, shifted_right-xor, shifted_right-zero}
-use Rattle.arbitrary_base.proofs.operations.WrappedRing.{difference-of_sum_left, difference-twice, negated-twice, product-of_difference, product-of_sum, products-of_differences, products-of_sums, wrapped_difference-is_sum, wrapped_difference-self, wrapped_product-associates, wrapped_product-commutes, wrapped_product-zero, wrapped_sum-associates, wrapped_sum-commutes, wrapped_sum-zero}
+use Rattle.arbitrary_base.proofs.operations.WrappedRing.{difference-of_sum_left, difference-twice, negated-twice, product-of_difference, product-of_sum, products-of_differences, products-of_sums, wrapped_difference-self, wrapped_product-associates, wrapped_product-commutes, wrapped_product-zero, wrapped_sum-associates, wrapped_sum-commutes, wrapped_sum-zero}
 use Rattle.arbitrary_base.proofs.storages.Clamp.{clamp-above, clamp-below, clamp-fits}
 use Rattle.arbitrary_calls.proofs.counts.EndCounts.{front-of_highest, front-of_zero, no_ones-of_zero, popcount-of_highest, popcount-of_minus_one, tail-of_highest, tail-of_zero, zero-of_no_ones}
 use Rattle.arbitrary_calls.proofs.counts.RunBesideCount.{front_ones-below_ones, front_zeros-beside_ones, tail_ones-below_ones, tail_zeros-beside_ones}
-use Rattle.arbitrary_calls.proofs.counts.RunsByDigits.{leading-counted}
 use Rattle.arbitrary_int.proofs.RangeNumbers.{numbers-count}
 use Rattle.arbitrary_laws.proofs.Everyday.{or_three}
-use Rattle.arbitrary_laws.proofs.bits.AtMostOneBit.{none-left_of_at_most_one}
 use Rattle.arbitrary_laws.proofs.bits.BitByBit.{and-compared, bit_near-and, bit_near-highest, bit_near-minus_one, bit_near-not, bit_near-or, bit_near-xor, bit_near-zero, compared-and, compared-not, compared-or, compared-xor, not-compared, or-compared, xor-compared}
 use Rattle.arbitrary_laws.proofs.bits.BitSums.{or-at_most_sum, xor-at_most_sum}
-use Rattle.arbitrary_laws.proofs.bits.ComplementParts.{not-of_xor_less, not-of_xor_parts, xor-by_carries}
 use Rattle.arbitrary_laws.proofs.bits.Identities.{and-absorbs, and-distributes_or, and-distributes_xor, bitwise_and-associates, bitwise_and-complement, bitwise_and-highest, bitwise_and-minus_one, bitwise_and-not_zero, bitwise_and-same, bitwise_and-zero, bitwise_not-twice, bitwise_not-zero, bitwise_not-zero_signed, bitwise_or-complement, bitwise_or-highest, bitwise_or-minus_one, bitwise_or-not_zero, bitwise_or-same, bitwise_or-zero, bitwise_xor-associates, bitwise_xor-equal, bitwise_xor-highest, bitwise_xor-minus_one, bitwise_xor-not_zero, bitwise_xor-same, bitwise_xor-undoes, bitwise_xor-zero, not-xor_left, or-absorbs}
 use Rattle.arbitrary_laws.proofs.bits.LongerSide.{alone-added, alone-summed, either-alone, negated-added, negated-less_one, next-negated, not-added, not-and_one, not-taken, or-less_and, shifts-added, shifts-joined, shifts-under_xor, without-shared, xor-and_shared}
-use Rattle.arbitrary_laws.proofs.bits.NegatedParts.{and-less_or, left-less_or, xor-less_or}
 use Rattle.arbitrary_laws.proofs.bits.OwnBits.{own_bits-in_range}
 use Rattle.arbitrary_laws.proofs.bits.Parts.{and-or_of_not, and_not-is_xor, choice-is_xor, majority-is_xor, or-and_of_not, or-is_xor, or-of_parts, xor-is_or}
 use Rattle.arbitrary_laws.proofs.bytes.StreamBytes.{Borsh-told, bytes-compared, bytes-converted, bytes-spell, bytes-spell_signed, first-of_Borsh, first-of_Borsh_signed, number-of_Borsh, number-of_Borsh_signed, reverse-back}
 use Rattle.arbitrary_laws.proofs.bytes.SwappedBytes.{popcount-of_swapped, swapped-and, swapped-equal, swapped-is, swapped-not, swapped-or, swapped-reversed, swapped-twice, swapped-xor}
-use Rattle.arbitrary_laws.proofs.counts.ConvertedCounts.{popcount-of_signed, trailing-of_128}
 use Rattle.arbitrary_laws.proofs.counts.CountBounds.{front-alike_one, front-of_numeral, front-of_one_bit, front-of_shifted_left, popcount-of_one_bit, popcount-of_shifted_left, popcount-of_shifted_right, popcount-of_xor, tail-alike_one, tail-of_shifted_right}
-use Rattle.arbitrary_laws.proofs.counts.LeadingZeros.{leading-of_primitive, tail-of_numeral, tail-orders, zeros-at_least, zeros-below}
-use Rattle.arbitrary_laws.proofs.counts.LowestBitCounts.{alone-is_xor, alone-zero, popcount-before_one_bit, popcount-filled, popcount-of_below, popcount-of_lowest, popcount-to_lowest}
-use Rattle.arbitrary_laws.proofs.counts.NormalShifts.{low-of_shifted, odd-shifted, shifted-back}
-use Rattle.arbitrary_laws.proofs.counts.Population.{front-of_not_zero, popcount-of_and_not, popcount-of_or, popcount-of_right, popcount-of_xor_none, popcount-within_or, tail-of_not_zero}
-use Rattle.arbitrary_laws.proofs.counts.RunsOfTwo.{ends-between, front-of_and, front-of_left, front-of_or, front-of_right, front-of_xor, front_ones-of_and, front_ones-of_or, highest-alone, highest-moved, tail-of_and, tail-of_left, tail-of_or, tail-of_right, tail-of_xor, tail_ones-of_and, tail_ones-of_or}
+use Rattle.arbitrary_laws.proofs.counts.LeadingZeros.{leading-of_primitive, tail-of_numeral, zeros-at_least, zeros-below}
+use Rattle.arbitrary_laws.proofs.counts.LowestBitCounts.{popcount-filled, popcount-of_below, popcount-of_lowest, popcount-to_lowest}
+use Rattle.arbitrary_laws.proofs.counts.Population.{front-of_not_zero, popcount-of_and_not, popcount-of_or, popcount-of_right, tail-of_not_zero}
+use Rattle.arbitrary_laws.proofs.counts.RunsOfTwo.{front-of_and, front-of_left, front-of_or, front-of_right, front-of_xor, front_ones-of_and, front_ones-of_or, tail-of_and, tail-of_left, tail-of_or, tail-of_right, tail-of_xor, tail_ones-of_and, tail_ones-of_or}
 use Rattle.arbitrary_laws.proofs.counts.TrailingZeros.{multiples-by_zeros, zeros-of_multiples}
 use Rattle.arbitrary_laws.proofs.fields.EmptyWord.{with_field-of_nothing}
 use Rattle.arbitrary_laws.proofs.fields.JoinedWords.{and_above, or_above, or_above_numeral, or_masked, or_numeral_between, or_numeral_first, or_numeral_last}
@@ -71,7 +65,7 @@ use Rattle.arbitrary_laws.proofs.orders.Order.{and-below_or, and-negative, diffe
 use Rattle.arbitrary_laws.proofs.orders.SignedOrder.{and-at_most, or-at_least}
 use Rattle.arbitrary_laws.proofs.places.BitPlaces.{bit-cleared, bit-set, bit-turned, bit-written, clear-by_mask, clear-by_shift, low-of_turned, one_bit-some, other-cleared, other-set, other-turned, set-by_mask, set-by_shift}
 use Rattle.arbitrary_laws.proofs.places.BitTests.{low-of_right_cleared, low-of_right_other_cleared, low-of_right_other_set, masked-of_other_cleared, masked-of_other_set}
-use Rattle.arbitrary_laws.proofs.places.LowestBit.{and-of_difference, and-of_negated, front-of_lowest, none-left_by_before, popcount-of_lowest_cleared}
+use Rattle.arbitrary_laws.proofs.places.LowestBit.{and-of_difference, front-of_lowest, popcount-of_lowest_cleared}
 use Rattle.arbitrary_laws.proofs.places.LowestPlace.{low-of_difference, low-of_product, low-of_sum}
 use Rattle.arbitrary_laws.proofs.places.OneBits.{front-of_before, one-turned, one_bits-compared, one_bits-ordered, parts-joined, tail-of_before, tail-of_one_bit, upper-by_mask}
 use Rattle.arbitrary_laws.proofs.places.OtherBits.{gone-cleared, other_bit-cleared, other_bit-set, other_bit-turned, same_bit-set, same_bit-turned}
@@ -97,16 +91,13 @@ use Rattle.arbitrary_laws.proofs.signs.TurnedSigns.{highest-turned_order, highes
 use Rattle.arbitrary_laws.proofs.signs.ZigZag.{coded-by_sign}
 use Rattle.arbitrary_laws.proofs.steps.RangeNumbers.{last_of-joined, numbers-end, numbers-head}
 use Rattle.arbitrary_laws.proofs.steps.StepWords.{difference-step, product-step, sum-step}
-use Rattle.arbitrary_laws.proofs.sums.Averages.{mean-down, mean-up, wrapped_mean-down, wrapped_mean-up}
 use Rattle.arbitrary_laws.proofs.sums.BitsBesideSums.{difference-of_and, sum-of_xor_and, sum-twice}
-use Rattle.arbitrary_laws.proofs.sums.Carry.{difference-less_xor, difference-of_parts, difference-with_borrow, or-is_sum, or-less_xor, sum-less_and, sum-less_or, sum-less_xor, sum-with_carry, xor-is_sum}
-use Rattle.arbitrary_laws.proofs.sums.Complements.{difference-by_not, difference-of_nots, negated-not, not-is_negated, not-of_before, sum-by_not, sum-of_parts}
+use Rattle.arbitrary_laws.proofs.sums.Carry.{difference-less_xor, difference-of_parts, difference-with_borrow, or-less_xor, sum-less_and, sum-less_or, sum-less_xor, sum-with_carry}
+use Rattle.arbitrary_laws.proofs.sums.Complements.{difference-of_nots, negated-not, not-of_before, sum-of_parts}
 use Rattle.arbitrary_laws.proofs.sums.Distances.{apart-above, apart-at_least}
 use Rattle.arbitrary_laws.proofs.sums.ExactSums.{difference-converted, difference-exact, difference-left as difference-left_of_ExactSums, difference-of_difference, difference-of_sum as difference-of_sum_of_ExactSums, difference-right as difference-right_of_ExactSums, product-converted, product-exact, sum-converted, sum-exact, sum-left as sum-left_of_ExactSums, sum-of_difference as sum-of_difference_of_ExactSums, sum-of_sum, sum-right as sum-right_of_ExactSums}
 use Rattle.arbitrary_laws.proofs.sums.HighestBit.{difference-with_highest, sum-with_highest}
-use Rattle.arbitrary_laws.proofs.sums.LowSums.{or-above_low, xor-above_low}
 use Rattle.arbitrary_laws.proofs.sums.Multiple.{multiple-before, multiple-next, multiples-added, multiples-apart, sum-doubles, wrapped_product-highest}
-use Rattle.arbitrary_laws.proofs.sums.Offset.{offset-above, offset-below, offset-down, offset-down_negative, offset-less, offset-round, offsets-added}
 use Rattle.arbitrary_laws.proofs.sums.Ring.{difference-of_difference_right, difference-of_squares, difference-of_sum, difference-of_sums, difference-to_difference, difference-turned, negated-sum, product-of_negated, product-of_negated_both, sum-of_difference, sum-of_difference_right, sum-to_difference, wrapped_difference-zero, wrapped_product-one, wrapped_product-two}
 use Rattle.arbitrary_laws.proofs.sums.Saturations.{clamped-difference_twice, clamped-differences_exchanged, difference-of_clamped_sum}
 use Rattle.arbitrary_laws.proofs.sums.SerialNumbers.{none-apart, step-back, turned-none, turned-of_least, turned-with_sign, turned-without_sign}
@@ -138,14 +129,8 @@ pub ruleset masks = (Decides-int_eq, and-digits, and-digits_signed, and-run, and
 -- shifts and rotations, also by an amount that varies, and the masks that they make
 pub ruleset shifts = (Decides-int_eq, rotated_right-none, rotated_right-twice, rotated_right-round, rotated_right-zero, rotated_right-highest, rotated_right-minus_one, rotated_right-not_zero, rotated_right-and, rotated_right-or, rotated_right-xor, rotated_right-not, right_rotations-exchanged, left_rotations-exchanged, rotations-exchanged, left-undoes_right, right-undoes_left, reversed-rotated_left, reversed-rotated_right, right_rotations-equal, popcount-of_right, not-of_highest, not-of_minus_one, bitwise_not-zero, bitwise_not-zero_signed, right-of_highest, low-exact, and-not_low, low-joined, low-turned, without-low, low-again, low-wrapped, parts-wrapped, right-again, and-highest_moved, and-minus_one_moved, right-of_masked, right-of_masked_signed, right-of_low, left-of_low, low-of_left, bitwise_or-commutes, bitwise_xor-commutes, lt-tested, le-tested, left-of_one, and-low, rest-in_range, parts-in_range, parts-exact, part-at_most, shifted_left-negated, shifted_left-exchanged, shifted_right-exchanged, product-of_shifted, product-shifted, wrapped_product-one, wrapped_product-commutes, set-beside_cleared, turned-beside_cleared, low-of_turned_right, reversed_left-converted, left-truncated, shifted_right-is_shr, shifted_left-none, shifted_left-zero, shifted_left-twice, shifted_left-past, shifted_left-sum, shifted_left-difference, shifted_left-and, shifted_left-or, shifted_left-xor, sum-twice, shifted_right-none, shifted_right-zero, shifted_right-twice, shifted_right-and, shifted_right-or, shifted_right-xor, right_left-mask, right_left-mask_signed, right_left-mask_not, left_right-mask, left_right-mask_not, shifted_right-not, right_left-numeral, right_left-numeral_signed, left_right-numeral, left_right-wraps, wrap-of_in_range, bitwise_xor-zero, bitwise_xor-undoes, bitwise_xor-chain, bitwise_xor-exchanged, shifted_right-past, folded-twice, folded-away, folds-exchanged, rotated_left-none, rotated_left-twice, rotated_left-round, rotated_left-zero, rotated_left-highest, rotated_left-minus_one, rotated_left-not_zero, rotated_left-and, rotated_left-or, rotated_left-xor, rotated_left-not, rotated_right-as_left, reversed-zero, reversed-highest, reversed-minus_one, reversed-not_zero, reversed-and, reversed-or, reversed-xor, reversed-not, reversed-twice, reversed-shifted_left, reversed-shifted_right, rotated_left-as_shifts, rotated_left-as_xor, rotated_left-as_sum, reversed-one, reversed-one_bit, wrapped_sum-commutes, rotated_left-number, rotated_right-number, and-digits, right-as_left_round)
 
--- counts of ones, runs of zeros and ones at the ends, and the lowest and the highest bit that is one
-pub ruleset counts = (Decides-int_eq, popcount-of_zero, popcount-of_highest, popcount-of_minus_one, popcount-of_not, popcount-of_reversed, popcount-of_left, popcount-of_right, zero-of_no_ones, no_ones-of_zero, front-of_zero, front-of_not_zero, front-of_highest, front_ones-of_not, front_zeros-of_not, tail-of_zero, tail-of_not_zero, tail-of_highest, tail_ones-of_not, tail_zeros-of_not, tail-of_reversed, front-of_reversed, bitwise_not-zero, bitwise_not-zero_signed, popcount-of_and, popcount-of_and_or, popcount-of_or, popcount-of_numeral, popcount-of_negative, front-of_numeral, front-of_negative, front_ones-of_numeral, front_ones-of_negative, tail-of_numeral, tail_ones-of_negative, tail_ones-of_numeral, popcount-of_xor, popcount-of_shifted_left, popcount-of_shifted_right, front-of_shifted_left, tail-of_shifted_right, popcount-of_one_bit, front-of_one_bit, front_zeros-beside_ones, tail_zeros-beside_ones, front_ones-below_ones, tail_ones-below_ones, front-alike_one, tail-alike_one, popcount-within_or, popcount-of_and_not, popcount-of_xor_none, sum-of_disjoint, negated-is_difference, popcount-of_below, popcount-to_lowest, popcount-before_one_bit, popcount-filled, popcount-of_lowest, alone-zero, alone-is_xor, front-of_or, tail-of_or, front_ones-of_and, tail_ones-of_and, front-of_and, tail-of_and, front_ones-of_or, tail_ones-of_or, front-of_xor, tail-of_xor, front-of_left, tail-of_right, front-of_right, tail-of_left, ends-between, highest-alone, highest-moved, tail-orders, leading-of_primitive, zeros-at_least, zeros-below, zeros-of_multiples, multiples-by_zeros, bits-wrap, leading-counted, popcount-of_signed, trailing-of_128, odd-shifted, low-of_shifted, shifted-back, popcount-of_lowest_cleared, front-of_lowest, and-of_negated, and-below, and-of_difference, none-left_by_before, tail-of_one_bit, front-of_before, tail-of_before, none-left_of_at_most_one)
-
 -- the sign of a number: as a mask, told by bits, overflows, and a number with its sign turned over
 pub ruleset signs = (Decides-int_eq, sign-spread, and-with_all, and-with_none, or-with_all, or-with_none, xor-with_all, xor-with_none, xor-of_sum, difference-of_xor, absolute-by_double, bitwise_xor-undoes, bitwise_xor-commutes, bitwise_and-commutes, bitwise_or-commutes, le-tested, lt-tested, ge-tested, gt-tested, ge-by_lt, and-negative, or-negative, xor-negative, not-sign, below-by_bits, below-by_overflow, most-by_bits, not_zero-by_sign, positive-by_sign, differ-by_sign, like-overflow_flag, sum-overflow_told, difference-overflow_told, like-overflow_told, sum-overflow_ends, difference-overflow_ends, sum-overflow_flag, difference-overflow_flag, xor-sign_told, xor-by_sign, and-by_sign, or-by_sign, and-by_complement, turned-number, turned-order, highest-turned_order, highest-turned_order_back, coded-by_sign)
-
--- sums, differences and products that wrap, also beside bits and complements
-pub ruleset sums = (Decides-int_eq, wrapped_sum-commutes, wrapped_sum-associates, wrapped_sum-zero, wrapped_difference-self, wrapped_difference-zero, wrapped_difference-is_sum, difference-of_sum, difference-of_sum_left, sum-of_difference, sum-to_difference, difference-to_difference, difference-twice, difference-turned, negated-twice, negated-sum, sum-of_difference_right, difference-of_difference_right, difference-of_sums, offsets-added, offset-less, offset-down, offset-down_negative, offset-above, offset-below, offset-round, wrapped_product-commutes, wrapped_product-associates, wrapped_product-zero, wrapped_product-one, wrapped_product-two, products-of_sums, products-of_differences, product-of_sum, product-of_difference, product-of_negated, product-of_negated_both, shifted_left-is_product, difference-of_squares, wrapped_product-highest, negated-is_difference, multiples-added, multiples-apart, multiple-next, multiple-before, sum-doubles, power-zero, power-one, power-twice, quotient-self, to_u128_bits-back, wrap-of_in_range, clamp-fits, power-of_one, power-of_zero, sum-of_or_and, sum-of_disjoint, sum-of_xor_and, difference-of_or_and, difference-of_and, sum-twice, bitwise_and-commutes, bitwise_or-commutes, not-is_difference, negated-is_sum, not-of_before, sum-with_not, difference-of_or, bitwise_not-twice, not-is_negated, negated-not, not-of_sum, not-of_difference, difference-of_nots, difference-by_not, sum-by_not, sum-with_carry, sum-less_xor, sum-less_or, sum-less_and, difference-of_parts, difference-with_borrow, difference-less_xor, or-is_sum, xor-is_sum, or-less_xor, sum-with_highest, difference-with_highest, bitwise_xor-commutes, not-of_xor_parts, not-of_xor_less, xor-by_carries, xor-less_or, and-less_or, left-less_or, sum-of_positive, product-of_positive, and-of_positive_xor, or-above_low, xor-above_low, mean-down, mean-up, wrapped_mean-down, wrapped_mean-up)
 
 -- `<`, `<=` and `==` of results, beside bits, exact sums and what clamps
 pub ruleset orders = (Decides-int_eq, le-tested, lt-tested, ge-tested, gt-tested, or-above, and-below_or, xor-below_or, or-below_sum, or-below_clamped, difference-below_xor, shifted_right-keeps_order, and-negative, or-negative, xor-negative, bitwise_and-commutes, bitwise_or-commutes, bitwise_xor-commutes, further-at_most, nearer-at_least, within-at_most, and-at_most, or-at_least, sums-equal, differences-equal, differences_from-equal, xors-equal, nots-equal, reversals-equal, left_rotations-equal, right_rotations-equal, wrapped_sum-commutes, ints, or-by_and, xor-by_and, and-by_complement, or-at_most_sum, xor-at_most_sum, clamped-difference_twice, clamped-differences_exchanged, difference-of_clamped_sum, clamp-fits, clamp-below, clamp-above, and_not-none, or-unchanged, or-equal_xor, xor-equal_or, xor-unchanged, xor-none, bitwise_and-same, or-none, and-minus_one, and-highest)

@@ -106,12 +106,14 @@ pub fn lowest_bit(x: u12) -> bool
     x & x.wrapping_neg() == x & !(x.wrapping_sub(u12::new(1)))
 }
 
+#[tactic(auto, using(arbitrary_laws::proofs::Sets::masks))]
 pub fn mask_moved(x: u12) -> bool
     ensures { IsTrue result }
 {
     (x & u12::new(0xF)) << 4 == (x << 4) & u12::new(0xF0)
 }
 
+#[tactic(auto, using(arbitrary_laws::proofs::Sets::orders))]
 pub fn xor_of_min_and_max(x: i12, y: i12) -> bool
     ensures { IsTrue result }
 {

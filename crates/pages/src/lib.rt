@@ -1,4 +1,5 @@
-//! The code on the pages: the functions of the README, the forms of docs/PROVING.md, and the lines of docs/DIFFERENCES.md.
+//! The code on the pages: the functions of the README, the forms of docs/PROVING.md, the lines of docs/DIFFERENCES.md, and facts of
+//! docs/SETS.md.
 #![tactic(auto)]
 
 pub mod clauses;
@@ -11,4 +12,5 @@ pub mod first;
 mod from_rust;
 pub mod generic;
 pub mod places;
+pub mod sets;
 pub mod storages;
