@@ -263,16 +263,19 @@ def mean(shares):
 
 def summary():
     """The figures that follow from the tables, as the page shows them."""
-    loops = {sign: [(number(row['ratio']), f'{row[CALL]} of {row["Type"]}') for row in rows_of(CALL) if row['Type'][1] == sign] for sign in 'ui'}
     programs = [number(row['ratio']) for row in rows_of(PROGRAM)]
     inputs = ratios()
     mixed = [share for share, name in inputs if name.startswith('mix_')]
 
-    def shown(sign):
-        most, worst = max(loops[sign])
-        return f'{mean([share for share, _ in loops[sign]]):.2f}; worst {most:.2f} ({worst})'
+    def shown(kinds):
+        calls = [(number(row['ratio']), f'{row[CALL]} of {row["Type"]}') for row in rows_of(CALL) if row['Type'].strip('`') in kinds]
+        most, worst = max(calls)
+        return f'{mean([share for share, _ in calls]):.2f}; worst {most:.2f} ({worst})'
     return [
-        ['unsigned calls in loops, of the Rust crate', shown('u')], ['signed calls in loops, of the Rust crate', shown('i')],
+        ['unsigned calls in loops, of the Rust crate', shown(['u7', 'u14', 'u120'])],
+        *([f'of these `{kind}`', shown([kind])] for kind in ('u7', 'u14', 'u120')),
+        ['signed calls in loops, of the Rust crate', shown(['i7', 'i14', 'i120'])],
+        *([f'of these `{kind}`', shown([kind])] for kind in ('i7', 'i14', 'i120')),
         ['programs and lists of steps, of the Rust crate', f'{mean(programs):.2f}; worst {max(programs):.2f}'],
         ['`bitrun`, of ordinary Rust', f'{mean([share for share, _ in inputs]):.2f}; worst {inputs[0][0]:.2f} (`{inputs[0][1]}`)'],
         ['`bitrun` on mixed steps, of ordinary Rust', f'{min(mixed):.2f} to {max(mixed):.2f}'],
