@@ -4,17 +4,13 @@
 
 pub mod assigned_flags;
 pub mod cleared_fields;
-pub mod device_registers;
 pub mod fields;
 pub mod fields_at_once;
 pub mod flags;
-pub mod instruction_words;
 pub mod instructions;
 pub mod low_masks;
 pub mod masked_fields;
 pub mod moved_in;
-pub mod network_words;
-pub mod overflow_flags;
 pub mod packing;
 pub mod placed_fields;
 pub mod primitive_bits;
@@ -28,5 +24,4 @@ pub mod signed_primitives;
 pub mod signed_words;
 pub mod tested_flags;
 pub mod words;
-pub mod words_of_uint;
 pub mod written_signs;
