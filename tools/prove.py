@@ -2,10 +2,11 @@
 """prove.py CRATE [FUNCTION ..] [--write]
 
 Finds laws by which the check proves what it leaves open: in a whole crate, or in these functions, each named as the check names it, without the
-crate: `module::function` or `Type::call`. It prints the attribute to put on each: a public set of laws where one is enough, else a few laws, which
-become a `ruleset` of the crate's own proofs/Laws.antt.
+crate: `module::function` or `Type::call`. It prints what the attribute of each has to name: a public set of laws where one is enough, else a few
+laws, which become a `ruleset` of the crate's own proofs/Laws.antt.
 
-With `--write` it writes those attributes and that file, and checks again. It changes no contract and no body, and without `--write` nothing.
+With `--write` it writes those attributes and that file, adds to crates.txt the libraries that have the laws, and checks again. It changes no
+contract and no body, and without `--write` nothing.
 """
 import argparse
 import math
