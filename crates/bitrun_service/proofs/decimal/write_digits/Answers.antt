@@ -1,4 +1,4 @@
-use Rattle.std.proofs.Common.{◌≡◌, ◌+◌, ◌-◌, ◌++◌, arith, append_assoc, refl}
+use Rattle.std.proofs.Common.{◌≡◌, ◌+◌, ◌-◌, ◌%◌, ◌++◌, arith, append_assoc, refl}
 use Rattle.std.proofs.lemmas.List.{drop-set, length-set}
 use Rattle.bitrun_service.proofs.Decimals.{last_digit, first_digit}
 use Rattle.bitrun_service.proofs.decimal.write_digits.Goals as goal
@@ -12,11 +12,11 @@ loop-left-init c = record {
   digits = refl;
 }
 
-pub overflow_sub-at-in-loop-left : goal.overflow_sub-at-in-loop-left
-overflow_sub-at-in-loop-left c = omega (arith, (last_digit c.loop-left.left c.loop-left-test.true c.loop-left.auto.left-fits.fits).1, c.loop-left.invariant.fits)
-
 pub overflow_sub-at : goal.overflow_sub-at
-overflow_sub-at c = omega (arith, (first_digit c.loop-left.left (omega (arith, c.loop-left-test.false))).1, c.loop-left.invariant.fits)
+overflow_sub-at c = omega (arith, (last_digit c.loop-left.left c.loop-left-test.true c.loop-left.auto.left-fits.fits).1, c.loop-left.invariant.fits)
+
+pub overflow_sub-at-2 : goal.overflow_sub-at-2
+overflow_sub-at-2 c = omega (arith, (first_digit c.loop-left.left (omega (arith, c.loop-left-test.false))).1, c.loop-left.invariant.fits)
 
 pub loop-left-preserved : goal.loop-left-preserved
 loop-left-preserved c =
