@@ -1,3 +1,7 @@
+//! Laws in code that is generic over the type or its width. None has a proof of its own: each file names one set of laws, or opens a group of
+//! the laws of `FixedWidth`. What such code proves without either is in `facts_generic`.
+#![tactic(auto)]
+
 pub mod congruent_chains;
 pub mod groups;
 pub mod small_numbers;
