@@ -5,7 +5,7 @@ use arbitrary_base::storage::{BuiltinInteger, SignedStorage, UnsignedOf, Unsigne
 use arbitrary_base::truncation::to_u128_bits;
 use arbitrary_core::signed::Int;
 use arbitrary_core::unsigned::UInt;
-use arbitrary_core::widths::HasWidth;
+use arbitrary_widths::HasWidth;
 use num_traits::{Bounded, SaturatingAdd, SaturatingSub};
 use std::process::Abort;
 
