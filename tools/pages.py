@@ -12,7 +12,7 @@ from pathlib import Path
 
 ROOT = Path(__file__).resolve().parent.parent
 WORDS = {
-    'README.md': 1100, 'CONTRIBUTING.md': 850, 'CHANGELOG.md': 300, 'docs/ARCHITECTURE.md': 500, 'docs/CALLS.md': 3000, 'docs/DECISIONS.md': 2000,
+    'README.md': 1100, 'CONTRIBUTING.md': 850, 'CHANGELOG.md': 300, 'docs/ARCHITECTURE.md': 500, 'docs/CALLS.md': 3150, 'docs/DECISIONS.md': 2000,
     'docs/DIFFERENCES.md': 1450, 'docs/GLOSSARY.md': 700, 'docs/PERFORMANCE.md': 1200, 'docs/PROVED.md': 900, 'docs/PROVING.md': 2500,
     'docs/SETS.md': 700,
 }
@@ -29,7 +29,7 @@ BELIEVED = (ROOT / 'docs/ARCHITECTURE.md').read_text()
 COUNTED = ['no', 'one', 'two', 'three', 'four', 'five', 'six', 'seven', 'eight', 'nine', 'ten', 'eleven', 'twelve']
 # What the prose says with a figure, and the figure.
 FIGURES = [
-    (r'(\d+,\d+) bytes', f'{LIMIT:,}'), (r'(\d+,\d+) reads', f'{LIMIT + 1:,}'), (r'(\w+) primitive integers', COUNTED[STORAGES]),
+    (r'(\d+,\d+) bytes', f'{LIMIT:,}'), (r'(\d+,\d+) reads', f'{LIMIT + 1:,}'), (r'the (\w+) primitive integers', COUNTED[STORAGES]),
     (r'sentences of at most (\d+) words', str(SENTENCE)),
     (r'(\d+) lines of \[definitions', re.search(r'(\d+) lines must be believed', BELIEVED)[1]),
     (r'(\d+) more for `bitrun`', re.search(r'(\d+) more for the program', BELIEVED)[1]),
