@@ -1,10 +1,10 @@
 #!/usr/bin/env python3
 """charts.py [--write]
 
-Fails unless the pictures in docs/pictures are what it draws, and each line of text is in its box: three charts of the tables in
-tools/measured.txt, a put into a record, the square of `run` and `run_wide`, and the layers of crates.txt. It also fails unless the tables of
-docs/PERFORMANCE.md have the rows of tools/measured.txt, and the figures that follow from them. With --write it draws the pictures and writes
-these tables. The colours read on a light and on a dark page, and the background is clear.
+Fails unless the pictures in docs/pictures are what it draws, and layout.py accepts them. It draws two charts of the tables in
+tools/measured.txt, a put into a record, the square of `run` and `run_wide`, and the layers of crates.txt. It also fails unless the rows of
+the tables in docs/PERFORMANCE.md are those of tools/measured.txt, or follow from them. With --write it draws the pictures and writes these
+tables. The background is transparent, and the colours are readable on a light and on a dark page.
 """
 import math
 import re
@@ -86,12 +86,12 @@ MARKS = [('this library', BLUE, 'circle'), ('the Rust crate', ORANGE, 'square')]
 
 
 def key(x, y):
-    """What each mark stands for."""
+    """What each mark means."""
     parts = []
     for name, colour, shape in MARKS:
         parts += [dot(x, y - 4, colour, shape), text(x + 10, y, name, size=13)]
         x += 40 + 7 * len(name)
-    return parts
+    return [*parts, text(x, y, 'instructions per element, logarithmic scale', size=13)]
 
 
 def calls():
@@ -108,7 +108,7 @@ def calls():
         most = min(tick for tick in ticks if tick >= max(max(pair) for (_, kind), pair in figures.items() if kind[1:] == str(width)))
         for down, sign in enumerate('ui'):
             x0, y0 = left + across * wide, top + down * (len(names) * high + 64)
-            parts.append(text(x0, y0 - 8, f'{sign}{width}: instructions', size=13, weight='bold'))
+            parts.append(text(x0, y0 - 8, f'{sign}{width}', size=13, weight='bold'))
             for tick in ticks[:ticks.index(most) + 1]:
                 parts += [line(x0 + at(tick), y0, x0 + at(tick), y0 + len(names) * high)]
                 parts += [text(x0 + at(tick), y0 + len(names) * high + 16, str(tick), 'middle')]
@@ -143,7 +143,7 @@ def inputs():
     """`bitrun` and ordinary Rust: for each input the share of the instructions."""
     rows = ratios()
     left, full, high, top = 170, 480, 18, 48
-    parts = [text(left, 20, 'Instructions of bitrun, of those of ordinary Rust on the same input', size=13, weight='bold')]
+    parts = [text(left, 20, 'Instructions of bitrun, as a share of those of ordinary Rust', size=13, weight='bold')]
     for tick in range(0, 101, 25):
         x = left + full * tick / 100
         parts += [line(x, top - 8, x, top), text(x, top - 12, f'{tick} %', 'middle')]
@@ -214,19 +214,19 @@ def listed():
 def layers():
     """The crates: each box uses only boxes below it."""
     full, high, gap, third, crates = 700, 48, 6, 228, listed()
-    said = {
-        'bitrun': 'the program', 'bitrun_service': 'reads, runs, writes the output', 'bitrun_text': 'reads and checks the text',
+    texts = {
+        'bitrun': 'the program', 'bitrun_service': 'runs steps, writes the output', 'bitrun_text': 'parses the text',
         'arbitrary_laws': 'laws for your proofs', 'bit_fields': 'fields in a record',
-        'arbitrary_int': 'what you import; also run, run_wide, bytes, streams, sums, ranges',
-        'arbitrary_calls': 'wrapping, checked .. calls, shifts, counts', 'arbitrary_constants': 'MIN, MAX, ZERO, MASK',
+        'arbitrary_int': 'the crate to import; adds run, run_wide, bytes, streams, sums and ranges',
+        'arbitrary_calls': 'wrapping and checked calls, shifts, counts', 'arbitrary_constants': 'MIN, MAX, ZERO, MASK',
         'arbitrary_version_1': 'the deprecated Number',
         'arbitrary_core': 'UInt and Int, their operators, order, hash and text',
-        'arbitrary_traits': 'Integer, and the primitives as integers', 'arbitrary_widths': 'widths that a storage has',
-        'arbitrary_base': 'the definitions, and arithmetic over every storage', 'examples': '', 'examples_tour': '',
+        'arbitrary_traits': 'the trait Integer, also for primitives', 'arbitrary_widths': 'the widths of a storage',
+        'arbitrary_base': 'definitions, and arithmetic at a width in every storage', 'examples': '', 'examples_tour': '',
     }
     rows = [['arbitrary_int'], ['arbitrary_calls', 'arbitrary_constants', 'arbitrary_version_1'], ['arbitrary_core'], ['arbitrary_traits', 'arbitrary_widths'], ['arbitrary_base']]
     rows = [[name for name in row if name in crates] for row in rows]
-    drawn = [name for name in said if name in crates]
+    drawn = [name for name in texts if name in crates]
     missing = {other for name in drawn for other in crates[name]} - {*drawn}
     if missing:
         sys.exit(f'charts.py does not draw {sorted(missing)}, which another crate of the picture uses')
@@ -239,19 +239,19 @@ def layers():
         parts.extend(text(x + width / 2, first + 20 * place, line, 'middle', 13) for place, line in enumerate(lines, 1))
         parts.append('</g>')
     for down, name in enumerate(['bitrun', 'bitrun_service', 'bitrun_text']):
-        crate(10, 10 + down * (high + gap), third, high, name, [said[name]], ORANGE)
+        crate(10, 10 + down * (high + gap), third, high, name, [texts[name]], ORANGE)
     x, y, two = 10 + third + gap, 10 + 2 * (high + gap), 2 * high + gap
     wide = (full - third - 2 * gap) / 2
     others = len(crates) - len(drawn)
     crate(x, 10, wide, two, 'examples, examples_tour', ['registers, frames,', 'sensors, logs'], GREEN)
-    crate(x + wide + gap, 10, wide, two, 'tests and benchmarks', [f'{others} crates: facts, laws, vectors,', 'bounds, pages, instructions'], GREY)
+    crate(x + wide + gap, 10, wide, two, 'tests and benchmarks', [f'{others} crates: facts, laws, vectors,', 'bounds, pages, costs'], GREY)
     for across, name in enumerate(['arbitrary_laws', 'bit_fields']):
-        crate(x + across * (wide + gap), y, wide, high, name, [said[name]], BLUE)
+        crate(x + across * (wide + gap), y, wide, high, name, [texts[name]], BLUE)
     for down, row in enumerate(rows):
         x = 10
         for name, share in zip(row, {1: [1], 2: [0.68, 0.32], 3: [0.48, 0.26, 0.26]}[len(row)]):
             width = (full - gap * (len(row) - 1)) * share
-            crate(x, 10 + (3 + down) * (high + gap), width, high, name, [said[name]], BLUE)
+            crate(x, 10 + (3 + down) * (high + gap), width, high, name, [texts[name]], BLUE)
             x += width + gap
     return picture(full + 20, 14 + 8 * (high + gap), 'The crates as layers', parts)
 

@@ -2,7 +2,8 @@
 """layout.py FILE..
 
 Fails if a line of text in a picture leaves the picture or its box, crosses the border of another box or a drawn line, or overlaps another line
-of text. It measures text with the widths of Helvetica's letters, and leaves room for fonts that are up to 12 in a hundred wider. tools/charts.py runs it on each picture that it draws.
+of text. It measures text with the widths of Helvetica's letters, and leaves room for fonts that are up to 12 percent wider. tools/charts.py
+calls it for each picture that it draws.
 """
 import re
 import sys
