@@ -3,7 +3,8 @@
 
 Fails unless the gate runs what the documents show. The examples in docs/CALLS.md and the table "In Rust you wrote" in docs/DIFFERENCES.md have
 to be tests. The functions in the README and in docs/PROVING.md have to be in crates/pages, and each line that these two pages call refused
-has to be an edit there, which the prover must refuse. With --write it writes the tests from the tables; run `rt fmt` in their crates afterwards.
+has to be an edit there, which the prover must refuse. docs/SETS.md has to list every public set and group of laws, and each fact there has to
+be in a crate that is proved. With --write it writes the tests from the tables; run `rt fmt` in their crates afterwards.
 """
 import re
 import sys
@@ -24,6 +25,11 @@ ELSEWHERE = {'Fields in a record': 'bit_fields/src/vectors/calls.rt'}
 AT_ONCE = 8
 FROM_RUST = ROOT / 'crates/pages/src/from_rust.rt'
 PROVING = ROOT / 'crates/pages'
+SETS = ROOT / 'docs/SETS.md'
+# The page of sets writes a number without its type.
+TYPED = [(r'\b[ui]\d+::zero\(\)', '0'), (r'\b[ui]\d+::(?:new|from_)\((\w+)\)', r'\1')]
+# The crates that prove what that page states.
+STATED = ['pages', 'examples', 'facts_*', 'laws_*']
 # The pages whose functions are in that crate.
 PAGES = ['README.md', 'docs/PROVING.md']
 
@@ -98,6 +104,24 @@ def shown(page):
         yield from re.split(r'\n\n(?=///|#\[test])', code[code.index('///'):].strip())
 
 
+def sets():
+    """What is wrong with the tables of docs/SETS.md: their sets and groups, and the code of their facts."""
+    rows = [re.split(r'(?<!\\)\|', line)[1:-1] for line in SETS.read_text().splitlines() if line.startswith('| `')]
+    public = re.findall(r'^pub ruleset (\w+)', (ROOT / 'crates/arbitrary_laws/proofs/Sets.antt').read_text(), re.M)
+    groups = re.search(r'\{(.*)\}', (ROOT / 'crates/arbitrary_int/specs/GenericLaws.antt').read_text())[1].split(', ')
+    listed = [row[0].strip(' `') for row in rows]
+    for name in {*public, *groups} ^ {*listed}:
+        yield f'{SETS}: `{name}` is on the page or in the sources alone'
+    code = ''.join(file.read_text() for crates in STATED for file in (ROOT / 'crates').glob(f'{crates}/src/*.rt'))
+    for typed, plain in TYPED:
+        code = re.sub(typed, plain, code)
+    code = squeezed(code)
+    for row in rows:
+        for fact in re.findall('`([^`]*)`', row[2].replace('\\|', '|')) if len(row) == 3 else []:
+            if squeezed(fact) not in code:
+                yield f'{SETS}: no function has {fact}'
+
+
 def refused():
     """What the pages call refused: lines of docs/PROVING.md, and the bodies of the functions in Rust that begin the README."""
     yield from re.findall(r'^fn .* \{ (.*) \}$', (ROOT / 'README.md').read_text(), re.M)
@@ -125,6 +149,7 @@ def main():
     for edit in edits:
         if not any(line in edit for line in lines):
             wrong.append(f'an edit of {PROVING}: not a line that {" or ".join(PAGES)} calls refused: {edit}')
+    wrong += sets()
     print('\n'.join(wrong) or 'examples of the documents: as they should be')
     return 1 if wrong else 0
 
