@@ -2,7 +2,7 @@
 """glossary.py
 
 Fails for a word of tools/retired_words.txt in the crates' src/ and specs/, in docs/, or in the name of a file there, and for one of the words
-for pages on a page.
+for pages on a page. It also fails for a word in code of docs/GLOSSARY.md, or a name of a clause in docs/CALLS.md, that no crate has.
 """
 import re
 import sys
@@ -53,6 +53,16 @@ def files():
             yield file, file.read_text()
 
 
+def unknown(sources):
+    """The words of the glossary, outside its brackets, and the names of clauses in the list of CALLS.md, that the sources do not have."""
+    glossary = re.sub(r'\([^)]*\)', '', (ROOT / 'docs/GLOSSARY.md').read_text())
+    for word in {*re.findall(r'`(\w+)`', glossary)} - {*re.findall(r'\w+', sources)}:
+        yield f'docs/GLOSSARY.md: no source has the word {word}'
+    clauses = ' '.join(re.findall(r'^- (`.*?):', (ROOT / 'docs/CALLS.md').read_text(), re.M))
+    for name in {*re.findall(r'`(\w+)`', clauses)} - {*re.findall(r'ensures (\w+) {', sources)}:
+        yield f'docs/CALLS.md: no contract has a clause {name}'
+
+
 def code(file, line):
     """The parts of a line that are code: on a page and in a comment what stands in backticks."""
     begins = {'.rt': r'//', '.antt': r'(?<!\S)--(?!\S)'}.get(file.suffix, '')
@@ -68,8 +78,9 @@ def main():
         sys.exit(f'{RETIRED}: no names, or no phrases')
     name = re.compile(r'(?<![\w-])(' + '|'.join(map(re.escape, names)) + r')(?![\w-])')
     phrase = pattern(phrases)
-    wrong = list(page_faults(on_pages))
-    for file, text in files():
+    texts = list(files())
+    wrong = [*page_faults(on_pages), *unknown(''.join(text for file, text in texts if file.suffix != '.md'))]
+    for file, text in texts:
         path = file.relative_to(ROOT)
         for part in path.parts:
             if phrase.search(part) or name.search(part.split('.')[0]):

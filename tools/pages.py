@@ -13,7 +13,7 @@ from pathlib import Path
 ROOT = Path(__file__).resolve().parent.parent
 WORDS = {
     'README.md': 1100, 'CONTRIBUTING.md': 850, 'CHANGELOG.md': 300, 'docs/ARCHITECTURE.md': 500, 'docs/CALLS.md': 3150, 'docs/DECISIONS.md': 2000,
-    'docs/DIFFERENCES.md': 1550, 'docs/GLOSSARY.md': 700, 'docs/PERFORMANCE.md': 1200, 'docs/PROVED.md': 900, 'docs/PROVING.md': 2500,
+    'docs/DIFFERENCES.md': 1550, 'docs/GLOSSARY.md': 750, 'docs/PERFORMANCE.md': 1200, 'docs/PROVED.md': 900, 'docs/PROVING.md': 2500,
     'docs/SETS.md': 700,
 }
 ALL_WORDS = 16000
