@@ -19,7 +19,7 @@ MEASURED = ROOT / 'tools/measured.txt'
 PAGE = ROOT / 'docs/PERFORMANCE.md'
 # The first cells of the heads of tables.
 CALL, PROGRAM = 'Call in a loop, an element', 'Program, an item'
-SUMMARY = ('Measure', 'Figure')
+SUMMARY = ('Instructions, as a share of those of the Rust crate', 'Figure')
 PICTURES = ROOT / 'docs/pictures'
 GREY, BLUE, ORANGE, GREEN, PALE = '#7a828d', '#3b82f6', '#dd7a1f', '#2f9e58', '#7a828d40'
 
@@ -272,11 +272,11 @@ def summary():
         most, worst = max(calls)
         return f'{mean([share for share, _ in calls]):.2f}; worst {most:.2f} ({worst})'
     return [
-        ['unsigned calls in loops, of the Rust crate', shown(['u7', 'u14', 'u120'])],
+        ['unsigned calls in loops', shown(['u7', 'u14', 'u120'])],
         *([f'of these `{kind}`', shown([kind])] for kind in ('u7', 'u14', 'u120')),
-        ['signed calls in loops, of the Rust crate', shown(['i7', 'i14', 'i120'])],
+        ['signed calls in loops', shown(['i7', 'i14', 'i120'])],
         *([f'of these `{kind}`', shown([kind])] for kind in ('i7', 'i14', 'i120')),
-        ['programs and lists of steps, of the Rust crate', f'{mean(programs):.2f}; worst {max(programs):.2f}'],
+        ['programs and lists of steps', f'{mean(programs):.2f}; worst {max(programs):.2f}'],
         ['`bitrun`, of ordinary Rust', f'{mean([share for share, _ in inputs]):.2f}; worst {inputs[0][0]:.2f} (`{inputs[0][1]}`)'],
         ['`bitrun` on mixed steps, of ordinary Rust', f'{min(mixed):.2f} to {max(mixed):.2f}'],
     ]

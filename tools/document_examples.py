@@ -79,15 +79,14 @@ def calls(module):
 def from_rust():
     """The module of tests that the table of lines from Rust makes."""
     title, examples = next(table for table in tables('docs/DIFFERENCES.md') if table[0] == 'In Rust you wrote')
-    known = [
-        ('n', 'u4::new(9)'), ('a', 'u12::new(1000)'), ('b', 'u12::new(7)'), ('s', 'i12::new(-300)'),
-        ('list', '[u12::new(1000), u12::new(7)]'), ('byte', '200u8'),
-    ]
+    text, known = ' '.join((ROOT / 'docs/DIFFERENCES.md').read_text().split()), {}
+    for name, kind, number, first, second in re.findall(r'`(\w+)` is (?:the `(\w+)` (-?\d+)|`\[(\w+), (\w+)\]`)', text):
+        known[name] = f'[{known[first]}, {known[second]}]' if first else number + kind if kind == 'u8' else f'{kind}::new({number})'
     lines = [
         '//! The table "In Rust you wrote" of docs/DIFFERENCES.md.', '',
         'use crate::constants::{Device, LIMIT, Limits, TOP, greatest, limit};', 'use arbitrary_int::prelude::*;',
     ]
-    return '\n'.join(lines + tests('lines_from', known, examples, 'assert_eq!(rt; {}, {});')) + '\n'
+    return '\n'.join(lines + tests('lines_from', known.items(), examples, 'assert_eq!(rt; {}, {});')) + '\n'
 
 
 def squeezed(text):

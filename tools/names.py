@@ -1,9 +1,10 @@
 #!/usr/bin/env python3
 """names.py
 
-Checks names and widths. A module of specs/ has the name of the module of src/ whose contracts cite it, but for the words of several
-modules, which SHARED lists. A folder of proofs/ that answers the goals of a module has its name, so none is left of a module that is
-gone. No line of a clause, and in the libraries of a ghost member, is longer than 100 columns. It prints each that differs.
+Checks names and lengths. A module of specs/ must have the name of the module of src/ whose contracts cite it. SHARED lists the modules of
+specs/ that several modules of src/ use. A folder of proofs/ with Answers.antt must have the name of a module or an item of src/, so no proof
+outlives its module. A line of a clause, or of a ghost member of a library, has at most 100 columns. A file has at most 400 lines, unless LONG
+lists it. The script prints what breaks a rule, and fails if it prints anything.
 """
 import re
 import sys
@@ -11,6 +12,9 @@ from pathlib import Path
 
 CRATES = Path(__file__).resolve().parent.parent / 'crates'
 COLUMNS = 100
+LINES = 400
+# A trait of one topic whose laws belong together.
+LONG = ['arbitrary_calls/src/fixed_width.rt']
 # the words of several modules, or of a crate above
 SHARED = {
     'arbitrary_base': ['Range', 'Residue', 'Field', 'BitList', 'Operation', 'Assigned', 'Order'],
@@ -28,7 +32,7 @@ def snake(name):
 
 
 def misnamed(crate):
-    """The modules of specs/ and the folders of proofs/ that no module of src/ has the name of."""
+    """The modules of specs/ and the folders of proofs/ whose name no module of src/ has."""
     modules = [file.relative_to(CRATES / crate / 'src').with_suffix('') for file in (CRATES / crate / 'src').rglob('*.rt')]
     names = {module.name for module in modules}
     for file in sorted((CRATES / crate / 'specs').glob('*.antt')):
@@ -45,7 +49,7 @@ def misnamed(crate):
 
 
 def too_long(file):
-    """The lines of clauses and ghost members that are longer than they may be. The proof of a law's default is no part of the law."""
+    """The lines of clauses and ghost members that are too long. The proof of a law's default is not part of the law."""
     begin = MEMBER if file.relative_to(CRATES).parts[0] in LIBRARIES else CLAUSE
     depth = 0
     for number, line in enumerate(file.read_text().splitlines(), 1):
@@ -58,6 +62,10 @@ def too_long(file):
 
 def main():
     wrong = [line for crate in LIBRARIES for line in misnamed(crate)]
+    for file in sorted([*CRATES.glob('*/*/**/*.rt'), *CRATES.glob('*/*/**/*.antt')]):
+        count = file.read_text().count('\n')
+        if count > LINES and 'out' not in file.parts and str(file.relative_to(CRATES)) not in LONG:
+            wrong.append(f'{file}: {count} lines')
     wrong += [line for file in sorted(CRATES.glob('*/src/**/*.rt')) for line in too_long(file)]
     print('\n'.join(line.replace(f'{CRATES.parent}/', '') for line in wrong) or 'names: as they should be')
     return 1 if wrong else 0

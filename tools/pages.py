@@ -10,6 +10,8 @@ import subprocess
 import sys
 from pathlib import Path
 
+import names
+
 ROOT = Path(__file__).resolve().parent.parent
 WORDS = {
     'README.md': 1100, 'CONTRIBUTING.md': 850, 'CHANGELOG.md': 300, 'docs/ARCHITECTURE.md': 500, 'docs/CALLS.md': 3150, 'docs/DECISIONS.md': 2000,
@@ -27,10 +29,18 @@ STORAGES = sum(file.read_text().count('impl Storage for') for file in (ROOT / 'c
 # The definitions to believe, as tools/believed.py writes them.
 BELIEVED = (ROOT / 'docs/ARCHITECTURE.md').read_text()
 COUNTED = ['no', 'one', 'two', 'three', 'four', 'five', 'six', 'seven', 'eight', 'nine', 'ten', 'eleven', 'twelve']
+# The times that tools/measured.txt has of this text.
+TIMES = dict(re.findall(r'^\| (.*?) \| .* \| (\S+) \|$', (ROOT / 'tools/measured.txt').read_text(), re.M))
+# The input of `bitrun` whose output the gate compares, and the lines of that output.
+INPUT, OUTPUT = ((ROOT / 'crates/bitrun' / name).read_text() for name in ('stdin', 'stdout'))
 # What the prose says with a figure, and the figure.
 FIGURES = [
+    (r"printf '(.*)' \| \./bitrun\.sh", INPUT.replace('\n', '\\n')), (r'\./bitrun\.sh +# (`.*`)\n', ', '.join(f'`{line}`' for line in OUTPUT.splitlines())),
+    (r'in about (\S+) minutes; then', TIMES['`./prove.sh mine`, the crate of the README: minutes']),
+    (r'wrong bodies, in about (\S+) minutes', TIMES['`./test.sh`: minutes']),
     (r'(\d+,\d+) bytes', f'{LIMIT:,}'), (r'(\d+,\d+) reads', f'{LIMIT + 1:,}'), (r'the (\w+) primitive integers', COUNTED[STORAGES]),
     (r'sentences of at most (\d+) words', str(SENTENCE)),
+    (r'on lines of at most (\d+) columns', str(names.COLUMNS)), (r'module of at most (\d+) lines', str(names.LINES)),
     (r'(\d+) lines of \[definitions', re.search(r'(\d+) lines must be believed', BELIEVED)[1]),
     (r'(\d+) more for `bitrun`', re.search(r'(\d+) more for the program', BELIEVED)[1]),
     (r'(rattle-kit-\S+ logic \w+)', subprocess.check_output(['rt', 'version'], text=True).strip()),
