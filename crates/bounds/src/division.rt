@@ -1,4 +1,4 @@
-//! Divisors that a test shows to differ from zero.
+//! Divisors that a test shows to be other than zero.
 
 use arbitrary_int::prelude::*;
 

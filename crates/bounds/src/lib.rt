@@ -1,7 +1,8 @@
-//! The last values that the conditions of the calls allow: of constructors, conversions, operators and amounts, of the places of bits, fields
-//! and registers, and of divisors. One further, and the program is not proved.
+//! The last values that the conditions of the calls allow: for constructors, conversions, operators and amounts,
+//! for the places of bits, fields and registers, and for divisors. With the next value, the check refuses the
+//! function.
 //!
-//! No function here has a contract: what is proved of it are the conditions of its calls, and they alone.
+//! No function here has a contract. The check proves the conditions of its calls, and nothing else.
 #![tactic(auto)]
 
 pub mod assignments;

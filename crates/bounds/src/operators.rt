@@ -1,4 +1,4 @@
-//! `+ - * /` and unary minus: the exact result is in range, and a divisor is not zero.
+//! `+ - * /` and unary minus require an exact result in range, and `/` a divisor other than zero.
 
 use arbitrary_core::aliases::signed::{i7, i17};
 use arbitrary_core::aliases::unsigned::u7;

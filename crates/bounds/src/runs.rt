@@ -1,4 +1,4 @@
-//! Runs whose register numbers a test shows to exist.
+//! Runs whose register numbers pass a test.
 
 use arbitrary_int::prelude::*;
 use arbitrary_int::{Step, Stop, run, well_formed};

@@ -1,4 +1,4 @@
-//! `<<` and `>>` shift by 0 to `BITS - 1` places, of any integer type.
+//! `<<` and `>>` shift by 0 to `BITS - 1` places. The amount has any primitive integer type.
 
 use arbitrary_core::aliases::signed::{i9, i53};
 use arbitrary_core::aliases::unsigned::{u9, u53};

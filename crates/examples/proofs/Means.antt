@@ -1,4 +1,4 @@
--- The mean of two numbers by their halves.
+-- The mean of two numbers, computed from their halves.
 use Rattle.std.specs.Prelude.{◌≡◌, ℕ, ℤ, Bool, true, false, pos, int_div, ◌+ℤ◌, ◌+◌, ◌/◌, ◌%◌, ◌≤◌}
 use Rattle.std.proofs.Common.{arith, ap, refl, ◌∙◌}
 use Rattle.std.proofs.lemmas.Int.{ints}

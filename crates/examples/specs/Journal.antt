@@ -1,4 +1,5 @@
--- A record of a log, as bytes: the words of the contracts in src/journal.rt, with lemmas in proofs/Records.antt.
+-- A record of a log as bytes: the definitions for the contracts in src/journal.rt. proofs/Records.antt has
+-- lemmas about them.
 use Rattle.std.specs.Prelude.{◌≡◌, ℕ, ℤ, Bool, List, ◌++◌, Option, Some, IsTrue}
 use Rattle.arbitrary_int.specs.ByteLists.{BorshBytes}
 

@@ -7,7 +7,7 @@
 //! | 12 to 23 | first sample  | `i12` |
 //! | 0 to 11  | second sample | `i12` |
 //!
-//! Bit 28 is reserved: it is not read, and written as 0.
+//! Bit 28 is reserved. Reading ignores it, and writing sets it to 0.
 
 ghost use Rattle.std.specs.Prelude.{◌≡◌, ◌+ℤ◌, ◌*ℤ◌, ◌^◌, pos, true, false};
 ghost use Rattle.arbitrary_int.specs.Residue.{wrap};

@@ -1,7 +1,7 @@
-//! Examples: a device's register and settings, a packet header, a frame of bytes, a sensor, a filter, a log, a decoder, the registers of
-//! a clock, lists of steps at one width and at two, code for every width, fields in a record, numbers as text and as keys,
-//! a video chip's scroll registers and a processor's flags.
-//! The program `examples_tour` prints their results.
+//! Examples: a device's register and settings, a packet header, a frame of bytes, a sensor, a filter, a log, a
+//! decoder, the registers of a clock, lists of steps at one width and at two, code for every width, fields in a
+//! record, numbers as text and as keys, a video chip's scroll registers, and a processor's flags. The program
+//! `examples_tour` prints their results.
 #![tactic(auto)]
 
 pub mod can;

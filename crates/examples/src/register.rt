@@ -1,4 +1,4 @@
-//! The control register of a timer: a 32-bit word whose fields are numbers of their own width.
+//! The control register of a timer: a word of 32 bits whose fields are integers of their own width.
 //!
 //! | Bits    | Field     | Type  |
 //! |---------|-----------|-------|
@@ -7,7 +7,7 @@
 //! | 4 and 5 | mode      | `u2`  |
 //! | 8 to 21 | reload    | `u14` |
 //!
-//! The other bits are reserved: they are not read, and written as 0.
+//! The other bits are reserved. Reading ignores them, and writing sets them to 0.
 
 ghost use Rattle.std.specs.Prelude.{◌≡◌, ◌+ℤ◌, ◌*ℤ◌, pos};
 ghost use Rattle.arbitrary_int.specs.Field.{field};

@@ -1,4 +1,5 @@
-//! The scroll and address registers of a video chip: a current address and a latch, of 15 bits each, whose fields are copied and written.
+//! The scroll registers of a video chip: a current address and a latch, of 15 bits each, with fields that are
+//! copied and written.
 #![tactic(auto, using(arbitrary_laws::proofs::Sets::words))]
 
 ghost use Rattle.std.specs.Prelude.{◌≡◌, ◌/◌, ◌%◌, ◌*◌, ◌+◌};

@@ -1,4 +1,4 @@
-//! A sensor that measures with 12 bits and a sign.
+//! A sensor with signed samples of 12 bits.
 
 ghost use Rattle.std.specs.Prelude.{◌≡◌, ◌+ℤ◌, ◌-ℤ◌, ◌*ℤ◌, pos, int_div, true, MatchOption, take, drop};
 ghost use Rattle.std.specs.List.{fold};

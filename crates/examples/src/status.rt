@@ -1,4 +1,4 @@
-//! The flags of a processor: what a result and a shift leave in the status byte.
+//! The flags of a processor: what a result and a shift set in the status byte.
 #![tactic(auto, using(arbitrary_laws::proofs::Sets::words))]
 
 ghost use Rattle.std.specs.Prelude.{◌≡◌, ◌↔◌, ◌/◌, ◌%◌, ◌*◌, ◌+◌, ◌<◌, ◌≤◌, IsTrue, if◌then◌else◌};

@@ -1,4 +1,5 @@
-//! The same steps at two widths: a wide register whose low bits are wanted, and a list of checked steps that moves to a wider type.
+//! The same steps at two widths: a wide register of which only the low bits are used, and a list of checked
+//! steps that moves to a wider type.
 
 ghost use Rattle.std.specs.Prelude.{◌≡◌, ◌*ℤ◌, true, map, length, Ok, All};
 ghost use Rattle.arbitrary_int.specs.Steps.{StepWithin};

@@ -1,4 +1,4 @@
-//! Shows what the examples give, one after the other: each module prints what the module of its name gives.
+//! Prints the results of the examples. Each module prints those of the example of the same name.
 #![tactic(auto)]
 
 use std::io;

@@ -1,4 +1,4 @@
-//! Numbers as text to other bases.
+//! Numbers as text in other bases.
 
 use arbitrary_int::prelude::*;
 use examples::texts::{hexadecimal, pattern};

@@ -1,7 +1,7 @@
-//! Fields, masks, shifts, rotations and counts.
+//! Facts about fields, masks, shifts, rotations and counts.
 //!
-//! Each function is a fact that a user takes for granted, with no proof of its own: if one fails, a call lacks a clause. Do
-//! not weaken it. Counts at their ends stand in `counts`, bytes in `bytes`.
+//! Users expect each of these facts. None has a proof of its own, so if one fails, a call lacks a clause. Do not
+//! weaken it. `counts` has counts at their ends.
 
 ghost use Rattle.std.specs.Prelude.{◌≡◌, ◌↔◌, ◌/◌, ◌%◌, ◌+ℤ◌, ◌-ℤ◌, ◌*ℤ◌, ◌≤ℤ◌, ◌<ℤ◌, pos, neg_ℤ, unsigned_abs, int_div, false, IsTrue};
 ghost use Rattle.std.specs.Bool.{beq};

@@ -1,4 +1,4 @@
-//! Counts of bits at their ends, and the places that they find.
+//! Facts about counts at their ends, and about the places that counts find.
 
 ghost use Rattle.std.specs.Prelude.{◌≡◌, ◌<◌, ◌≤◌, ◌≤ℤ◌, ◌<ℤ◌, pos, neg_ℤ, IfSome, IsTrue};
 ghost use Rattle.arbitrary_int.specs.Residue.{Congruent};

@@ -1,5 +1,5 @@
-//! What a user takes for granted of bits, masks, counts, shifts and rotations, each fact in one function. None has a proof of its own: the
-//! contracts of the calls carry them.
+//! Facts about bits, masks, counts, shifts and rotations that users expect, one in each function. None has a
+//! proof of its own: the contracts of the calls are enough, in some files with a set of laws.
 #![tactic(auto)]
 
 pub mod bits;

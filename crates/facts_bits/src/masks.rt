@@ -1,4 +1,4 @@
-//! Numbers under a mask that is known, each fact in one function. None has a proof of its own: the file names one set of laws.
+//! Facts about numbers under a known mask.
 #![tactic(auto, using(arbitrary_laws::proofs::masks::Rulesets::known_masks))]
 
 ghost use Rattle.std.specs.Prelude.{◌≡◌, ◌↔◌, ◌/◌, ◌%◌, ◌*◌, ◌+ℤ◌, ◌-ℤ◌, ◌*ℤ◌, ◌≤ℤ◌, ◌<ℤ◌, pos, int_div, unsigned_abs, IsTrue};

@@ -1,5 +1,4 @@
-//! One bit by its place, and the others, which stay.
-//! None has a proof of its own: the file names one set of laws.
+//! Facts about writing one bit by its place: the other bits do not change.
 #![tactic(auto, using(arbitrary_laws::proofs::places::Rulesets::other_bits))]
 
 ghost use Rattle.std.specs.Prelude.{◌≡◌, ◌≢◌, ◌/◌, ◌%◌, ◌^◌, ◌-◌, ◌<ℤ◌, ℕ, pos, unsigned_abs};

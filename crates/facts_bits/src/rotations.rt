@@ -1,5 +1,4 @@
-//! Rotations.
-//! None has a proof of its own: the file names one set of laws.
+//! Facts about rotations.
 #![tactic(auto, using(arbitrary_laws::proofs::rotations::Rulesets::rotations))]
 
 ghost use Rattle.std.specs.Prelude.{◌≡◌, ◌+◌, ◌*◌, ◌/◌, ◌%◌, ◌*ℤ◌, ◌<ℤ◌, pos, unsigned_abs, IsTrue};

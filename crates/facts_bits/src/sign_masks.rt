@@ -1,5 +1,4 @@
-//! Numbers under copies of their own sign, with no branch.
-//! None has a proof of its own: the file names one set of laws.
+//! Facts about numbers under copies of their own sign, as code without branches has them.
 #![tactic(auto, using(arbitrary_laws::proofs::signs::SignWord::signs))]
 
 ghost use Rattle.std.specs.Prelude.{◌≡◌, ◌-ℤ◌, ◌≤ℤ◌, ◌<ℤ◌, pos, neg_ℤ};

@@ -1,5 +1,4 @@
-//! One bit by its place.
-//! None has a proof of its own: the file names one set of laws.
+//! Facts about one bit by its place.
 #![tactic(auto, using(arbitrary_laws::proofs::places::Rulesets::single_bits))]
 
 ghost use Rattle.std.specs.Prelude.{◌≡◌, ◌≢◌, ◌↔◌, ◌/◌, ◌%◌, ◌^◌, ◌<◌, ◌+ℤ◌, ◌≤ℤ◌, ◌<ℤ◌, pos, unsigned_abs, IsTrue};

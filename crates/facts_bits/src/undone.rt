@@ -1,5 +1,5 @@
-//! An operand that is known to come from a call, and the call that undoes it, each fact in one function. Most name the set of
-//! their word.
+//! Facts about an operand that a call returned, and the call that undoes it. Most functions name the set of
+//! their operation.
 
 ghost use Rattle.std.specs.Prelude.{◌≡◌, false, IsTrue};
 ghost use Rattle.arbitrary_int.specs.Operation.{bitwise_xor, reversed, rotated_right, wrapped_difference, wrapped_sum};

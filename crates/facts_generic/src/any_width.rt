@@ -1,4 +1,4 @@
-//! Laws at any width of one storage, with no set. An `ensures` calls the number that was passed `x.entry`.
+//! Facts at any width of one storage. In an `ensures`, `x.entry` is the number that was passed.
 
 ghost use Rattle.std.specs.Prelude.{◌↔◌, ◌≡◌, ◌≤◌, ◌+ℤ◌, ◌≤ℤ◌, ◌<ℤ◌, pos, IsTrue, IfSome};
 

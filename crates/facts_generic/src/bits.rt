@@ -1,4 +1,5 @@
-//! Laws of `& | ^ !` in code that is generic in the type. They need no set: by the laws of the bound values are compared bit by bit.
+//! Facts about `& | ^ !` in code that is generic over the type. They need no set, because the laws of the bound
+//! compare values bit by bit.
 #![tactic(auto)]
 
 ghost use Rattle.std.specs.Prelude.{IsTrue};

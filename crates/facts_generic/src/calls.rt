@@ -1,4 +1,4 @@
-//! More code that is generic, in the type or in its storage.
+//! Facts about more calls in code that is generic over the type or its storage.
 
 ghost use Rattle.std.specs.Prelude.{◌≡◌, ◌↔◌, ◌+ℤ◌, ◌≤ℤ◌, ◌<ℤ◌, pos, IsTrue};
 ghost use Rattle.arbitrary_int.specs.Range.{InRange, hi};

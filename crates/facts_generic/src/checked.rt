@@ -1,4 +1,5 @@
-//! Calls that refuse or clamp, beside each other and with 1, and conversions there and back, in code that is generic in the type.
+//! Facts about calls that refuse or clamp, and about conversions there and back, in code that is generic over
+//! the type.
 
 ghost use Rattle.std.specs.Prelude.{◌≡◌, ◌≤◌, ◌<◌, pos, IsTrue};
 ghost use Rattle.arbitrary_int.specs.Range.{InRange};

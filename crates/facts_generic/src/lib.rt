@@ -1,5 +1,5 @@
-//! Facts in code that is generic over the type or its width. None has a proof of its own and none names a set: the bounds `Integer` and
-//! `FixedWidth` have the laws.
+//! Facts in code that is generic over the type or its width. None has a proof of its own, and none names a set,
+//! because the bounds `Integer` and `FixedWidth` have laws.
 #![tactic(auto)]
 
 pub mod any_width;

@@ -1,4 +1,4 @@
-//! Code that is generic in the type.
+//! Facts about numbers in code that is generic over the type.
 
 ghost use Rattle.std.specs.Prelude.{◌≡◌, ◌↔◌, ◌≤◌, ◌+ℤ◌, ◌≤ℤ◌, ◌<ℤ◌, pos, true, IfSome, IsTrue};
 ghost use Rattle.arbitrary_int.specs.Range.{InRange, hi};

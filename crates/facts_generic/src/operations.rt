@@ -1,5 +1,5 @@
-//! Laws of sums, shifts, rotations, reversals, counts and runs in code that is generic in the type, and clauses over numbers there. They need no
-//! set.
+//! Facts about sums, shifts, rotations, reversals, counts and runs in code that is generic over the type, and
+//! clauses about their numbers.
 #![tactic(auto)]
 
 ghost use Rattle.std.specs.Prelude.{◌≡◌, IsTrue};

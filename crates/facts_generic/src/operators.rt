@@ -1,4 +1,4 @@
-//! Operators beside the order and the ends of the range, in code that is generic in the type.
+//! Facts about operators, the order and the ends of the range in code that is generic over the type.
 
 ghost use Rattle.std.specs.Prelude.{◌≡◌, ◌+ℤ◌, ◌-ℤ◌, ◌≤ℤ◌, ◌<ℤ◌, pos, int_div, IsTrue};
 ghost use Rattle.arbitrary_int.specs.Range.{hi};

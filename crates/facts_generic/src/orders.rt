@@ -1,4 +1,4 @@
-//! Orders, sums that clamp at the ends, and equal sums, in code that is generic in the type.
+//! Facts about orders, clamped sums and equal sums in code that is generic over the type.
 
 ghost use Rattle.std.specs.Prelude.{◌≤ℤ◌, IsTrue};
 

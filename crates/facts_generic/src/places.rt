@@ -1,4 +1,4 @@
-//! The complement beside the greatest number, single bits and masks by a place that varies, in code that is generic in the type.
+//! Facts about complements, single bits and masks at a variable place in code that is generic over the type.
 
 ghost use Rattle.std.specs.Prelude.{◌≡◌, ◌↔◌, ◌<◌, ◌%◌, ◌^◌, ◌<ℤ◌, pos, unsigned_abs, IsTrue};
 

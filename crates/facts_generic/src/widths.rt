@@ -1,5 +1,5 @@
-//! What generic code knows after a call with no word on the width: that it is valid, and that a result which clamps is in range. Without a sign
-//! the 128 bits of a number are the number.
+//! What generic code knows after a call without a condition on the width: the width is valid, and a clamped
+//! result is in range. The 128 bits of an unsigned number are the number.
 
 ghost use Rattle.std.specs.Prelude.{◌≡◌, ◌↔◌, ◌/◌, ◌%◌, IsTrue, unsigned_abs};
 

@@ -1,4 +1,4 @@
-//! Sums, products, quotients and comparisons.
+//! Facts about sums, products, quotients and comparisons.
 
 ghost use Rattle.std.specs.Prelude.{◌≡◌, ◌↔◌, ◌+ℤ◌, ◌-ℤ◌, ◌*ℤ◌, ◌≤ℤ◌, ◌<ℤ◌, not, true, pos, neg_ℤ, int_div, IsTrue};
 ghost use Rattle.arbitrary_int.specs.Range.{in_range};

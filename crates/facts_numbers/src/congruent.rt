@@ -1,4 +1,4 @@
-//! What is known up to a multiple of the numbers of the type: distances, negated numbers, and the low bits of what wraps.
+//! Facts modulo `2 ^ BITS`: distances, negated numbers, and the low bits of results that wrap.
 
 ghost use Rattle.std.specs.Prelude.{◌≡◌, ◌+ℤ◌, ◌-ℤ◌, ◌*ℤ◌, ◌<ℤ◌, pos};
 ghost use Rattle.arbitrary_int.specs.Residue.{Congruent};

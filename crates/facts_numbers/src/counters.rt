@@ -1,4 +1,4 @@
-//! Counters, volumes, sequence numbers and fixed point.
+//! Facts about counters, volumes, sequence numbers and fixed-point numbers.
 
 ghost use Rattle.std.specs.Prelude.{◌≡◌, ◌+ℤ◌, ◌-ℤ◌, ◌*ℤ◌, ◌≤ℤ◌, ◌<ℤ◌, pos, IfSome};
 

@@ -1,5 +1,4 @@
-//! Distances that wrap, and negation.
-//! None has a proof of its own: the file names one set of laws.
+//! Facts about distances that wrap, and about negation.
 #![tactic(auto, using(arbitrary_laws::proofs::sums::Rulesets::negations))]
 
 ghost use Rattle.std.specs.Prelude.{◌≡◌, pos, IsTrue};

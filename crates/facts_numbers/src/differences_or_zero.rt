@@ -1,4 +1,4 @@
-//! Laws of the difference that clamps at 0 beside the lesser and the greater number, with no set.
+//! Facts about the difference that clamps at 0, and about the lesser and the greater of two numbers.
 
 ghost use Rattle.std.specs.Prelude.{IsTrue};
 

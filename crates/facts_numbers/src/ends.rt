@@ -1,4 +1,4 @@
-//! Calls with zero, one, equal operands, the width, and the ends of the range.
+//! Facts about calls with zero, one, equal operands, the width, and the ends of the range.
 
 ghost use Rattle.std.specs.Prelude.{◌≡◌, ◌≢◌, ◌<◌, ◌%◌, pos, unsigned_abs, IsTrue};
 

@@ -1,4 +1,4 @@
-//! Laws of the forms of a call: what wraps, clamps, refuses and tells of an overflow agrees, with no set.
+//! Facts about the forms of one call: the results that wrap, clamp, refuse and set a flag agree.
 
 ghost use Rattle.std.specs.Prelude.{◌≢◌, ◌<◌, ◌+ℤ◌, ◌≤ℤ◌, ◌<ℤ◌, pos, IsTrue};
 ghost use Rattle.arbitrary_int.specs.Residue.{Congruent};

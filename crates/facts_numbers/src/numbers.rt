@@ -1,4 +1,4 @@
-//! Numbers that are held, halved, scaled and squared, and what is refused.
+//! Facts about numbers that are stored, halved, scaled and squared, and about what is refused.
 
 ghost use Rattle.std.specs.Prelude.{◌≡◌, ◌↔◌, ◌≤◌, ◌+ℤ◌, ◌-ℤ◌, ◌≤ℤ◌, ◌<ℤ◌, pos, IsTrue, IsNone};
 

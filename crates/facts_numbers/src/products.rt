@@ -1,5 +1,5 @@
-//! Products of signed numbers, and what comes after: a shift, a quotient, a rounding, a clamp. A product of two
-//! numbers of 12 bits has 24.
+//! Facts about products of signed numbers that are then shifted, divided, rounded or clamped. The product of two
+//! numbers of 12 bits has 24 bits.
 
 ghost use Rattle.std.specs.Prelude.{◌≡◌, ◌+ℤ◌, ◌*ℤ◌};
 

@@ -1,5 +1,4 @@
-//! Quotients times their divisor, and powers.
-//! None has a proof of its own: the file names one set of laws.
+//! Facts about quotients multiplied by their divisor, and about powers.
 #![tactic(auto, using(arbitrary_laws::proofs::numbers::Rulesets::quotients))]
 
 ghost use Rattle.std.specs.Prelude.{◌≡◌, ◌*ℤ◌, ◌≤ℤ◌, ◌<ℤ◌, pos};

@@ -1,4 +1,4 @@
-//! The greater, the lesser and the nearest of signed numbers, one after another.
+//! Facts about `max`, `min` and `clamp` of signed numbers, nested.
 
 ghost use Rattle.std.specs.Prelude.{◌≡◌, ◌≤ℤ◌, pos, IsTrue};
 

@@ -1,4 +1,4 @@
-//! Laws of 0, of 1 and of the ends of a range, with no set.
+//! Facts about 0, 1 and the ends of a range as operands.
 
 ghost use Rattle.std.specs.Prelude.{◌≡◌, ◌≢◌, ◌≤◌, pos, neg_ℤ, IsTrue};
 

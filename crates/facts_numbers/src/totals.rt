@@ -1,4 +1,4 @@
-//! Sums and products of many values by std's `sum` and `product`, with no set of laws.
+//! Facts about sums and products of many values, by std's `sum` and `product`.
 
 ghost use Rattle.std.specs.Prelude.{◌≡◌, ◌<◌, ◌+ℤ◌, pos, unsigned_abs};
 ghost use Rattle.std.specs.List.{sum_by};

@@ -1,4 +1,4 @@
-//! Indices, masks and casts.
+//! Facts about indices, masks and casts.
 
 ghost use Rattle.std.specs.Prelude.{◌≡◌, ◌/◌, ◌%◌, ◌^◌, ◌<◌, ◌+ℤ◌, ◌-ℤ◌, ◌*ℤ◌, ◌≤ℤ◌, ◌<ℤ◌, pos, neg_ℤ, int_div, IsTrue};
 ghost use Rattle.arbitrary_int.specs.Residue.{Congruent};

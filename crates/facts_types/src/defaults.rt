@@ -1,4 +1,4 @@
-//! What has a value without being given one, and the calls of `num_traits`.
+//! Facts about default values, and about the calls of `num_traits`.
 
 ghost use Rattle.std.specs.Prelude.{◌≡◌, ◌+ℤ◌, ◌-ℤ◌, ◌≤ℤ◌, pos, neg_ℤ, true, None};
 ghost use Rattle.arbitrary_int.specs.Range.{InRange};

@@ -1,5 +1,5 @@
-//! What a user takes for granted of conversions, ranges, defaults and lines as in Rust, each fact in one function. None has a proof of its
-//! own: the contracts of the calls carry them, and this crate is what keeps it so.
+//! Facts about conversions, ranges, defaults and lines of Rust that users expect, one in each function. None has
+//! a proof of its own: the contracts of the calls are enough, in one file with a set of laws.
 #![tactic(auto)]
 
 pub mod conversions;

@@ -1,4 +1,4 @@
-//! A number in another storage than its short name has, by `From`.
+//! Facts about `From` into another storage than that of the short name.
 
 ghost use Rattle.std.specs.Prelude.{◌≡◌, IsTrue};
 

@@ -1,4 +1,4 @@
-//! What std's calls on an iterator give of a range's values: its clauses carry them, with no set of laws.
+//! Facts about the results of std's iterator calls on a range.
 
 ghost use Rattle.std.specs.Prelude.{◌≡◌, ◌≤◌, ◌≤ℤ◌, ◌<ℤ◌, ◌-ℤ◌, ◌+ℤ◌, pos, Some, IfSome, IsTrue};
 

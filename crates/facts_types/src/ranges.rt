@@ -1,5 +1,4 @@
-//! The values of a range: facts that you take for granted of `range_inclusive`. None has a proof of its own: the file
-//! names one set of laws. `lists` beside it has sums and steps from value to value.
+//! Facts about the values of `range_inclusive`. `lists` of `programs` has sums, and steps from value to value.
 #![tactic(auto, using(arbitrary_laws::proofs::steps::Rulesets::ranges))]
 
 ghost use Rattle.std.specs.Prelude.{◌≡◌, ◌≤ℤ◌, Some};

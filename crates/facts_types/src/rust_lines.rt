@@ -1,4 +1,5 @@
-//! Lines that a user of the Rust crate has: its constants, its conversions, and a type of one's own.
+//! Lines as a user of the Rust crate writes them: with constants, with conversions, and with a type of their
+//! own.
 
 ghost use Rattle.std.specs.Prelude.{◌≡◌, ◌≢◌, ◌<◌, ◌≤◌, ◌+ℤ◌, ◌-ℤ◌, ◌*ℤ◌, ◌≤ℤ◌, pos, neg_ℤ, true};
 ghost use Rattle.arbitrary_int.specs.Range.{lo, hi};

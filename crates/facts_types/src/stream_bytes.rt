@@ -1,4 +1,4 @@
-//! The bytes of a value in a stream: how many they are, and the number that is read from them.
+//! Facts about the bytes of a value in a stream: their number, and the value that is read from them.
 
 ghost use Rattle.std.specs.Prelude.{◌≡◌, ◌<◌, ◌+◌, ◌*◌, ◌↔◌, pos, IsSome, IfSome};
 ghost use Rattle.arbitrary_int.specs.Residue.{Congruent};

@@ -1,4 +1,4 @@
-//! Generic code with the bound `FixedWidth`, which alone is in scope.
+//! Generic code with the bound `FixedWidth`, which is the only import.
 
 ghost use Rattle.std.specs.Prelude.{◌≡◌, ◌≤◌, ◌+◌, ◌+ℤ◌, ◌*ℤ◌, pos, take, drop, count_by};
 ghost use Rattle.arbitrary_int.specs.BitList.{bits, val};

@@ -1,4 +1,4 @@
-//! Generic code with the bound `Integer`, which alone is in scope.
+//! Generic code with the bound `Integer`, which is the only import.
 
 ghost use Rattle.std.specs.Prelude.{◌≡◌, false, pos};
 ghost use Rattle.arbitrary_int.specs.Range.{InRange, lo};

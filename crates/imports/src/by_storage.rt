@@ -1,4 +1,4 @@
-//! Generic code with the bound `BuiltinInteger`, which alone is in scope.
+//! Generic code with the bound `BuiltinInteger`, which is the only import.
 
 ghost use Rattle.std.specs.Prelude.{◌≡◌, ◌<◌, ◌+ℤ◌, ◌*ℤ◌, pos};
 ghost use Rattle.arbitrary_int.specs.Residue.{residue, wrap};

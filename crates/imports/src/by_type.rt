@@ -1,4 +1,4 @@
-//! What a short name has with no trait in scope.
+//! The calls of a short name without a trait in scope.
 
 ghost use Rattle.std.specs.Prelude.{◌≡◌, ◌↔◌, IsTrue};
 

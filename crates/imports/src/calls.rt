@@ -1,5 +1,5 @@
-//! The types' own calls, and one call by each bound. A call of a generic function carries all that its bound requires,
-//! so the others stand in `by_integer`, `by_fixed_width` and `by_storage` alone.
+//! The types' own calls, and one call for each bound. The proof of a generic call loads all that its bound
+//! requires, so the other calls are only in `by_integer`, `by_fixed_width` and `by_storage`.
 
 use crate::{by_fixed_width, by_integer, by_storage, by_type};
 use arbitrary_int::{TryNewError, UInt, i4, i5, i7, u4, u5, u7};

@@ -1,4 +1,4 @@
-//! The imports that each form of a call needs. A module has one import of a trait, or none.
+//! The import that each form of a call needs. Each module imports one trait, or none.
 #![tactic(auto)]
 
 pub mod by_fixed_width;

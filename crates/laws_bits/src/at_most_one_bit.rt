@@ -1,4 +1,4 @@
-//! A law of a number of which one bit is one, told by the bit that is cleared and by the count at once.
+//! A law about a number with a single bit that is one, by the bit that is cleared and by the count.
 #![tactic(auto, using(arbitrary_laws::proofs::bits::AtMostOneBit::at_most_one_bit))]
 
 ghost use Rattle.std.specs.Prelude.{IsTrue};

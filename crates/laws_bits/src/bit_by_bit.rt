@@ -1,4 +1,5 @@
-//! Laws of `& | ^ !`, each by the set `bit_by_bit` alone, at several widths: the two sides are compared bit by bit.
+//! Laws about `& | ^ !` at several widths, each with the set `bit_by_bit` alone, which compares the two sides
+//! bit by bit.
 #![tactic(auto, using(arbitrary_laws::proofs::bits::Rulesets::bit_by_bit))]
 
 ghost use Rattle.std.specs.Prelude.{IsTrue};

@@ -1,5 +1,5 @@
-//! Laws of bits by their places, at types with and without a sign: one bit that is set, cleared or turned over, and then tested; and flags
-//! that are tested at once, beside the tests of each.
+//! Laws about bits by their places, in signed and unsigned types: one bit is set, cleared or toggled and then
+//! tested, and several flags are tested at once.
 #![tactic(auto, using(arbitrary_laws::proofs::masks::FlagTests::flag_tests))]
 
 ghost use Rattle.std.specs.Prelude.{◌<◌, IsTrue};

@@ -1,5 +1,5 @@
-//! Laws of one of `& | ^` with `!`, once or nested, each by the set `bits` alone. `distribution` has two of them, one over the
-//! other.
+//! Laws about one of `& | ^` with `!`, once or nested, each with the set `bits` alone. `distribution` nests two
+//! of them.
 #![tactic(auto, using(arbitrary_laws::proofs::bits::Rulesets::bits))]
 
 ghost use Rattle.std.specs.Prelude.{IsTrue};

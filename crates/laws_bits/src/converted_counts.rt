@@ -1,4 +1,4 @@
-//! Laws of the counts of a number that is converted: to the other sign, and to one of Rust's own integers.
+//! Laws about the counts of a converted number: to the other sign, and to a primitive.
 #![tactic(auto, using(arbitrary_laws::proofs::counts::ConvertedCounts::converted_counts))]
 
 ghost use Rattle.std.specs.Prelude.{◌≢◌, pos, IsTrue};

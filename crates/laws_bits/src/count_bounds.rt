@@ -1,4 +1,5 @@
-//! Laws of counts beside other counts, of shifted numbers and of one bit. `counts` has those of one number that is turned or complemented.
+//! Laws that compare counts with other counts, of shifted numbers and of one bit. `counts` has those of one
+//! number, reversed or complemented.
 #![tactic(auto, using(arbitrary_laws::proofs::counts::CountBounds::count_bounds))]
 
 ghost use Rattle.std.specs.Prelude.{◌<◌, IsTrue};

@@ -1,4 +1,4 @@
-//! Laws of counts of bits.
+//! Laws about counts of bits.
 #![tactic(auto, using(arbitrary_laws::proofs::counts::Rulesets::counts))]
 
 ghost use Rattle.std.specs.Prelude.{IsTrue};

@@ -1,4 +1,4 @@
-//! Laws of `& | ^ !`, one over another.
+//! Laws about nested `& | ^ !`.
 #![tactic(auto, using(arbitrary_laws::proofs::bits::Rulesets::distribution))]
 
 ghost use Rattle.std.specs.Prelude.{IsTrue};

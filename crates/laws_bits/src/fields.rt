@@ -1,4 +1,4 @@
-//! Laws of fields that `|` puts together, of fields written in place, and of one bit and the others.
+//! Laws about fields joined by `|`, about fields written in place, and about one bit and the others.
 #![tactic(auto, using(arbitrary_laws::proofs::fields::Rulesets::written_fields))]
 
 ghost use Rattle.std.specs.Prelude.{◌≡◌, ◌≢◌, ◌/◌, ◌%◌, ◌^◌, ◌<◌, ◌+ℤ◌, ◌*ℤ◌, ◌<ℤ◌, ℕ, pos, int_div, unsigned_abs, IsTrue};

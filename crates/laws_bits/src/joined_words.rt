@@ -1,5 +1,5 @@
-//! Words of any number of fields, put together by `|` and read back: one set for every spelling and either order.
-//! None has a proof of its own: the file names one set of laws, and some functions that with tests by `==`.
+//! Words of any number of fields, joined by `|` and read back. One set proves each spelling in either order.
+//! Some functions name that set with tests by `==`.
 #![tactic(auto, using(arbitrary_laws::proofs::fields::JoinedWords::joined_words))]
 
 ghost use Rattle.std.specs.Prelude.{◌≡◌, ◌+◌, ◌*◌, ◌/◌, ◌%◌, ◌+ℤ◌, ◌*ℤ◌, pos, IsTrue, false, if◌then◌else◌};

@@ -1,4 +1,4 @@
-//! Laws of the counts of a number that is written out.
+//! Laws about the counts of a constant.
 #![tactic(auto, using(arbitrary_laws::proofs::counts::Rulesets::known_counts))]
 
 ghost use Rattle.std.specs.Prelude.{IsTrue};

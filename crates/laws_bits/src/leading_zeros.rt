@@ -1,5 +1,5 @@
-//! Laws of the zeros at the high end: of a number that is written out, below a power of two or from one on, of the greater of two, and beside
-//! the count of a primitive.
+//! Laws about the leading zeros of a constant, of a number below a power of two or at least 1, of the greater of
+//! two numbers, and of a primitive.
 #![tactic(auto, using(arbitrary_laws::proofs::counts::LeadingZeros::leading_zeros))]
 
 ghost use Rattle.std.specs.Prelude.{◌≤◌, ◌≤ℤ◌, ◌<ℤ◌, pos, IsTrue};

@@ -1,5 +1,6 @@
-//! Laws of `&`, `|`, `^` and `!`, of masks, of bits at their places and of their counts, most at `u12` and `i12`: each function compares the
-//! two sides, and ensures that they are equal. None has a proof of its own: each file or function names one set of laws.
+//! Laws about `&`, `|`, `^` and `!`, about masks, about bits at their places and about their counts, most at
+//! `u12` and `i12`. Each function compares two sides, and ensures that they are equal. None has a proof of its
+//! own: each file or function names one set of laws.
 #![tactic(auto)]
 
 pub mod at_most_one_bit;

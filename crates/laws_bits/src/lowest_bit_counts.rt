@@ -1,4 +1,4 @@
-//! Laws of the bits that are one in a number's lowest bit and the zeros below it.
+//! Laws about the numbers of ones in a number's lowest set bit and in the zeros below it.
 #![tactic(auto, using(arbitrary_laws::proofs::counts::LowestBitCounts::lowest_bit_counts))]
 
 ghost use Rattle.std.specs.Prelude.{◌<◌, IsTrue};

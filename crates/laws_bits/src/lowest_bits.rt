@@ -1,4 +1,5 @@
-//! Laws of the lowest bit that is one: `x & (x - 1)` clears it, which leaves 0 of a power of two, and `x & -x` leaves it alone.
+//! Laws about the lowest bit that is one. `x & (x - 1)` clears it, so a power of two becomes 0, and `x & -x`
+//! clears the others.
 #![tactic(auto, using(arbitrary_laws::proofs::places::LowestBit::lowest_bits))]
 
 ghost use Rattle.std.specs.Prelude.{◌≢◌, ◌<◌, pos, IsTrue};

@@ -1,4 +1,4 @@
-//! Laws of the masks that the lowest bit that is one gives, beside each other.
+//! Laws that relate the masks made from the lowest bit that is one.
 #![tactic(auto, using(arbitrary_laws::proofs::places::LowestMasks::lowest_masks))]
 
 ghost use Rattle.std.specs.Prelude.{IsTrue};

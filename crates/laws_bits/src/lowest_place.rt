@@ -1,4 +1,4 @@
-//! Laws of the lowest bit of a sum, a difference and a product.
+//! Laws about the lowest bit of a sum, a difference and a product.
 #![tactic(auto, using(arbitrary_laws::proofs::places::LowestPlace::lowest_place))]
 
 ghost use Rattle.std.specs.Prelude.{IsTrue};

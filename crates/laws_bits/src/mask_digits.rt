@@ -1,5 +1,4 @@
-//! Several flags under a written mask, tested at once and told by quotients and remainders.
-//! None has a proof of its own: the file names one set of laws.
+//! Several flags under a constant mask, tested at once, with contracts in quotients and remainders.
 #![tactic(auto, using(arbitrary_laws::proofs::masks::MaskDigits::mask_digits))]
 
 ghost use Rattle.std.specs.Prelude.{◌≡◌, ◌↔◌, ◌<◌, ◌+◌, ◌*◌, ◌/◌, ◌%◌, pos, unsigned_abs, IsTrue};

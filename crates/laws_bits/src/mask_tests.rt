@@ -1,4 +1,4 @@
-//! Two tests of bits that tell the same, each by the set `mask_tests` alone.
+//! Laws that two tests of bits are equal, each with the set `mask_tests` alone.
 #![tactic(auto, using(arbitrary_laws::proofs::bits::Rulesets::mask_tests))]
 
 ghost use Rattle.std.specs.Prelude.{◌≡◌, ◌↔◌, pos, IsTrue};

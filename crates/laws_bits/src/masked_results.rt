@@ -1,4 +1,5 @@
-//! Laws of sums, differences and products that wrap, under a mask of low bits, each by the set `masked_results` alone.
+//! Laws about sums, differences and products that wrap, under a mask of low bits, each with the set
+//! `masked_results` alone.
 #![tactic(auto, using(arbitrary_laws::proofs::masks::MaskedResults::masked_results))]
 
 ghost use Rattle.std.specs.Prelude.{IsTrue};

@@ -1,4 +1,4 @@
-//! Laws of numbers under a mask, at types of both signs.
+//! Laws about numbers under a mask, in types of both signs.
 #![tactic(auto, using(arbitrary_laws::proofs::bits::Rulesets::masks))]
 
 ghost use Rattle.std.specs.Prelude.{IsTrue};

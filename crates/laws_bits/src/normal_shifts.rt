@@ -1,4 +1,5 @@
-//! Laws of a number shifted by the zeros at its low end: an odd number is left, and shifted back it is the number again.
+//! Laws about a number shifted right by its trailing zeros: the result is odd, and shifting it back returns the
+//! number.
 #![tactic(auto, using(arbitrary_laws::proofs::counts::NormalShifts::normal_shifts))]
 
 ghost use Rattle.std.specs.Prelude.{◌≡◌, ◌≢◌, ◌%◌, pos, unsigned_abs, IsTrue};

@@ -1,4 +1,4 @@
-//! Laws of the numbers `1 << place` and `(1 << place) - 1`.
+//! Laws about the numbers `1 << place` and `(1 << place) - 1`.
 #![tactic(auto, using(arbitrary_laws::proofs::places::OneBits::one_bits))]
 
 ghost use Rattle.std.specs.Prelude.{◌≢◌, ◌<◌, IsTrue};

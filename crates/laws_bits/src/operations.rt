@@ -1,4 +1,5 @@
-//! Laws of several kinds of operations, under one line: rotations, counts, signs, flags, shifts, and sums and products with written numbers.
+//! Laws about several kinds of operations, with one set for the file: rotations, counts, signs, flags, shifts,
+//! and sums and products with constants.
 #![tactic(auto, using(arbitrary_laws::proofs::Sets::bits))]
 
 ghost use Rattle.std.specs.Prelude.{IsTrue};

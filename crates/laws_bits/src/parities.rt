@@ -1,4 +1,4 @@
-//! Laws of whether the number of ones is odd.
+//! Laws about the parity of the number of ones.
 #![tactic(auto, using(arbitrary_laws::proofs::counts::Population::parities))]
 
 ghost use Rattle.std.specs.Prelude.{◌<◌, IsTrue};

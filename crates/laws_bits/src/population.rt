@@ -1,4 +1,5 @@
-//! Laws of how many bits are one where two numbers meet under `&`, `|`, `^` and `!`, and in a sum of numbers that share no bit.
+//! Laws about the number of ones in `&`, `|`, `^` and `!` of two numbers, and in a sum of numbers that share no
+//! bit.
 #![tactic(auto, using(arbitrary_laws::proofs::counts::Population::population))]
 
 ghost use Rattle.std.specs.Prelude.{IsTrue};

@@ -1,4 +1,5 @@
-//! Laws of the zeros and ones at the ends of `&`, `|` and `^` of two numbers and of a shifted one, and of both ends of one number.
+//! Laws about the leading and trailing zeros and ones of `&`, `|` and `^` of two numbers and of a shifted
+//! number, and about both ends of one number.
 #![tactic(auto, using(arbitrary_laws::proofs::counts::RunsOfTwo::runs_of_two))]
 
 ghost use Rattle.std.specs.Prelude.{◌≢◌, pos, IsTrue};

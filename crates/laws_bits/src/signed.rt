@@ -1,4 +1,4 @@
-//! Laws at `i12`, and clauses of one's own in the words of the operations.
+//! Laws at `i12`, and clauses that use the words of the operations.
 #![tactic(auto, using(arbitrary_laws::proofs::bits::Rulesets::distribution))]
 
 ghost use Rattle.std.specs.Prelude.{◌≡◌, IsTrue, true};

@@ -1,4 +1,4 @@
-//! Laws of the zeros at the low end of a multiple of a power of two.
+//! Laws about the trailing zeros of a multiple of a power of two.
 #![tactic(auto, using(arbitrary_laws::proofs::counts::TrailingZeros::trailing_zeros))]
 
 ghost use Rattle.std.specs.Prelude.{◌≢◌, pos, IsTrue};

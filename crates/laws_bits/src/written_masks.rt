@@ -1,4 +1,4 @@
-//! Written numbers that follow each other under `&`, `|` and `^`, and the parts of a number under written masks.
+//! Laws about nested constants under `&`, `|` and `^`, and about the parts of a number under constant masks.
 #![tactic(auto, using(arbitrary_laws::proofs::masks::Rulesets::written_masks))]
 
 ghost use Rattle.std.specs.Prelude.{IsTrue};

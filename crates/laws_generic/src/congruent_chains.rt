@@ -1,4 +1,5 @@
-//! What steps that wrap, one after another, are congruent to where the type is not known, and where a product is among them.
+//! Laws about the congruence of several operations that wrap, one of which may be a product, in code that is
+//! generic over the type.
 #![tactic(auto, using(arbitrary_laws::proofs::sums::CongruentChains::congruent_chains))]
 
 ghost use Rattle.std.specs.Prelude.{◌+ℤ◌, ◌-ℤ◌, ◌*ℤ◌, pos};

@@ -1,4 +1,4 @@
-//! Laws of generic code that prove where a file opens a group of `GenericLaws`. A module a group.
+//! Laws of generic code that need a group of `GenericLaws`. There is one module for each group.
 
 pub mod bit_sums;
 pub mod complements;

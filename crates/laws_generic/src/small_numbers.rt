@@ -1,4 +1,4 @@
-//! Written numbers at any width of one storage that has room for them.
+//! Laws about constants at any width of one storage that has room for them.
 #![tactic(auto, using(arbitrary_laws::proofs::written::AnyWidth::any_width))]
 
 ghost use Rattle.std.specs.Prelude.{◌≡◌, ◌≤◌, ◌<◌, ◌+ℤ◌, ◌<ℤ◌, false, pos, IsTrue};

@@ -1,4 +1,4 @@
-//! A number in a type of as many bits or more, where the widths are not known.
+//! Laws about a number in a type of at least as many bits, where the widths are not known.
 #![tactic(auto, using(arbitrary_laws::proofs::numbers::WiderRanges::wider_ranges))]
 
 ghost use Rattle.std.specs.Prelude.{◌≡◌, ◌≤◌, ◌<◌, ◌+ℤ◌, false};

@@ -1,4 +1,5 @@
-//! The mean of two numbers by their bits, which no sum on the way overflows: rounded down and up, without a sign and with one.
+//! Laws about the mean of two numbers by their bits, where no sum overflows: rounded down and up, signed and
+//! unsigned.
 #![tactic(auto, using(arbitrary_laws::proofs::sums::Averages::averages))]
 
 ghost use Rattle.std.specs.Prelude.{◌*ℤ◌, ◌+ℤ◌, ◌≡◌, ◌≤ℤ◌, IsTrue, int_div, pos};

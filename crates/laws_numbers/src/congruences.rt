@@ -1,4 +1,4 @@
-//! Steps that wrap, one after another, and conversions between them: what comes out up to a multiple of the numbers of the type.
+//! Laws about the congruence of several operations that wrap, with conversions between them.
 #![tactic(auto, using(arbitrary_laws::proofs::numbers::Conversions::congruences))]
 
 ghost use Rattle.std.specs.Prelude.{◌+ℤ◌, ◌*ℤ◌, pos};

@@ -1,4 +1,5 @@
-//! How far two numbers with a sign are apart, read without one: it is exact also where the difference itself would be out of range.
+//! Laws about the distance of two signed numbers as an unsigned number: it is exact even if the signed
+//! difference is out of range.
 #![tactic(auto, using(arbitrary_laws::proofs::sums::Distances::distances))]
 
 ghost use Rattle.std.specs.Prelude.{◌≡◌, ◌-ℤ◌, ◌≤ℤ◌};

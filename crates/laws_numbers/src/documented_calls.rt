@@ -1,5 +1,5 @@
-//! What the Rust crate's documentation shows of its calls on written numbers, where the contracts alone don't tell it: the other
-//! examples prove with no set.
+//! Examples of the Rust crate's documentation on constants that the contracts alone do not prove. The other
+//! examples need no set.
 #![tactic(auto, using(arbitrary_laws::proofs::written::KnownCalls::known_calls))]
 
 ghost use Rattle.std.specs.Prelude.{IsTrue};

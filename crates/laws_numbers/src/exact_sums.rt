@@ -1,4 +1,5 @@
-//! Laws of sums and differences that wrap, of numbers that were converted or wrapped before: in range they are exact.
+//! Laws about sums and differences that wrap, of numbers that were converted or wrapped before. In range they
+//! are exact.
 #![tactic(auto, using(arbitrary_laws::proofs::sums::ExactSums::exact_sums))]
 
 ghost use Rattle.std.specs.Prelude.{◌≡◌, ◌+ℤ◌, ◌-ℤ◌, ◌≤ℤ◌, pos, IsTrue};

@@ -1,4 +1,5 @@
-//! Laws of bits of numbers that are extended: at the wider type, and at the storage and wider primitives, they are the same.
+//! Laws that operations on the bits of an extended number have the same result at the wider type, at the storage
+//! and at wider primitives.
 #![tactic(auto, using(arbitrary_laws::proofs::signs::Extensions::extensions))]
 
 ghost use Rattle.std.specs.Prelude.{◌<◌, IsTrue};

@@ -1,4 +1,4 @@
-//! What the calls give on numbers that are written out.
+//! Laws about the results of calls on constants.
 #![tactic(auto, using(arbitrary_laws::proofs::written::Rulesets::known_numbers))]
 
 ghost use Rattle.std.specs.Prelude.{IsTrue};

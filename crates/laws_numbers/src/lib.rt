@@ -1,5 +1,5 @@
-//! Laws of conversions, quotients, written numbers and bytes: each function compares the two sides, and ensures that they are equal. None has
-//! a proof of its own: each file names one set of laws.
+//! Laws about conversions, quotients, constants and bytes. Each function compares two sides, and ensures that
+//! they are equal. None has a proof of its own: each file names one set of laws.
 #![tactic(auto)]
 
 pub mod averages;

@@ -1,4 +1,5 @@
-//! Laws of quotients beside their dividends, beside other quotients, and of a product that is divided again.
+//! Laws that compare quotients with their dividends and with other quotients, and laws about a product that is
+//! divided.
 #![tactic(auto, using(arbitrary_laws::proofs::numbers::QuotientOrder::quotient_order))]
 
 ghost use Rattle.std.specs.Prelude.{◌≢◌, ◌<ℤ◌, ◌≤ℤ◌, ◌≡◌, pos, IsTrue};

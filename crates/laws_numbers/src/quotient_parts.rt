@@ -1,4 +1,5 @@
-//! Laws of quotients whose dividend is a sum, a product, a quotient or a negated number, of those that are 0, and of two in order.
+//! Laws about quotients of a sum, a product, a quotient or a negated number, about quotients that are 0, and
+//! about two quotients in order.
 #![tactic(auto, using(arbitrary_laws::proofs::numbers::QuotientParts::quotient_parts))]
 
 ghost use Rattle.std.specs.Prelude.{◌+ℤ◌, ◌-ℤ◌, ◌<ℤ◌, ◌≤ℤ◌, IsTrue, pos};

@@ -1,4 +1,4 @@
-//! A number less its quotient times the divisor: the remainder, and where it lies.
+//! Laws about a number minus its quotient times the divisor: it is the remainder, and its range is known.
 #![tactic(auto, using(arbitrary_laws::proofs::numbers::Remainders::remainders))]
 
 ghost use Rattle.std.specs.Prelude.{◌≡◌, ◌<ℤ◌, IsTrue, int_rem, neg_ℤ, pos};

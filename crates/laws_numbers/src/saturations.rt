@@ -1,4 +1,4 @@
-//! Laws of differences that clamp, one after another, and what clamps by tests.
+//! Laws about nested differences that clamp, and about clamping with tests.
 #![tactic(auto, using(arbitrary_laws::proofs::sums::Saturations::saturations))]
 
 ghost use Rattle.std.specs.Prelude.{◌≡◌, true, IsTrue};

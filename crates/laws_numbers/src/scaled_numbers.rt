@@ -1,4 +1,4 @@
-//! Laws of numbers that are multiplied, and divided by no less: percents and other parts of a whole.
+//! Laws about numbers that are multiplied, and then divided by at least as much, such as percentages.
 #![tactic(auto, using(arbitrary_laws::proofs::numbers::QuotientOrder::scaled_numbers))]
 
 ghost use Rattle.std.specs.Prelude.{◌<ℤ◌, ◌≤ℤ◌, pos};

@@ -1,4 +1,5 @@
-//! Serial numbers, which are counted round: one is ahead of another by the difference that wraps, and never both of each other.
+//! Laws about serial numbers, which wrap: the difference decides which of two is ahead, and never are both ahead
+//! of each other.
 #![tactic(auto, using(arbitrary_laws::proofs::sums::SerialNumbers::serial_numbers))]
 
 ghost use Rattle.std.specs.Prelude.{◌<ℤ◌, pos, IsTrue};

@@ -1,4 +1,4 @@
-//! Laws of a number with its bytes in the other order, beside bits, counts and reversals.
+//! Laws about a number with its bytes in reverse order: its bits, its counts and its reversal.
 #![tactic(auto, using(arbitrary_laws::proofs::bytes::SwappedBytes::swapped_words))]
 
 ghost use Rattle.std.specs.Prelude.{IsTrue};

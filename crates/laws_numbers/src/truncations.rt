@@ -1,4 +1,4 @@
-//! Laws of a result that is converted to a narrower type: the operation may come before the conversion or behind it.
+//! Laws about a result that is converted to a narrower type: you may convert before or after the operation.
 #![tactic(auto, using(arbitrary_laws::proofs::shifts::Truncations::truncations))]
 
 ghost use Rattle.std.specs.Prelude.{IsTrue};

@@ -1,4 +1,5 @@
-//! Laws of a number coded with its sign in the lowest bit (zigzag): small numbers of either sign have small codes.
+//! Laws about zigzag codes, which store the sign in the lowest bit, so that small numbers of either sign have
+//! small codes.
 #![tactic(auto, using(arbitrary_laws::proofs::signs::ZigZag::zigzag))]
 
 ghost use Rattle.std.specs.Prelude.{◌≡◌, ◌-ℤ◌, ◌*ℤ◌, ◌≤ℤ◌, ◌<ℤ◌, pos, neg_ℤ};

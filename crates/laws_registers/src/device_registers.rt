@@ -1,4 +1,5 @@
-//! Registers of devices, by written masks and shifts: a UART, PCI, timers, page tables. The contracts are in quotients and remainders.
+//! Registers of devices with constant masks and shifts: a UART, PCI, timers, page tables. The contracts are in
+//! quotients and remainders.
 #![tactic(auto, using(arbitrary_laws::proofs::Sets::words))]
 
 ghost use Rattle.std.specs.Prelude.{◌≡◌, ◌↔◌, ◌/◌, ◌%◌, ◌*◌, ◌+◌, ◌<◌, ◌≤◌, IsTrue};

@@ -1,4 +1,4 @@
-//! Instructions of RISC-V and ARM, put together and taken apart by written masks and shifts.
+//! Instructions of RISC-V and ARM, encoded and decoded with constant masks and shifts.
 #![tactic(auto, using(arbitrary_laws::proofs::Sets::words))]
 
 ghost use Rattle.std.specs.Prelude.{◌≡◌, ◌/◌, ◌%◌, ◌*◌, ◌+◌, ◌<◌};

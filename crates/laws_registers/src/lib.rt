@@ -1,5 +1,5 @@
-//! Register words under written masks, with contracts in quotients and remainders. None has a proof of its own: each file names one public
-//! set of laws, `words` or `overflow_flags`.
+//! Register words under constant masks, with contracts in quotients and remainders. None has a proof of its own:
+//! each file names one public set of laws, `words` or `overflow_flags`.
 #![tactic(auto)]
 
 pub mod device_registers;

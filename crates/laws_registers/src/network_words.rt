@@ -1,4 +1,4 @@
-//! Words of network headers, by written masks and shifts.
+//! Words of network headers with constant masks and shifts.
 #![tactic(auto, using(arbitrary_laws::proofs::Sets::words))]
 
 ghost use Rattle.std.specs.Prelude.{◌≡◌, ◌↔◌, ◌/◌, ◌%◌, ◌*◌, ◌+◌, ◌<◌, IsTrue};

@@ -1,4 +1,4 @@
-//! An overflow and a page crossing by bits.
+//! An overflow and a page crossing, computed from bits.
 #![tactic(auto, using(arbitrary_laws::proofs::Sets::overflow_flags))]
 
 ghost use Rattle.std.specs.Prelude.{◌≡◌, ◌≢◌, ◌↔◌, ◌/◌, ◌%◌, ◌+◌, IsTrue};

@@ -1,4 +1,4 @@
-//! Words of a `UInt` under written masks and shifts. The contracts are in quotients and remainders.
+//! Words of a `UInt` with constant masks and shifts. The contracts are in quotients and remainders.
 #![tactic(auto, using(arbitrary_laws::proofs::Sets::words))]
 
 ghost use Rattle.std.specs.Prelude.{◌≡◌, ◌↔◌, ◌/◌, ◌%◌, ◌*◌, ◌+◌, ◌+ℤ◌, ◌*ℤ◌, ◌<ℤ◌, pos, int_rem, int_div, unsigned_abs, IsTrue};

@@ -1,4 +1,5 @@
-//! Laws of a rotation to the right by an amount that varies, as one to the left by the rest of the width.
+//! Laws about a rotation to the right by a variable amount, as a rotation to the left by the width minus the
+//! amount.
 #![tactic(auto, using(arbitrary_laws::proofs::rotations::BackRotations::back_rotations))]
 
 ghost use Rattle.std.specs.Prelude.{◌≤◌, IsTrue};

@@ -1,4 +1,5 @@
-//! A number under `^` with itself shifted: Gray codes there and back, and steps of generators that undo themselves.
+//! Laws about `^` of a number and itself shifted: Gray codes there and back, and steps of generators that undo
+//! themselves.
 #![tactic(auto, using(arbitrary_laws::proofs::shifts::Rulesets::shifted_xors))]
 
 ghost use Rattle.std.specs.Prelude.{IsTrue};

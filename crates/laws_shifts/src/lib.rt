@@ -1,5 +1,6 @@
-//! Laws of shifts, rotations and reversals, also by amounts that vary, most at `u12` and `i12`: each function tells whether the two sides are
-//! equal, and ensures that they are. None has a proof of its own: each file or function names one set of laws, and one function two.
+//! Laws about shifts, rotations and reversals, also by variable amounts, most at `u12` and `i12`. Each function
+//! compares two sides, and ensures that they are equal. None has a proof of its own: each file or function names
+//! one set of laws, and one function names two.
 #![tactic(auto)]
 
 pub mod back_rotations;

@@ -1,4 +1,5 @@
-//! Laws of bits that shifts, rotations, written masks and conversions move, each by the set `moved_bits` alone, at several widths.
+//! Laws about bits that shifts, rotations, constant masks and conversions move, each with the set `moved_bits`
+//! alone, at several widths.
 #![tactic(auto, using(arbitrary_laws::proofs::places::MovedBits::moved_bits))]
 
 ghost use Rattle.std.specs.Prelude.{IsTrue};

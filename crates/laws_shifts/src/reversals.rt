@@ -1,4 +1,4 @@
-//! Laws of the reversal, and a rotation as two shifts.
+//! Laws about the reversal, and about a rotation as two shifts.
 #![tactic(auto, using(arbitrary_laws::proofs::rotations::Rulesets::reversals))]
 
 ghost use Rattle.std.specs.Prelude.{IsTrue, ◌<◌};

@@ -1,4 +1,4 @@
-//! Laws of rotations to the right, and of any two rotations in either order, by amounts that may vary.
+//! Laws about rotations to the right, and about two rotations in either order, by constant and variable amounts.
 #![tactic(auto, using(arbitrary_laws::proofs::rotations::RightRotations::right_rotations))]
 
 ghost use Rattle.std.specs.Prelude.{IsTrue};

@@ -1,4 +1,4 @@
-//! Laws of rotations.
+//! Laws about rotations.
 #![tactic(auto, using(arbitrary_laws::proofs::rotations::Rulesets::rotations))]
 
 ghost use Rattle.std.specs.Prelude.{IsTrue};

@@ -1,4 +1,4 @@
-//! Laws of shifts, alone and over bits and sums.
+//! Laws about shifts, alone and of bits and sums.
 #![tactic(auto, using(arbitrary_laws::proofs::shifts::Rulesets::shifts))]
 
 ghost use Rattle.std.specs.Prelude.{IsTrue, ◌≤ℤ◌, ◌<ℤ◌, negsuc, pos};

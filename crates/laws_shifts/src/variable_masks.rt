@@ -1,4 +1,4 @@
-//! Laws of the mask of the k lowest bits, where k varies, and of what it leaves of a number and clears.
+//! Laws about the mask of the k lowest bits, where k is variable: what it keeps of a number, and what it clears.
 #![tactic(auto, using(arbitrary_laws::proofs::masks::VariableMasks::variable_masks))]
 
 ghost use Rattle.std.specs.Prelude.{◌<◌, IsTrue};

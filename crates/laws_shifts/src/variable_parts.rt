@@ -1,4 +1,5 @@
-//! Laws of the k lowest bits of a number, where k varies, and of the bits above them: as exact sums and differences, and in order.
+//! Laws about the k lowest bits of a number and the bits above them, where k is variable: as exact sums and
+//! differences, and in order.
 #![tactic(auto, using(arbitrary_laws::proofs::masks::VariableMasks::variable_parts))]
 
 ghost use Rattle.std.specs.Prelude.{◌<◌, IsTrue};

@@ -1,4 +1,4 @@
-//! Laws of left shifts by an amount that varies, beside products and negation, and of bits at places that vary.
+//! Laws about left shifts by a variable amount, with products and negation, and about bits at variable places.
 #![tactic(auto, using(arbitrary_laws::proofs::shifts::MovedProducts::moved_products))]
 
 ghost use Rattle.std.specs.Prelude.{◌<◌, ◌≢◌, IsTrue};

@@ -1,4 +1,4 @@
-//! Laws of `|` and `^` beside the sum, which is no less.
+//! Laws that `|` and `^` are at most the sum.
 #![tactic(auto, using(arbitrary_laws::proofs::bits::BitSums::at_most_sums))]
 
 ghost use Rattle.std.specs.Prelude.{◌+ℤ◌, ◌≤ℤ◌, pos};

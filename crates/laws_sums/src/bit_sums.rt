@@ -1,4 +1,4 @@
-//! Laws of bits beside exact sums and differences, and beside what clamps.
+//! Laws that relate bits to exact sums and differences, and to results that clamp.
 #![tactic(auto, using(arbitrary_laws::proofs::bits::BitSums::bit_sums))]
 
 ghost use Rattle.std.specs.Prelude.{IsTrue};

@@ -1,5 +1,5 @@
-//! Laws of an operand that both sides of a test have, and that may be left out: each by the set `cancellations` alone. `order`
-//! has the laws of `<=` and its kin.
+//! Laws about an operand that occurs on both sides of a test and can be left out, each with the set
+//! `cancellations` alone. `order` has the laws of the comparisons.
 #![tactic(auto, using(arbitrary_laws::proofs::orders::Rulesets::cancellations))]
 
 ghost use Rattle.std.specs.Prelude.{IsTrue};

@@ -1,4 +1,4 @@
-//! Laws of carries and borrows.
+//! Laws about carries and borrows.
 #![tactic(auto, using(arbitrary_laws::proofs::sums::Rulesets::carries))]
 
 ghost use Rattle.std.specs.Prelude.{IsTrue};

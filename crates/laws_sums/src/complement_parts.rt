@@ -1,4 +1,4 @@
-//! Laws of the complement of `^` and of `|` beside sums, and of `^` without carries.
+//! Laws about the complements of `^` and `|` in sums, and about `^` without carries.
 #![tactic(auto, using(arbitrary_laws::proofs::bits::ComplementParts::complement_parts))]
 
 ghost use Rattle.std.specs.Prelude.{IsTrue};

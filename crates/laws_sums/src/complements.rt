@@ -1,4 +1,4 @@
-//! Laws of the complement beside sums and differences.
+//! Laws about the complement in sums and differences.
 #![tactic(auto, using(arbitrary_laws::proofs::sums::Rulesets::complements))]
 
 ghost use Rattle.std.specs.Prelude.{IsTrue};

@@ -1,4 +1,4 @@
-//! Powers, quotients and conversions at their ends.
+//! Laws about powers, quotients and conversions at their ends.
 #![tactic(auto, using(arbitrary_laws::proofs::sums::Rulesets::exact))]
 
 ghost use Rattle.std.specs.Prelude.{IsTrue};

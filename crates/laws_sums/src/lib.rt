@@ -1,5 +1,6 @@
-//! Laws of sums, differences and products that wrap, beside bits, signs and orders, most at `u12` and `i12`: each function tells whether the
-//! two sides are equal, and ensures that they are. None has a proof of its own: each file or function names one set of laws.
+//! Laws about sums, differences and products that wrap, and their bits, signs and orders, most at `u12` and
+//! `i12`. Each function compares two sides, and ensures that they are equal. None has a proof of its own: each
+//! file or function names one set of laws.
 #![tactic(auto)]
 
 pub mod at_most_sums;

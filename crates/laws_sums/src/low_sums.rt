@@ -1,4 +1,5 @@
-//! Laws of a number below the place to which another one is moved: `|` and `^` of both are their sum, exact and wrapped.
+//! Laws about a shifted number and one below its lowest place: `|` and `^` of both are their sum, exact and
+//! wrapped.
 #![tactic(auto, using(arbitrary_laws::proofs::sums::LowSums::low_sums))]
 
 ghost use Rattle.std.specs.Prelude.{◌<ℤ◌, ◌≤ℤ◌, IsTrue, pos};

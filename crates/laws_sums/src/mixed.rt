@@ -1,4 +1,4 @@
-//! Laws of bits beside sums.
+//! Laws about bits and sums.
 #![tactic(auto, using(arbitrary_laws::proofs::sums::Rulesets::mixed))]
 
 ghost use Rattle.std.specs.Prelude.{IsTrue};

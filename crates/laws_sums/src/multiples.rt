@@ -1,4 +1,4 @@
-//! Multiples of one number by shifts, sums and written factors, wrapped.
+//! Laws about multiples of one number by shifts, sums and constant factors, which wrap.
 #![tactic(auto, using(arbitrary_laws::proofs::sums::Rulesets::multiples))]
 
 ghost use Rattle.std.specs.Prelude.{IsTrue};

@@ -1,4 +1,4 @@
-//! Laws of differences of `&`, `|` and `^` that give a negated one.
+//! Laws about differences of `&`, `|` and `^` whose result is negated.
 #![tactic(auto, using(arbitrary_laws::proofs::bits::NegatedParts::negated_parts))]
 
 ghost use Rattle.std.specs.Prelude.{IsTrue};

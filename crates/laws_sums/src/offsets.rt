@@ -1,4 +1,4 @@
-//! A number moved by written numbers, up and down, round its range.
+//! Laws about a number plus and minus constants, wrapped.
 #![tactic(auto, using(arbitrary_laws::proofs::sums::Rulesets::offsets))]
 
 ghost use Rattle.std.specs.Prelude.{IsTrue};

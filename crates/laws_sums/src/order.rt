@@ -1,5 +1,5 @@
-//! Laws of the order beside bits, shifts and signs, each by the set `order` alone. `bits` and `shifts` have laws of these with
-//! no order, and `cancellations` those of `==`.
+//! Laws about the order with bits, shifts and signs, each with the set `order` alone. `bits` and `shifts` of
+//! other crates have laws of these without an order, and `cancellations` has those of `==`.
 #![tactic(auto, using(arbitrary_laws::proofs::orders::Rulesets::order))]
 
 ghost use Rattle.std.specs.Prelude.{IsTrue, ◌≤◌, ◌<◌};

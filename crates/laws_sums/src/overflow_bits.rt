@@ -1,4 +1,4 @@
-//! Laws of signs: an overflow told by those of the operands and of what wraps.
+//! Laws about an overflow, computed from the signs of the operands and of the wrapped result.
 #![tactic(auto, using(arbitrary_laws::proofs::signs::OverflowBits::overflow_bits))]
 
 ghost use Rattle.std.specs.Prelude.{◌↔◌, ◌⊎◌, ◌<ℤ◌, ◌+ℤ◌, ◌-ℤ◌, pos, neg_ℤ, IsTrue};

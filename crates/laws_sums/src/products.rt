@@ -1,4 +1,4 @@
-//! Laws of products that wrap.
+//! Laws about products that wrap.
 #![tactic(auto, using(arbitrary_laws::proofs::sums::Rulesets::products))]
 
 ghost use Rattle.std.specs.Prelude.{IsTrue};

@@ -1,4 +1,4 @@
-//! Laws of sums and differences that wrap.
+//! Laws about sums and differences that wrap.
 #![tactic(auto, using(arbitrary_laws::proofs::sums::Rulesets::ring))]
 
 ghost use Rattle.std.specs.Prelude.{IsTrue};

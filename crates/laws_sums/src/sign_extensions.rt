@@ -1,4 +1,4 @@
-//! Laws of a number shifted to the left and back, beside its conversion to a narrower type and back.
+//! Laws that a number shifted left and back equals its conversion to a narrower type and back.
 #![tactic(auto, using(arbitrary_laws::proofs::signs::SignExtensions::sign_extensions))]
 
 ghost use Rattle.std.specs.Prelude.{IsTrue};

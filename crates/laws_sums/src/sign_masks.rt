@@ -1,4 +1,5 @@
-//! Laws of a number under a spread sign, `x >> (BITS - 1)`, and of what it gives: the absolute, the lesser and the greater of two, one of 0 and -1.
+//! Laws about a number under its sign mask `x >> (BITS - 1)`: the absolute value, the lesser and the greater of
+//! two, and a choice of 0 or -1.
 #![tactic(auto, using(arbitrary_laws::proofs::signs::SignMasks::sign_masks))]
 
 ghost use Rattle.std.specs.Prelude.{IsTrue};

@@ -1,4 +1,5 @@
-//! Laws of signs: the order of two numbers, whether they are equal, and an overflow, told by the sign of what bits make of them.
+//! Laws about the sign of an expression on bits: it decides the order of two numbers, their equality, and an
+//! overflow.
 #![tactic(auto, using(arbitrary_laws::proofs::signs::SignTests::sign_tests))]
 
 ghost use Rattle.std.specs.Prelude.{◌≡◌, ◌≤ℤ◌, ◌<ℤ◌, ◌+ℤ◌, pos, IsTrue};

@@ -1,4 +1,4 @@
-//! Laws of the order of a signed number and its `&` or `|` with another.
+//! Laws about the order of a signed number and its `&` or `|` with another.
 #![tactic(auto, using(arbitrary_laws::proofs::orders::Rulesets::signed_order))]
 
 ghost use Rattle.std.specs.Prelude.{IsTrue};

@@ -1,4 +1,4 @@
-//! Laws of the sign spread over all bits, `x >> (BITS - 1)`, and of a number under it.
+//! Laws about the sign mask `x >> (BITS - 1)`, and about a number under it.
 #![tactic(auto, using(arbitrary_laws::proofs::signs::SignWord::signs))]
 
 ghost use Rattle.std.specs.Prelude.{IsTrue};

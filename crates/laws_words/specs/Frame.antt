@@ -1,4 +1,4 @@
--- What the words of a record say of a struct of seven fields.
+-- The fields of a word as the seven fields of a struct.
 use Rattle.std.specs.Prelude.{ℕ, ℤ, true, false, pos}
 use Rattle.bit_fields.specs.BitField.{HasNumber}
 use Rattle.laws_words.specs.declared.fields.Frame.{Frame}

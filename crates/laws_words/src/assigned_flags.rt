@@ -1,4 +1,5 @@
-//! Flags of a word of 24 bits that are set and cleared by `|=` and `&=` behind `&mut self`: under a written mask, and by their place.
+//! Flags of a word of 24 bits that `|=` and `&=` set and clear behind `&mut self`, with a constant mask and by
+//! their place.
 #![tactic(auto, using(arbitrary_laws::proofs::masks::Rulesets::flags))]
 
 ghost use Rattle.std.specs.Prelude.{◌≡◌, ◌/◌, ◌%◌, ◌^◌, ◌<ℤ◌, pos, unsigned_abs};

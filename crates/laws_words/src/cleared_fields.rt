@@ -1,5 +1,4 @@
-//! Fields that are written into a number of these types in place. The other bits stay.
-//! None has a proof of its own: the file names one set of laws.
+//! Fields that are written in place into a number of these types. The other bits do not change.
 #![tactic(auto, using(arbitrary_laws::proofs::fields::Rulesets::cleared_fields))]
 
 ghost use Rattle.std.specs.Prelude.{◌≡◌, ◌/◌, ◌%◌, ◌*◌, ◌+ℤ◌, ◌*ℤ◌, pos, unsigned_abs};

@@ -1,5 +1,5 @@
-//! Several fields that are written into a word of a primitive at once, also beside a written number. Each is read back, and the others stay.
-//! None has a proof of its own: the file names one set of laws.
+//! Several fields that are written into a primitive at once, also with a constant. Each is read back, and the
+//! other bits do not change.
 #![tactic(auto, using(arbitrary_laws::proofs::fields::FieldReads::field_reads))]
 
 ghost use Rattle.std.specs.Prelude.{◌≡◌, ◌/◌, ◌%◌, pos};

@@ -1,5 +1,4 @@
-//! Flags that are set and cleared by a mask that is written out.
-//! None has a proof of its own: the file names one set of laws.
+//! Flags that a constant mask sets and clears.
 #![tactic(auto, using(arbitrary_laws::proofs::masks::Rulesets::flags))]
 
 ghost use Rattle.std.specs.Prelude.{◌≡◌, ◌/◌, ◌%◌, ◌+ℤ◌, ◌-ℤ◌, pos, unsigned_abs, IsTrue};

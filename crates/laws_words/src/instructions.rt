@@ -1,5 +1,4 @@
-//! Words of instructions whose written number has ones on both sides of a field.
-//! None has a proof of its own: the file names one set of laws.
+//! Words of instructions whose constant has ones on both sides of a field.
 #![tactic(auto, using(arbitrary_laws::proofs::fields::FieldInNumber::fields_in_numbers))]
 
 ghost use Rattle.std.specs.Prelude.{◌≡◌, ◌+ℤ◌, ◌*ℤ◌, pos, IsTrue};

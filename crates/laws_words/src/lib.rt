@@ -1,5 +1,5 @@
-//! Words of fields and flags, each function as programs have it: put together, written into, read back and tested. None has a proof of its
-//! own: the contracts of the calls carry them, with one set of laws at most.
+//! Words of fields and flags as programs use them: joined, written in place, read back and tested. None has a
+//! proof of its own: the contracts of the calls are enough, with at most one set of laws.
 #![tactic(auto)]
 
 pub mod assigned_flags;

@@ -1,5 +1,4 @@
-//! The low bits of a primitive under a mask whose length varies, as a reader of fields of any width takes them.
-//! None has a proof of its own: the file names one set of laws.
+//! The low bits of a primitive under a mask of variable length, as a reader of fields of any width takes them.
 #![tactic(auto, using(arbitrary_laws::proofs::masks::LowMask::low_masks))]
 
 ghost use Rattle.std.specs.Prelude.{◌≡◌, ◌/◌, ◌%◌, ◌^◌, ◌<◌, unsigned_abs, IsTrue};

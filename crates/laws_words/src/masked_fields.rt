@@ -1,5 +1,4 @@
-//! What a written mask lets through of a byte, moved up and joined: colours of fewer bits, instructions, texts.
-//! None has a proof of its own: the file names one set of laws.
+//! The bits of a byte under a constant mask, shifted and joined: colours of fewer bits, instructions, text.
 #![tactic(auto, using(arbitrary_laws::proofs::fields::MaskedField::masked_fields))]
 
 ghost use Rattle.std.specs.Prelude.{◌≡◌, ◌+◌, ◌*◌, ◌/◌, ◌%◌, pos, ◌+ℤ◌, ◌*ℤ◌};

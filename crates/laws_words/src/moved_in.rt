@@ -1,5 +1,5 @@
-//! Numbers that are moved up, also past the end of their type, and what comes in below: shift registers, writers of bits.
-//! None has a proof of its own: the file names one set of laws.
+//! Numbers that are shifted left, also past the end of their type, with new bits at the low end: shift
+//! registers, writers of bits.
 #![tactic(auto, using(arbitrary_laws::proofs::fields::Rulesets::moved_in))]
 
 ghost use Rattle.std.specs.Prelude.{◌≡◌, ◌/◌, ◌%◌, ◌+ℤ◌, ◌*ℤ◌, pos, unsigned_abs, IsTrue, if◌then◌else◌};

@@ -1,4 +1,4 @@
-//! Words put together from fields, and taken apart again: nibbles, colours, flags.
+//! Words joined from fields, and split again: nibbles, colours, flags.
 
 ghost use Rattle.std.specs.Prelude.{◌≡◌, ◌↔◌, ◌/◌, ◌+ℤ◌, ◌-ℤ◌, ◌*ℤ◌, ◌≤ℤ◌, ◌<ℤ◌, pos, int_div, IsTrue};
 

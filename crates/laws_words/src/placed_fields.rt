@@ -1,5 +1,5 @@
-//! Fields of a word at a place that varies, as a register with two bits for each pin has them: written, cleared, read back, and the others,
-//! which stay. None has a proof of its own: the file names one set of laws, and a function on the others its own.
+//! Fields of a word at a variable place, as in a register with two bits for each pin: written, cleared and read
+//! back. The other fields do not change, and a function about them names a set of its own.
 #![tactic(auto, using(arbitrary_laws::proofs::fields::PlacedField::placed_fields))]
 
 ghost use Rattle.std.specs.Prelude.{◌≡◌, ◌≢◌, ◌+◌, ◌*◌, ◌/◌, ◌%◌, ◌^◌, ◌≤◌, ◌<◌, pos, unsigned_abs, IsTrue};

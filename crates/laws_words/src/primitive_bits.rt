@@ -1,5 +1,4 @@
 //! One bit of a primitive by its place: the pins of a port, the bits of a word.
-//! None has a proof of its own: the file names one set of laws.
 #![tactic(auto, using(arbitrary_laws::proofs::places::Rulesets::primitive_bits))]
 
 ghost use Rattle.std.specs.Prelude.{◌≡◌, ◌≢◌, ◌↔◌, ◌/◌, ◌%◌, ◌^◌, ◌-◌, ◌<◌, ℕ, unsigned_abs, IsTrue};

@@ -1,5 +1,4 @@
-//! Flags of a primitive under a written mask: set, cleared, turned over and tested. The fields beside them stay.
-//! None has a proof of its own: the file names one set of laws.
+//! Flags of a primitive under a constant mask: set, cleared, toggled and tested. The other fields do not change.
 #![tactic(auto, using(arbitrary_laws::proofs::fields::Rulesets::primitive_flags))]
 
 ghost use Rattle.std.specs.Prelude.{◌≡◌, ◌↔◌, ◌/◌, ◌%◌, ◌+◌, IsTrue};

@@ -1,4 +1,4 @@
-//! One of three fields that were put together by `|`, read back in the same function.
+//! One of three fields that were joined by `|`, read back in the same function.
 #![tactic(auto, using(arbitrary_laws::proofs::fields::Rulesets::read_back))]
 
 ghost use Rattle.std.specs.Prelude.{IsTrue};

@@ -1,5 +1,4 @@
-//! Words of registers: fields that are put together, written in place, moved and read back, and flags among them.
-//! None has a proof of its own: the file names one set of laws.
+//! Words of registers: fields that are joined, written in place, shifted and read back, and flags among them.
 #![tactic(auto, using(arbitrary_laws::proofs::fields::Rulesets::registers))]
 
 ghost use Rattle.std.specs.Prelude.{◌≡◌, ◌/◌, ◌%◌, ◌*◌, ◌+◌, pos, unsigned_abs, IsTrue};

@@ -1,5 +1,4 @@
-//! Fields put together by `|`.
-//! None has a proof of its own: the file names one set of laws.
+//! Fields joined by `|`.
 #![tactic(auto, using(arbitrary_laws::proofs::fields::Rulesets::fields))]
 
 ghost use Rattle.std.specs.Prelude.{◌≡◌, ◌*◌, ◌+◌, ◌/◌, ◌+ℤ◌, ◌*ℤ◌, pos};

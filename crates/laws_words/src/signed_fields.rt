@@ -1,5 +1,4 @@
-//! Fields with a sign in a word that is put together by `|`, written and read back, and read and written again.
-//! None has a proof of its own: the file names one set of laws.
+//! Signed fields in a word that is joined by `|`: written and read back, and read and written again.
 #![tactic(auto, using(arbitrary_laws::proofs::fields::SignedField::signed_fields))]
 
 ghost use Rattle.std.specs.Prelude.{◌≡◌, IsTrue};

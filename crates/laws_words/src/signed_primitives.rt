@@ -1,5 +1,4 @@
-//! Primitives with a sign beside numbers that wrap: how far two moments are apart, and steps by an `i8` or an `i16`.
-//! None has a proof of its own: the file names one set of laws.
+//! Signed primitives with numbers that wrap: the distance of two moments, and steps by an `i8` or an `i16`.
 #![tactic(auto, using(arbitrary_laws::proofs::numbers::Conversions::conversions))]
 
 ghost use Rattle.std.specs.Prelude.{◌+ℤ◌, ◌-ℤ◌, ◌*ℤ◌, pos};

@@ -1,5 +1,4 @@
-//! Signed numbers in words of a primitive: samples under a mask, jumps by an offset, and fields with a sign.
-//! None has a proof of its own: the file names the sets on words as one.
+//! Signed numbers in words of a primitive: samples under a mask, jumps by an offset, and signed fields.
 #![tactic(auto, using(arbitrary_laws::proofs::Sets::fields))]
 
 ghost use Rattle.std.specs.Prelude.{◌≡◌, ◌*◌, ◌+ℤ◌, ◌-ℤ◌, ◌*ℤ◌, pos, false};

@@ -1,5 +1,4 @@
-//! Flags that a test sets in a word, one after another, above a field and below it.
-//! None has a proof of its own: the file names the sets on words as one.
+//! Flags that tests set in a word, one after another, above a field and below it.
 #![tactic(auto, using(arbitrary_laws::proofs::Sets::fields))]
 
 ghost use Rattle.std.specs.Prelude.{◌≡◌, ◌+ℤ◌, ◌*ℤ◌, ◌/◌, pos, if◌then◌else◌};

@@ -1,5 +1,4 @@
 //! Words of fields, each made in one line.
-//! None has a proof of its own: the file names the sets on words as one.
 #![tactic(auto, using(arbitrary_laws::proofs::Sets::fields))]
 
 ghost use Rattle.std.specs.Prelude.{◌≡◌, ◌*◌, ◌/◌, ◌%◌, ◌+◌, ◌+ℤ◌, ◌*ℤ◌, pos, unsigned_abs, if◌then◌else◌, IsTrue};

@@ -1,5 +1,4 @@
-//! Fields with a sign, written into a register whose other bits stay, and read back.
-//! None has a proof of its own: the file names the sets on words as one.
+//! Signed fields, written into a register whose other bits do not change, and read back.
 #![tactic(auto, using(arbitrary_laws::proofs::Sets::fields))]
 
 ghost use Rattle.std.specs.Prelude.{◌≡◌, ◌/◌, ◌%◌, pos, IsTrue};

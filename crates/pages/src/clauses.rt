@@ -1,4 +1,4 @@
-//! Clauses about these integers: in a clause a value is its number.
+//! Clauses about these integers. In a clause a value is its number.
 
 ghost use Rattle.std.specs.Prelude.{◌≡◌, ◌+ℤ◌, ◌<ℤ◌, ◌%◌, pos, unsigned_abs, slice_get, slice_set, Some};
 ghost use Rattle.arbitrary_int.specs.Residue.{Congruent};

@@ -1,4 +1,4 @@
-//! Constants: the language's own have primitive types; a function or a trait's constant makes the number.
+//! Constants. A `const` item has a primitive type, from which a function or a trait's constant makes the number.
 
 ghost use Rattle.std.specs.Prelude.{◌≡◌, pos};
 ghost use Rattle.arbitrary_int.specs.Range.{hi};

@@ -1,4 +1,4 @@
-//! `Copy` types with such integers.
+//! `Copy` types that contain such integers.
 
 use arbitrary_int::prelude::*;
 

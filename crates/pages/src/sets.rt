@@ -1,4 +1,4 @@
-//! Two facts of each public set that is about numbers, as docs/SETS.md has them. None has a proof of its own.
+//! Facts that the public sets prove, as docs/SETS.md lists them.
 
 ghost use Rattle.std.specs.Prelude.{◌≡◌, ◌<◌, ◌≤ℤ◌, pos, IsTrue};
 ghost use Rattle.arbitrary_int.specs.Residue.{Congruent};

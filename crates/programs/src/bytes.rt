@@ -1,4 +1,4 @@
-//! Bytes of a number, in either order.
+//! The bytes of a number, in either order.
 
 ghost use Rattle.std.specs.Prelude.{◌≡◌, ◌/◌, ◌%◌, ◌*◌, ◌+◌, ◌<◌, ◌<ℤ◌, pos, false, true, unsigned_abs, IsTrue, OnOk, Some};
 ghost use Rattle.std.specs.HashMap.{get};

@@ -1,5 +1,5 @@
-//! What programs are made of, each part in one function: headers, sensors, lists, structs, streams and machines. None has a proof of its own:
-//! the contracts of the calls carry them, with one set of laws at most.
+//! Parts of programs, one in each function: headers, sensors, lists, structs, streams and machines. None has a
+//! proof of its own: the contracts of the calls are enough, with at most one set of laws.
 #![tactic(auto)]
 
 pub mod bytes;

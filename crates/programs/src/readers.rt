@@ -1,4 +1,4 @@
-//! Values in fields behind `&mut self`: each call and each shift says the range of what it is given.
+//! Values in fields behind `&mut self`, whose range the check learns from calls and shifts.
 
 ghost use Rattle.std.specs.Prelude.{◌≡◌, ◌-ℤ◌, ◌<ℤ◌, ◌≤ℤ◌, int_div, pos, IsTrue};
 

@@ -1,4 +1,5 @@
-//! A record after a put, in numbers: what stands below the field, in it and above it, and fields of other widths that share its bits.
+//! A record after a put, as numbers: the bits below the field, in it and above it, and fields of other widths
+//! that share its bits.
 
 ghost use Rattle.std.specs.Prelude.{◌≡◌, ◌<◌, ◌+◌, ◌*◌, ◌/◌, ◌%◌, pos, unsigned_abs, IsTrue};
 

@@ -1,5 +1,4 @@
-//! Lists of steps that are written out.
-//! None has a proof of its own: the file names one set of laws.
+//! Constant lists of steps.
 #![tactic(auto, using(arbitrary_laws::proofs::steps::Rulesets::steps))]
 
 ghost use Rattle.std.specs.Prelude.{◌≡◌, ◌+ℤ◌, ◌≤ℤ◌, pos, IsTrue, Ok};

@@ -1,5 +1,4 @@
-//! Values in a stream, and read back.
-//! None has a proof of its own: the file names one set of laws.
+//! Values that are written to a stream, and read back.
 #![tactic(auto, using(arbitrary_laws::proofs::bytes::Rulesets::streams))]
 
 ghost use Rattle.std.specs.Prelude.{◌≡◌, IsTrue, IfOk, Some};

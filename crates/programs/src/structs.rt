@@ -1,7 +1,7 @@
 //! Values in structs, enums, tuples and behind references.
 //!
-//! A type that holds such an integer is given by value once. What to write for a second time stands in
-//! the functions below: a copy by `let` first, a method that takes `&self`, the fields, or a `match`.
+//! A type that contains such an integer is passed by value once. The functions below show how to use it a second
+//! time: copy it with `let` first, call a method that takes `&self`, read the fields, or use a `match`.
 
 ghost use Rattle.std.specs.Prelude.{◌≡◌, ◌+ℤ◌, ◌<ℤ◌, pos};
 

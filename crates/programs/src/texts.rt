@@ -1,5 +1,4 @@
-//! How long the text of a number is.
-//! None has a proof of its own: the file names one set of laws.
+//! The length of a number's text.
 #![tactic(auto, using(arbitrary_laws::proofs::bytes::Rulesets::texts))]
 
 ghost use Rattle.std.specs.Prelude.{◌≡◌, ◌≤◌, ◌≤ℤ◌, ◌<ℤ◌, pos, IfOk, length, string_bytes};

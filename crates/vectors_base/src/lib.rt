@@ -1,4 +1,4 @@
-//! Test vectors of the base. Each result comes from outside the library.
+//! Test vectors of `arbitrary_base`. Each expected result comes from outside the library.
 #![tactic(auto)]
 
 #[cfg(test)]

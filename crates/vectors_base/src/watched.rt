@@ -1,4 +1,5 @@
-//! What no clause of `Watched` states: it calls the inner stream once for each call, and passes on an error with its kind.
+//! What no clause of `Watched` states: it calls the inner stream once for each call, and returns an error with
+//! its kind.
 
 ghost use Rattle.std.specs.Prelude.{◌≤◌, IfOk};
 

@@ -1,4 +1,4 @@
-//! The four families of arithmetic, negation, and the exact operators.
+//! Test vectors of the four families of arithmetic, of negation, and of the operators.
 
 use crate::same::same;
 use arbitrary_int::prelude::*;

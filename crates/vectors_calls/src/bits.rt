@@ -1,4 +1,4 @@
-//! Shifts, rotations, counts and extraction.
+//! Test vectors of shifts, rotations, counts and extraction.
 
 use crate::same::same;
 use arbitrary_int::prelude::*;

@@ -1,4 +1,4 @@
-//! Ranges, masks and conversions.
+//! Test vectors of ranges, masks and conversions.
 
 use crate::same::same;
 use arbitrary_int::prelude::*;

@@ -1,4 +1,4 @@
-//! The calls of `Number`.
+//! Test vectors of the calls of `Number`.
 
 use crate::same::same;
 use arbitrary_int::{Number, TryNewError, u5, u14};

@@ -1,4 +1,4 @@
-//! Test vectors of the calls. Each result comes from outside the library.
+//! Test vectors of the calls. Each expected result comes from outside the library.
 #![tactic(auto)]
 
 #[cfg(test)]

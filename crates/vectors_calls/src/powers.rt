@@ -1,4 +1,4 @@
-//! Powers, and how many multiplications they make.
+//! Test vectors of powers, and of the number of their multiplications.
 
 use arbitrary_int::prelude::*;
 

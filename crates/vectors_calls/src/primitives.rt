@@ -1,4 +1,4 @@
-//! The calls of `Integer` on the primitives.
+//! Test vectors of the calls of `Integer` on the primitives.
 
 use crate::same::same;
 use arbitrary_int::prelude::*;

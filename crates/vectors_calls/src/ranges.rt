@@ -1,4 +1,4 @@
-//! Sums and products, steps and ranges.
+//! Test vectors of sums, products, steps and ranges.
 
 use crate::same::same;
 use arbitrary_int::prelude::*;

@@ -1,4 +1,4 @@
-//! What every test here asks.
+//! The comparison that every test here makes.
 
 use std::fmt::Debug;
 use std::process::Abort;

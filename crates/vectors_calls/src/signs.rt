@@ -1,4 +1,4 @@
-//! Negative numbers: their order, text and right shifts differ from those of their bits.
+//! Test vectors of negative numbers, whose order, text and right shifts differ from those of their bits.
 
 use crate::same::same;
 use arbitrary_int::prelude::*;

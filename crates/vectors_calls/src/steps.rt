@@ -1,6 +1,8 @@
-//! Lists of steps on registers: what `run` leaves, and where and why it stops. `widths` has runs at two widths.
+//! Test vectors of `run`: the registers that a list of steps leaves, and where and why it stops. `widths` has
+//! runs at two widths.
 //!
-//! The contract of `run` is a definition. These values come from outside, so a test that fails shows a wrong definition.
+//! The contract of `run` refers to a definition. These values come from outside, so a test that fails shows a
+//! wrong definition.
 
 use crate::same::same;
 use arbitrary_int::prelude::*;

@@ -1,4 +1,4 @@
-//! Runs at two widths.
+//! Test vectors of `run_wide`. `lib` says where the values come from.
 
 use crate::same::same;
 use crate::steps::two;

@@ -1,4 +1,4 @@
-//! How many multiplications a power makes, exactly; the contract has an upper bound.
+//! The exact number of multiplications in a power, for which the contract has an upper bound.
 
 use arbitrary_int::prelude::*;
 

@@ -1,4 +1,4 @@
-//! The types that belong to a type: its storage, and the unsigned and the signed type of its width.
+//! The associated types of a type: its storage, and the unsigned and the signed type of its width.
 //!
 //! Each line names a type twice, so it compiles only if both are the same.
 

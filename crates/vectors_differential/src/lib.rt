@@ -1,6 +1,7 @@
-//! Every call at the ends of its range, at each width, compared with the arithmetic of the primitives.
+//! Every call at the ends of its range, at widths of every storage, compared with the arithmetic of the
+//! primitives.
 //!
-//! The contracts state what each call returns; these tests compute it in another way.
+//! The contracts state what each call returns. These tests compute it in another way.
 #![tactic(auto)]
 
 #[cfg(test)]

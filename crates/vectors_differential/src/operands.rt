@@ -1,4 +1,4 @@
-//! The operands of the differential tests, and the same numbers by shifts alone.
+//! The operands of the differential tests, and the same numbers computed with shifts alone.
 
 use arbitrary_int::prelude::*;
 

@@ -1,4 +1,4 @@
-//! Division as a step of a run, by every operand, 0 and -1 included.
+//! Division as a step of a run, by every operand, also 0 and -1.
 
 use crate::arithmetic::exact;
 use crate::operands::{number, patterns, width};

@@ -1,4 +1,4 @@
-//! Widths at both ends of each storage, of both signs, and narrow ones over wide storages.
+//! Widths at both ends of each storage, signed and unsigned, and narrow widths in wide storages.
 
 use crate::{arithmetic, bits, steps};
 use arbitrary_int::prelude::*;

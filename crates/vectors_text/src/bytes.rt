@@ -1,4 +1,4 @@
-//! Bytes, and values in streams.
+//! Test vectors of bytes, and of values in streams.
 
 use crate::same::same;
 use arbitrary_int::Watched;

@@ -1,4 +1,4 @@
-//! Values as keys, in order, and as booleans.
+//! Test vectors of values as keys, in order, and as booleans.
 
 use crate::same::same;
 use arbitrary_int::prelude::*;

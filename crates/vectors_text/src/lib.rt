@@ -1,5 +1,6 @@
-//! Test vectors of texts, bytes, streams and keys: each result was computed apart from the library. Those of the other calls stand
-//! in `vectors_calls`, and those of the base in `vectors_base`: three crates are proved side by side.
+//! Test vectors of text, bytes, streams and keys. Each expected result comes from outside the library.
+//! `vectors_calls` has those of the other calls, and `vectors_base` those of the base. They are three crates so
+//! that they are proved in parallel.
 #![tactic(auto)]
 
 #[cfg(test)]

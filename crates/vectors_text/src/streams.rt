@@ -1,4 +1,4 @@
-//! Values in streams that accept or yield one byte a call, and that fail in the middle of a value.
+//! Values in streams that accept or yield one byte for each call, and that fail in the middle of a value.
 
 ghost use Rattle.std.specs.Prelude.{◌<◌, IfOk, IfSome};
 

@@ -1,4 +1,4 @@
-//! Text: decimal of every kind of type, and the bases 2, 8 and 16.
+//! Test vectors of text: decimal text of every kind of type, and the bases 2, 8 and 16.
 
 use crate::same::same;
 use arbitrary_int::prelude::*;

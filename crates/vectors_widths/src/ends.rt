@@ -1,5 +1,5 @@
-//! The test of each width. Each storage has one function, with the width as its parameter. So the traits of a type are looked up once a
-//! storage, which saves most of the proof.
+//! The test of one width. Each storage has one function with the width as its parameter, so the check looks up
+//! the traits of a type once for each storage. This saves most of the proof.
 
 use arbitrary_base::storage::{BuiltinInteger, SignedStorage, UnsignedOf, UnsignedStorage};
 use arbitrary_base::truncation::to_u128_bits;

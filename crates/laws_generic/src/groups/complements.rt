@@ -1,4 +1,5 @@
-//! Complements of sums and differences that wrap, in code that is generic in the type: by the group of laws that the line below opens.
+//! Laws about complements of sums and differences that wrap, in code that is generic over the type. The line
+//! below opens their group.
 #![tactic(auto, unfolding(arbitrary_int::specs::GenericLaws::ComplementLaws))]
 
 ghost use Rattle.std.specs.Prelude.{IsTrue};

@@ -1,4 +1,4 @@
-//! How many bits are one, in code that is generic in the type: by the group of laws that the line below opens.
+//! Laws about the number of ones, in code that is generic over the type. The line below opens their group.
 #![tactic(auto, unfolding(arbitrary_int::specs::GenericLaws::CountLaws))]
 
 ghost use Rattle.std.specs.Prelude.{IsTrue};

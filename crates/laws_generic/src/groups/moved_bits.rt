@@ -1,4 +1,5 @@
-//! Shifts beside masks, complements and the reversal, in code that is generic in the type: by the group of laws that the line below opens.
+//! Laws about shifts of masks, of complements and of reversed numbers, in code that is generic over the type.
+//! The line below opens their group.
 #![tactic(auto, unfolding(arbitrary_int::specs::GenericLaws::MovedBitLaws))]
 
 ghost use Rattle.std.specs.Prelude.{IsTrue};

@@ -1,4 +1,4 @@
-//! The order of complements, in code that is generic in the type: by the group of laws that the line below opens.
+//! Laws about the order of complements, in code that is generic over the type. The line below opens their group.
 #![tactic(auto, unfolding(arbitrary_int::specs::GenericLaws::OrderLaws))]
 
 ghost use Rattle.std.specs.Prelude.{IsTrue};

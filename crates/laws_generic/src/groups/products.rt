@@ -1,4 +1,5 @@
-//! Products of differences that wrap, and what is shifted to the left, in code that is generic in the type: by the group of laws that the line below opens.
+//! Laws about products of differences that wrap and of shifted numbers, in code that is generic over the type.
+//! The line below opens their group.
 #![tactic(auto, unfolding(arbitrary_int::specs::GenericLaws::ProductLaws))]
 
 ghost use Rattle.std.specs.Prelude.{IsTrue};

@@ -1,4 +1,5 @@
-//! Sums and differences that wrap, in code that is generic in the type: by the group of laws that the line below opens.
+//! Laws about sums and differences that wrap, in code that is generic over the type. The line below opens their
+//! group.
 #![tactic(auto, unfolding(arbitrary_int::specs::GenericLaws::SumLaws))]
 
 ghost use Rattle.std.specs.Prelude.{IsTrue};
