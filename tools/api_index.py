@@ -1,8 +1,8 @@
 #!/usr/bin/env python3
 """api_index.py [--write]
 
-Fails unless docs/API.md is the index of the libraries' public items: for each its first sentence and the names of its clauses, under its file.
-A call that has a row in docs/CALLS.md has a link to it, and the row has a mark for that. With --write it writes the page and the marks.
+Fails unless docs/API.md is the index of the libraries' public items: under its file, the first sentence of each item and the names of its
+clauses. A call with a row in docs/CALLS.md links to the row, which has an anchor. With --write it writes the page and the anchors.
 """
 import re
 import sys

@@ -1,13 +1,13 @@
 #!/usr/bin/env python3
 """believed.py [--words] [--write]
 
-Counts the lines that a reader of the contracts must believe: the definitions in specs/ that the contracts of the libraries'
-public items cite, then the definitions that these cite, and so on; and how many more those of `bit_fields` take, and of the
-program's `serve` and `Fault`. Comments, blank lines and imports are not counted. With --words it prints every word, its lines,
-and where it stands. It fails where docs/ARCHITECTURE.md gives another figure; with --write it writes the figures there.
+Counts the trusted lines: the definitions in specs/ that the contracts of the libraries' public items cite, then the definitions that these
+cite, and so on. It also counts how many more lines `bit_fields` needs, and how many more the program's `serve` and `Fault` need. Comments,
+blank lines and imports are not counted. With --words it prints every word, its lines and its file. It fails if docs/ARCHITECTURE.md has other
+figures; with --write it writes them there.
 
-What is proved need not be believed: lemmas, and the statements of laws, which are words without arguments whose type is
-`Type 0`, or groups of laws, whose names end in `Laws`. Nor need the words that only the contracts inside a crate cite.
+Nobody has to trust what is proved: lemmas, and the statements of laws. A statement of a law is a word without arguments of the type `Type 0`,
+or a group of laws, whose name ends in `Laws`. Words that only the contracts inside a crate cite are not counted either.
 """
 import re
 import sys

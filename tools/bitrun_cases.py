@@ -1,9 +1,9 @@
 #!/usr/bin/env python3
 """bitrun_cases.py
 
-Fails unless bitrun.sh and prove.sh do what they should in the cases that are easy to get wrong: a source that is edited during the
-proof, CDPATH, a symbolic link, two at once, no `rt`, a source that is not proved, an interrupt. Each case has a small copy of the
-repository, and a stand-in for `rt`, whose program answers with the source that it was built from. So it takes seconds.
+Fails unless bitrun.sh and prove.sh behave well in cases that are easy to get wrong: a source that is edited during the proof, CDPATH, a
+symbolic link, two runs at once, no `rt`, a source that is not proved, and an interrupt. Each case has a small copy of the repository and a
+substitute for `rt`. The program that this builds prints the source from which it was built, so the script takes seconds.
 """
 import os
 import shutil

@@ -1,14 +1,15 @@
 #!/usr/bin/env python3
 """calls_table.py [BINARY] [--only WORD]
 
-Prints what one call takes, beside three peers: instructions of a function that makes the call alone, on numbers in their storage, without
-its return, counted by callgrind. BINARY is the program of crates/bench_calls, by default crates/bench_calls/out/bench_calls, which `rt run` leaves there.
+Prints the instructions of one call, compared with three other implementations. Callgrind counts a function that makes the call alone, on
+numbers in their storage, without its return. BINARY is the program of crates/bench_calls, by default crates/bench_calls/out/bench_calls, which
+`rt run` leaves there.
 
-There are fourteen calls and six types, and for most calls operands whose result is in range and operands whose result is past it. The peers'
-figures stand in calls_peers.txt, which says how they were made. Those of this library are counted anew, with what the function calls in turn.
-The operands of the peers' powers had other sizes, and a power takes as long as they say: those rows count in no mean. Nor do products of 120
-bits whose code branches on the sizes, `checked_mul` and `saturating_mul`. Of the operands at the ends half lie next to the least number, where an
-unsigned result is in range; and a function of the program need not pass 128 bits as C does, which can save it some moves.
+There are fourteen calls and six types. Most calls have operands whose result is in range, and operands whose result is out of range.
+calls_peers.txt has the figures of the other implementations, and says how they were counted. Those of this library are counted again, with
+the functions that the function calls. Two kinds of rows count in no mean. The powers of the other implementations had operands of other sizes,
+which change the cost. Products of 120 bits by `checked_mul` and `saturating_mul` branch on the sizes. Half of the operands at the ends are next
+to the least number, where an unsigned result is in range. A function of the program need not pass 128 bits as C does, which can save moves.
 """
 import argparse
 import math

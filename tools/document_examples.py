@@ -1,10 +1,10 @@
 #!/usr/bin/env python3
 """document_examples.py [--write]
 
-Fails unless the gate runs what the documents show. The examples in docs/CALLS.md and the table "In Rust you wrote" in docs/DIFFERENCES.md have
-to be tests. The functions in the README and in docs/PROVING.md have to be in crates/pages, and each line that these two pages call refused
-has to be an edit there, which the prover must refuse. docs/SETS.md has to list every public set and group of laws, and each fact there has to
-be in a crate that is proved. With --write it writes the tests from the tables; run `rt fmt` in their crates afterwards.
+Fails unless the gate proves or runs what the documents show. The examples in docs/CALLS.md and the table "In Rust you wrote" in
+docs/DIFFERENCES.md must be tests. The functions in the README and in docs/PROVING.md must be in crates/pages, and each line that these two pages
+call refused must be an edit there. docs/SETS.md must list every public set and group of laws, and each fact there must be in a crate that is
+proved. With --write the script writes the tests from the tables; run `rt fmt` in their crates afterwards.
 """
 import re
 import sys

@@ -1,9 +1,9 @@
 #!/usr/bin/env python3
 """endings.py [PROGRAM ..]
 
-Runs the built `bitrun` on good inputs and on each fault that an input, a reader or a writer can bring about, each with
-an output that is open, full, closed, or that nobody reads. It compares what is printed, the status and that standard
-error is empty with a table. PROGRAM is by default what `bitrun.sh` builds.
+Runs the built `bitrun` on good inputs and on each fault of an input, a reader or a writer, each with an output that is open, full, closed, or
+read by nobody. It compares the output and the status with a table, and checks that standard error is empty. PROGRAM is by default what
+`bitrun.sh` builds.
 """
 import os
 import subprocess

@@ -1,11 +1,11 @@
 #!/usr/bin/env python3
 """fuzz.py [PROGRAM ..] [--seed N] [--inputs N | --seconds S]
 
-Runs the built `bitrun` on good and on damaged inputs, and compares what it prints, its status and that standard error
-is empty with a model of the text and the steps. PROGRAM is by default what `bitrun.sh` builds. Each word comes on each
-type first, then long inputs, good and damaged at any line; then come random inputs, N of them or for S seconds. One
-seed always makes the same inputs. At the first difference the input and both endings are printed, and the status is 1.
-So it is where the words of the model are not those of `operation_named` in the definitions.
+Runs the built `bitrun` on good and on damaged inputs. It compares the output and the status with a model of the text and the steps, and checks
+that standard error is empty. PROGRAM is by default what `bitrun.sh` builds. The first inputs have each word on each type. Then come long
+inputs, good and damaged at any line, and then random inputs, N of them or for S seconds. One seed always makes the same inputs. At the first
+difference the script prints the input and both results, and fails. It also fails if the words of the model are not those of
+`operation_named` in the definitions.
 """
 import argparse
 import random

@@ -1,8 +1,8 @@
 #!/usr/bin/env python3
 """glossary.py
 
-Fails for a word of tools/retired_words.txt in the crates' src/ and specs/, in docs/, or in the name of a file there, and for one of the words
-for pages on a page. It also fails for a word in code of docs/GLOSSARY.md, or a name of a clause in docs/CALLS.md, that no crate has.
+Fails if a word of tools/retired_words.txt is in the crates' src/ and specs/, in docs/ or in the name of a file there, or if one of the words for
+pages is on a page. It also fails for a word in code of docs/GLOSSARY.md, or a name of a clause in docs/CALLS.md, that no crate has.
 """
 import re
 import sys

@@ -1,12 +1,12 @@
 #!/usr/bin/env python3
 """instructions.py [BINARY] [--only WORD]
 
-Prints, as Markdown tables, how many instructions this library takes where programs use it, beside the Rust crate: for one element of a
-loop over arrays with a call inside, for one item of a small program, and for one step of a long list in memory. BINARY is the program of
-crates/bench_calls, by default crates/bench_calls/out/bench_calls, which `rt run` leaves there.
+Prints, as Markdown tables, the instructions of this library and of the Rust crate in programs: for one element of a loop over arrays with a
+call inside, for one item of a small program, and for one step of a long list in memory. BINARY is the program of crates/bench_calls, by default
+crates/bench_calls/out/bench_calls, which `rt run` leaves there.
 
-Callgrind counts two runs, the longer of which makes eight passes more. What it takes more, divided by the items of these passes, is one
-item. The figures of the crate are in loops_peers.txt, which says how they were made.
+Callgrind counts two runs, of which the longer makes eight passes more. The difference, divided by the items of these passes, is the cost of one
+item. loops_peers.txt has the figures of the crate, and says how they were counted.
 """
 import argparse
 import math

@@ -1,13 +1,13 @@
 #!/usr/bin/env python3
 """lines.py [PROGRAM]
 
-Prints, as Markdown tables, how many instructions `bitrun` takes for a line of a step of each kind, and for a register of
-the second line, beside the fast one: a name of four letters, one space before each operand, register numbers of one digit,
-and the LF. PROGRAM is by default what `bitrun.sh` builds.
+Prints, as Markdown tables, the instructions of `bitrun` for a line with a step of each kind, and for a register of the second line. It compares
+them with those of a fast line: a name of four letters, one space before each operand, register numbers of one digit, and the LF. PROGRAM is by
+default what `bitrun.sh` builds.
 
-What a line takes is counted by callgrind: an input of 65,536 bytes less another of half as many lines, divided by the lines
-that it has more. So the start of the process does not count. The last column has the same of 1,000 lines less 500: where it
-is apart from the column before, a line costs more in a long input. The outputs are compared with the model of fuzz.py first.
+Callgrind counts an input of 65,536 bytes and one with half as many lines. The difference, divided by the difference in lines, is the cost of a
+line, so the start of the process does not count. The last column has the same for 1,000 lines and 500. If it differs from the column before, a
+line costs more in a long input. The script first compares the outputs with the model of fuzz.py.
 """
 import argparse
 import functools

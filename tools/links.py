@@ -1,9 +1,9 @@
 #!/usr/bin/env python3
 """links.py
 
-Fails for a link on a page that leads nowhere: to no file, or to no heading of a page. It also fails for a page or file that is named without a
-link, except in a command, for a folder that does not exist, for a file that a command copies and that does not exist, and for the marks of a
-merge's conflict. It does not follow addresses on the web.
+Fails if a link on a page leads to no file, or to no heading of a page. It also fails for a page or a file that is named without a link outside
+a command, for a folder that does not exist, for a file that a command copies and that does not exist, and for the marks of a merge conflict. It
+does not follow addresses on the web.
 """
 import re
 import sys

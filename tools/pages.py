@@ -1,9 +1,9 @@
 #!/usr/bin/env python3
 """pages.py [--words] [--write]
 
-Fails unless each page keeps within its words, the README within its lines, and each sentence within 30 words. It compares the figures of the
-prose and the kit's version with the sources, and refuses a number above 128 that it does not know. With --words it prints the words of each
-page, with --write it writes the figures. The generated docs/API.md does not count.
+Fails if a page has too many words, the README too many lines, or a sentence more than 30 words. It also fails if a figure in a sentence differs
+from its source, or if a number above 128 has no source. With --words it prints the words of each page, and with --write it writes the figures.
+The generated docs/API.md does not count.
 """
 import re
 import subprocess

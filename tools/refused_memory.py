@@ -1,9 +1,9 @@
 #!/usr/bin/env python3
 """refused_memory.py
 
-Runs `bitrun` on each input with its first growth of memory refused, then with its second, and so on until a run meets none.
-Each run before that has to print the fault alone and end with status 3, and the last has to do as if nothing had been refused.
-The growths are refused by `rt try --fail-alloc`, which builds the program for each growth: that takes 10 to 20 seconds each time.
+Runs `bitrun` on each input with its first allocation refused, then with its second, and so on until no allocation is refused. Each run but the
+last must print the fault alone, and end with status 3. The last must behave as if no allocation had been refused. `rt try --fail-alloc` refuses
+an allocation, and builds the program each time, which takes 10 to 20 seconds.
 """
 import re
 import subprocess

@@ -1,11 +1,11 @@
 #!/usr/bin/env python3
 """short_names.py [--write]
 
-Tells whether the short names `u1` to `u127` and `i1` to `i127` each stand for the type over the smallest primitive
-that has room, and whether `arbitrary_int` gives all of them at its root and in its prelude; whether each width from 1 to 128
-has its impl of `HasWidth`, and each from 8 on that of `FitsIn`; whether both types have the constant `BITS` at each; and
-whether `vectors_widths` asks for the ends of both types at each. With --write it writes the two files of names, the four of
-constants, the four of impls and the two of tests. 8, 16, 32 and 64 bits have no short name: they are primitives already.
+Fails unless the short names `u1` to `u127` and `i1` to `i127` are the types over the smallest primitive that has room, and `arbitrary_int` has
+all of them at its root and in its prelude. It also fails unless each width from 1 to 128 has its impl of `HasWidth`, each from 8 on has that of
+`FitsIn`, both types have the constant `BITS` at each width, and `vectors_widths` tests the ends of both types at each width. With --write it
+writes the two files of names, the four of constants, the four of impls and the two of tests. 8, 16, 32 and 64 bits have no short name, because
+they are primitives.
 """
 import re
 import sys

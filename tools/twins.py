@@ -1,11 +1,11 @@
 #!/usr/bin/env python3
 """twins.py [--show] [--write]
 
-Compares files that say the same of `UInt` and of `Int`, or of 8, 16, 32, 64 and 128 bits: no macro may write an impl here, so each
-says it once more. A file is taken apart into its members: the functions, ghost items, types and constants of each impl. Two members
-are twins where they have the same name in the same impl, once words like `u8` and `i8` are put for one another. A difference between
-twins is wanted where tools/twins.txt lists it: its member, and a sum of the lines that differ. The script prints each other
-difference, and each line of the list that no difference has, and fails. --show prints all differences, and --write the list.
+Compares files that differ only in a type: of `UInt` and `Int`, or of 8, 16, 32, 64 and 128 bits. They exist because no macro may write an impl
+here. The script splits each file into its members: the functions, ghost items, types and constants of each impl. Two members are twins if they
+have the same name in the same impl, once names such as `u8` and `i8` are replaced by one name. tools/twins.txt lists the differences that are
+wanted, each by its member and a sum of the lines that differ. The script fails for each other difference, and for each line of the list without
+a difference. With --show it prints all differences, and with --write it writes the list.
 """
 import difflib
 import re

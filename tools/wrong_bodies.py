@@ -1,18 +1,18 @@
 #!/usr/bin/env python3
 """wrong_bodies.py [--some N] [CRATE | CRATE/EDIT ..]
 
-Sees that the prover refuses the wrong bodies in `wrong-bodies` of these crates, or these of a crate, or all; with `--some`, N of them, which
-the commit chooses. It takes the crates below as `rt check` or `rt ci` left them proved last.
+Fails unless the prover refuses the wrong bodies in `wrong-bodies` of these crates, or these of a crate, or all. With `--some` it tries N of
+them, which the commit selects. It uses the crates below as `rt check` or `rt ci` last proved them.
 
-A file there is an edit as in `must-fail`, under a line that names the function which it makes wrong:
+A file there is an edit as in `must-fail`, under a line that names the function that it makes wrong:
 
     function: shifts::shl
     file: src/shifts.rt
     old: narrow(x.shl_by(amount), bits)
     new: narrow(x.shl_by(amount), T::WIDTH)
 
-One check takes as many wrong bodies of a crate as there are functions and places of their own for: a function is proved from the contracts of
-what it calls, and not from their bodies. Where a callee is wrong too, the prover says that alone, and the caller waits for the next check.
+One check tries many wrong bodies of a crate, each of another function in another place. It proves a function from the contracts of the functions
+that it calls, not from their bodies. If a called function is wrong too, the prover reports only that, and the caller waits for the next check.
 """
 import argparse
 import hashlib
