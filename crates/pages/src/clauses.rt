@@ -27,7 +27,7 @@ pub fn register(registers: &[u12; 8], place: u3) -> u12
     registers[place.as_usize()]
 }
 
-/// Writes one register. The others stay.
+/// Writes one register. The others do not change.
 pub fn write(registers: &mut [u12; 8], place: u3, value: u12)
     ensures { registers.new ≡ slice_set registers.old (unsigned_abs place) value }
 {
@@ -49,7 +49,7 @@ pub fn low_sum(a: u24, b: u24) -> u12
     a.wrapping_add(b).as_::<u12>()
 }
 
-/// How far to turn from one direction to another, of 16,384 to a round, by the shorter way.
+/// The shorter turn from one direction to another, in steps of which a full turn has 16,384.
 #[tactic(auto, using(arbitrary_laws::proofs::numbers::Conversions::congruences))]
 pub fn turn(from: u14, to: u14) -> i14
     ensures { Congruent 14 (from +ℤ result) to }

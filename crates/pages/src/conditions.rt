@@ -12,7 +12,7 @@ pub fn low_half(byte: u8) -> u4
     u4::new(byte & 15)
 }
 
-/// The level that a byte says, if 4 bits have it.
+/// The level in a byte, if it fits in 4 bits.
 pub fn level(byte: u8) -> Option<u4> {
     if byte < 16 { Some(u4::new(byte)) } else { None }
 }
@@ -37,7 +37,7 @@ pub fn sum(a: u12, b: u12) -> u12
     a + b
 }
 
-/// The next count, which stays at the greatest.
+/// The next count, which stays at the maximum.
 pub fn next(count: u12) -> u12 {
     if count < u12::max_value() {
         count + u12::new(1)
@@ -46,7 +46,7 @@ pub fn next(count: u12) -> u12 {
     }
 }
 
-/// The sum of two samples, in a type that has every such sum.
+/// The sum of two samples, in a type that has room for it.
 pub fn wide_sum(a: u12, b: u12) -> u13
     ensures { result ≡ a +ℤ b }
 {
@@ -64,7 +64,7 @@ pub fn entry(table: &[u8; 16], place: u4) -> u8 {
     table[usize::from(place.value())]
 }
 
-/// The entry of a shorter table, if it has one there.
+/// The entry of a shorter table, if there is one.
 pub fn entry_of_ten(table: &[u8; 10], place: u4) -> Option<u8> {
     table.get(usize::from(place.value())).copied()
 }
@@ -90,7 +90,7 @@ pub fn middle(left: i12, right: i12) -> i12
     i12::from_((i13::from_(left) + i13::from_(right)) / i13::new(2))
 }
 
-/// The number moved up, and 0 where no bit is left.
+/// The number shifted left, and 0 if no bit is left.
 pub fn moved(number: u12, places: u8) -> u12 {
     if places < 12 {
         number << places

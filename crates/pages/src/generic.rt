@@ -5,7 +5,7 @@ ghost use Rattle.arbitrary_int.specs.Range.{InRange};
 
 use arbitrary_int::prelude::*;
 
-/// The number 0 of any type that has it: the bound shows the width.
+/// The number 0 of any type. The bound shows that the width is valid.
 pub fn nothing<T: ValidWidth>() -> T
     ensures { T.number result ≡ pos 0 }
 {
@@ -19,13 +19,13 @@ pub fn origin<T: Integer>() -> T
     T::zero()
 }
 
-/// Whether the number is the greatest. A value's width is valid: `to_u128_bits` says so of it.
+/// Whether the number is the maximum. `to_u128_bits` ensures that the width is valid.
 pub fn is_greatest<T: Integer>(value: T) -> bool {
     let _known = value.to_u128_bits();
     value == T::max_value()
 }
 
-/// The sum of two numbers of any type that has it.
+/// The sum of two numbers of any type, if it is in range.
 pub fn sum<T: FixedWidth>(a: T, b: T) -> T
     requires { InRange T.IS_SIGNED T.BITS (T.number a +ℤ T.number b) }
     ensures { T.number result ≡ T.number a +ℤ T.number b }

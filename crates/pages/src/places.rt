@@ -4,14 +4,14 @@ ghost use Rattle.std.specs.Prelude.{◌≡◌, ◌+ℤ◌, ◌-ℤ◌, ◌≤ℤ
 
 use arbitrary_int::prelude::*;
 
-/// Counts one more, where there is room.
+/// Counts one more, if there is room.
 pub fn count(counter: &mut u12) {
     if *counter < u12::max_value() {
         *counter += u12::new(1);
     }
 }
 
-/// The next count, which stays at the greatest.
+/// The next count, which stays at the maximum.
 pub fn next(count: u12) -> u12 {
     if count < u12::max_value() {
         count + u12::new(1)
@@ -25,7 +25,7 @@ pub fn count_by_value(counter: &mut u12) {
     *counter = next(*counter);
 }
 
-/// The sum of the samples, or the greatest number.
+/// The sum of the samples, clamped to the maximum.
 pub fn total(samples: &[u4]) -> u12 {
     let mut total = u12::new(0);
     for sample in samples {
