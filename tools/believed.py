@@ -29,14 +29,14 @@ def definitions(file):
     for line in file.read_text().splitlines():
         if not line.strip() or line.lstrip().startswith('--') or re.match(rf'{PUBLIC}(use|mod) |infix', line):
             continue
-        # `do` stands for the operator that it is made of.
+        # `do` is short for its operator.
         line = re.sub(r'= do$', '= do >>=', line)
         head = HEAD.match(line)
         if head or not found:
             name = next(filter(None, head.groups())) if head else file.stem
             found.append((name.strip().strip('◌'), []))
         found[-1][1].append(line)
-    # modules with parameters, whose definitions have them too, stand in one file under one name
+    # modules with parameters, whose definitions have them too, are in one file under one name
     joined = {}
     for name, lines in found:
         joined.setdefault(name, []).extend(lines)

@@ -46,7 +46,7 @@ OUTPUTS = ['full', 'closed', 'unread']
 
 
 def ending(program, source, data, sink='open'):
-    """What is printed, the status, and what stands on standard error."""
+    """What is printed, the status, and the text on standard error."""
     inward, feed = os.pipe()
     take, outward = os.pipe()
     if source == 'a folder':

@@ -68,7 +68,7 @@ def arithmetic(word, x, y, kind):
 
 
 def rearranged(word, x, amount, kind):
-    """What a shift, a rotation or a reversal makes of the bits, which stand here highest first."""
+    """The result of a shift, a rotation or a reversal of the bits, highest bit first."""
     signed, bits = kind
     if word in ('cshl', 'cshr') and amount >= bits:
         raise Stop('refused')

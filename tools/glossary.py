@@ -64,7 +64,7 @@ def unknown(sources):
 
 
 def code(file, line):
-    """The parts of a line that are code: on a page and in a comment what stands in backticks."""
+    """The parts of a line that are code: on a page and in a comment those in backticks."""
     begins = {'.rt': r'//', '.antt': r'(?<!\S)--(?!\S)'}.get(file.suffix, '')
     place = re.search(begins, line)
     if not place:

@@ -17,6 +17,6 @@ def programs(named):
 
 
 def ending(program, data):
-    """What the program prints on this input, its status, and what stands on standard error."""
+    """What the program prints on this input, its status, and the text on standard error."""
     done = subprocess.run([program], input=data, capture_output=True, timeout=60)
     return done.stdout, done.returncode, done.stderr

@@ -14,7 +14,7 @@ from pathlib import Path
 
 from program import ROOT
 
-# What stands in the input, what is printed for it, and the status.
+# The input, what is printed for it, and the status.
 ROWS = {
     'refused': (b'run u7\n100 50 0\nwadd 2 0 1\nwadd 3 0 1\n', b'fault: line 4\n', 2),
     'wide': (b'wide u14 i7\n200 300\nwmul 0 0 1\nnot 1 1\n', b'10848 16083\n-32 -45\ndone\n', 0),

@@ -29,7 +29,7 @@ PAIRS = [f'arbitrary_core/src/{module}' for module in [
 WIDTHS = [8, 16, 32, 64, 128]
 FAMILIES = ['arbitrary_base/src/storage/bits{}.rt', 'arbitrary_traits/src/primitives/bits{}.rt']
 
-# the code of a test cannot stand in another crate
+# the code of a test cannot be in another crate
 EQUAL = '*/src/same.rt'
 
 
@@ -62,7 +62,7 @@ def is_closed(lines, ends):
 
 
 def members(text):
-    """Each member of a file: the impl or trait that it stands in, and its name, with its lines. Comments and imports are left out."""
+    """Each member of a file: its impl or trait, its name and its lines. Comments and imports are left out."""
     found, block = {}, ''
     lines = [line for line in text.splitlines() if not re.match(r'\s*(//|use |ghost use |mod |pub mod |#!)', line)]
     at = 0

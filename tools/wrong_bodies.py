@@ -31,7 +31,7 @@ PARTS = ['src', 'specs', 'proofs']
 # The prover's words for a function that it refuses, and for one that hangs on another: on what it calls, or on what now calls it.
 REFUSED = re.compile(r'not proved|no proof')
 HANGS = re.compile(r'it calls|it passes|a call of|a cycle of calls')
-# Its words for a fault in a function's proof, and for one that names what a wrong body took away, which tells nothing of the contract.
+# Its words for a fault in a function's proof, and for one that names what a wrong body took away, which does not test the contract.
 FAULT = re.compile(r'\S*\bproofs/(\S+)/\w+\.antt\S* error: (.*)')
 GOAL = re.compile(r'note: \S+ (it is not proved that .*)')
 UNNAMED = re.compile(r'is not in scope|has no field|has no `|was not admitted')

@@ -38,7 +38,7 @@ fourth_begun time level source reading a b c d e p q r h =
     begun_after a b e (BorshBytes 40 time) (BorshBytes 3 level ++ (BorshBytes 9 source ++ BorshBytes 12 reading)) p
     (begun_after b c e (BorshBytes 3 level) (BorshBytes 9 source ++ BorshBytes 12 reading) q (begun_after c d e (BorshBytes 9 source) (BorshBytes 12 reading) r h))
 
--- ---- a record is told by its bytes
+-- ---- a record is determined by its bytes
 
 -- its fields in turn, and what follows
 in_turn : (time level source reading : ℤ) (rest : List ℕ)
@@ -54,7 +54,7 @@ rest-same B x y xs ys e =
     let n : length (BorshBytes B x) ≡ length (BorshBytes B y) = length-Borsh B x ∙ sym (length-Borsh B y) in
     sym (drop-append_seam (BorshBytes B x) xs) ∙ (λ i. drop (n i) (e i)) ∙ drop-append_seam (BorshBytes B y) ys
 
--- a field tells its number
+-- a field determines its number
 number-same : (s : Bool) (B : ℕ) (x y : ℤ) (xs ys : List ℕ) → 1 ≤ B → InRange s B x → InRange s B y → BorshBytes B x ++ xs ≡ BorshBytes B y ++ ys → x ≡ y
 number-same s B x y xs ys h f g e =
     let n : length (BorshBytes B x) ≡ length (BorshBytes B y) = length-Borsh B x ∙ sym (length-Borsh B y) in

@@ -14,7 +14,7 @@ use arbitrary_int::prelude::*;
 /// The register of the seconds.
 #[derive(Clone, Copy, Debug, PartialEq, Eq)]
 pub struct Seconds {
-    /// Whether the clock stands still.
+    /// Whether the clock is stopped.
     pub stopped: bool,
     pub tens: u3,
     pub units: u4,
@@ -104,7 +104,7 @@ impl Digits {
         (self.tens.value() << 4) | self.units.value()
     }
 
-    /// Goes on by one, from 59 to 0, and tells whether it did the latter.
+    /// Increments the register, from 59 to 0, and returns whether it did the latter.
     pub fn go_on(&mut self) -> bool
         ensures units { self.old.units <ℤ pos 9 → self.new.units ≡ self.old.units +ℤ pos 1 }
         ensures tens { self.old.units <ℤ pos 9 → self.new.tens ≡ self.old.tens }

@@ -53,7 +53,7 @@ pub struct Machine {
 }
 
 impl Machine {
-    /// Executes one instruction. The counter then stands at the next one, or where the jump leads.
+    /// Executes one instruction. The counter is then at the next one, or at the target of the jump.
     pub fn step(&mut self, instruction: Instruction)
         ensures jump { instruction.operation ≡ pos 1
             → Congruent 12 self.new.counter (self.old.counter +ℤ instruction.amount) }

@@ -46,8 +46,8 @@ pub fn millivolts(sample: i12) -> i32
     sample.as_i32() * 2500 / 2048
 }
 
-/// The sum of the samples, from the first on, and `None` where a partial sum is out of range: it tells an
-/// overflow, also one that later samples would undo.
+/// The sum of the samples, from the first on, or `None` if a partial sum is out of range, even if later samples would undo the
+/// overflow.
 pub fn sum(samples: &[i12]) -> Option<i12>
     ensures { MatchOption result (¬ (PartialsFit true 12 (λ a b. a +ℤ b) (pos 0) samples.now))
         (λ x. PartialsFit true 12 (λ a b. a +ℤ b) (pos 0) samples.now

@@ -7,8 +7,8 @@ ghost use Rattle.arbitrary_int.specs.Runs.{RunOf};
 use arbitrary_int::prelude::*;
 use arbitrary_int::{Step, Stop, run, well_formed};
 
-/// Runs the steps and tells how that ended. Where a step names a register that is not there, nothing is
-/// done, and the result is `None`.
+/// Runs the steps and returns how the run ended. If a step names a register that does not exist, nothing runs, and the result is
+/// `None`.
 pub fn run_tested<R: FixedWidth>(steps: &[Step], registers: &mut [R]) -> Option<Result<(), Stop>>
     ensures none { IsNone result ↔ ¬ (All (StepWithin (length registers.old)) steps.now) }
     ensures ending { IfSome result

@@ -138,7 +138,7 @@ pub fn version(header: Header) -> u8
     header.version.into()
 }
 
-// Behind a reference: that a number is in range is told by its conversion.
+// Behind a reference: the conversion ensures that the number is in range.
 
 pub struct Reading {
     pub degrees: i14,

@@ -35,7 +35,7 @@ pub fn two_parts_by_xor(x: u12) -> bool
     (x & u12::new(0xFC0)) ^ (x & u12::new(0x03F)) == x
 }
 
-/// What was set, under a mask beside it.
+/// Bits that were set, under a mask that shares none of them.
 pub fn set_beside(x: u12) -> bool
     ensures { IsTrue result }
 {

@@ -5,7 +5,7 @@ ghost use Rattle.std.specs.Prelude.{◌≡◌, ◌/◌, ◌%◌, ◌*◌, ◌+�
 
 use arbitrary_int::prelude::*;
 
-/// The divider of a clock stands in bits 0 to 9, its source in bits 10 to 12, and bit 15 opens it.
+/// The divider of a clock is in bits 0 to 9, its source in bits 10 to 12, and bit 15 enables it.
 pub struct Clock {
     pub word: u32,
 }
@@ -91,7 +91,7 @@ pub fn halves_exchanged(x: u24) -> u24
     (x << 12) | (x >> 12)
 }
 
-// ---- what is beside a field
+// ---- the other bits of a field's word
 
 pub fn low_byte_below_a_field(control: u32, field: u6) -> bool
     ensures { IsTrue result }

@@ -18,7 +18,7 @@ pub fn signed_from_three_bytes(high: u8, middle: u8, low: u8) -> i24
     i24::from_bits((u32::from(high) << 16) | (u32::from(middle) << 8) | u32::from(low))
 }
 
-/// A sample of 20 bits that stands at the high end of three bytes.
+/// A sample of 20 bits at the high end of three bytes.
 pub fn signed_at_the_high_end(high: u8, middle: u8, low: u8) -> i20
     ensures { Congruent 20 result (pos (4096 * high + 16 * middle + low / 16)) }
 {

@@ -136,7 +136,7 @@ pub fn halves_what_differs() -> bool
     first.value() == -24
 }
 
-/// With a set of laws beside that of steps.
+/// With a second set of laws, next to that of steps.
 #[tactic(auto, using(arbitrary_laws::proofs::steps::Rulesets::steps, arbitrary_laws::proofs::bits::Rulesets::bits))]
 pub fn exchanged(a: u12, b: u12) -> bool
     ensures { IsTrue result }

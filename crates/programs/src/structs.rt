@@ -9,8 +9,8 @@ use arbitrary_int::prelude::*;
 
 // ---- behind references, and in a field
 
-/// Counts up to 127. The test goes by the number: `value` says that it is in range, a comparison of what
-/// stands behind the reference does not.
+/// Counts up to 127. The test reads the number by `value`, which ensures its range. A comparison of the value behind the
+/// reference does not.
 pub fn count(x: &mut u7)
     ensures below { x.old <ℤ pos 127 → x.new ≡ x.old +ℤ pos 1 }
     ensures last { x.old ≡ pos 127 → x.new ≡ x.old }
@@ -28,7 +28,7 @@ pub fn incremented(x: &mut u24)
     *x += u24::new(1);
 }
 
-/// Counts up to the greatest number, by a comparison of what stands behind the reference.
+/// Counts up to the greatest number, by a comparison of the value behind the reference.
 pub fn count_to_the_end(x: &mut u12) {
     if *x < u12::max_value() {
         *x += u12::new(1);

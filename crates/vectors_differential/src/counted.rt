@@ -58,7 +58,7 @@ fn powers_take_the_multiplications_of_squaring(rt: HostRuntime) {
         ],
         [None; 3]
     );
-    // The first squaring shows that a base is 0, 1 or -1, and tells each of their powers.
+    // The first squaring shows whether the base is 0, 1 or -1, whose powers need no further product.
     let squared_once = [(2, 1), (3, 1), (4, 1), (1000, 1), (u32::MAX, 1)];
     assert_eq!(rt;
         [

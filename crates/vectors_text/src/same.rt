@@ -3,8 +3,8 @@
 use std::fmt::Debug;
 use std::process::Abort;
 
-/// Fails where a call gave another value. What a test takes to prove is halved by a line of this in place of an assertion, which stands
-/// only where the lines after it need what it tells.
+/// Fails if a call returned another value. A line with this call takes half the time to prove that an assertion takes. So a test has an
+/// assertion only if the lines after it need the fact.
 pub fn same<T: PartialEq + Debug + Drop>(rt: &impl Abort, got: T, wanted: T) {
     assert_eq!(rt; got, wanted);
 }
