@@ -16,12 +16,13 @@ LIBRARIES = ['arbitrary_int', 'bit_fields', 'arbitrary_calls', 'arbitrary_versio
              BASE]
 HEAD = '''# The public items of the libraries
 
-[api_index.py](../tools/api_index.py) writes this page from the sources. A row has an item, the first sentence of its comment, and the names of
-its clauses; a clause without a name appears as `requires` or `ensures`. A call that is a link leads to its row with an example in
-[CALLS.md](CALLS.md). Import what you need from `arbitrary_int::prelude`, `arbitrary_int::traits` and `arbitrary_int`.
+This page lists the public items of the libraries by file: the item, the first sentence of its comment, and the names of its clauses. A clause
+without a name appears as `requires` or `ensures`. A linked call leads to its row with an example in [CALLS.md](CALLS.md). Import what you need
+from `arbitrary_int::prelude`, `arbitrary_int::traits` and `arbitrary_int`.
 
-Not listed are the 246 short names `u1` to `u127` and `i1` to `i127`, and calls that an `impl` has from its trait. [CALLS.md](CALLS.md#arithmetic)
-has the operators, and the forms of [text](CALLS.md#text).
+The page does not list the short names `u1` to `u127` and `i1` to `i127`, or calls that an `impl` has from its trait.
+[CALLS.md](CALLS.md#arithmetic) has the operators, and the forms of [text](CALLS.md#text). [api_index.py](../tools/api_index.py) writes this page
+from the sources.
 '''
 # Calls whose example is a text or a file, by the heading in docs/CALLS.md that has it.
 BY_HEADING = {
