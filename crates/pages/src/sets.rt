@@ -1,6 +1,6 @@
 //! Facts that the public sets prove, as docs/SETS.md lists them.
 
-ghost use Rattle.std.specs.Prelude.{◌≡◌, ◌<◌, ◌≤ℤ◌, pos, IsTrue};
+ghost use Rattle.std.specs.Prelude.{◌≡◌, ◌<◌, ◌≤ℤ◌, pos, IsTrue, Some};
 ghost use Rattle.arbitrary_int.specs.Residue.{Congruent};
 
 use arbitrary_int::prelude::*;
@@ -106,4 +106,19 @@ pub fn sample(word: u16) -> i12
     ensures { Congruent 12 result (pos word) }
 {
     i12::from_bits(word & 0xFFF)
+}
+
+#[tactic(auto, using(arbitrary_laws::proofs::Sets::bytes))]
+pub fn swapped_equal(x: u24, y: u24) -> bool
+    ensures { IsTrue result }
+{
+    (x.swap_bytes() == y.swap_bytes()) == (x == y)
+}
+
+#[tactic(auto, using(arbitrary_laws::proofs::Sets::steps))]
+pub fn last_of_range(low: u7, high: u7) -> Option<u7>
+    requires { low ≤ℤ high }
+    ensures { result ≡ Some high }
+{
+    range_inclusive(low, high).next_back()
 }
