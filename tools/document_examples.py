@@ -3,7 +3,7 @@
 
 Fails unless the gate proves or runs what the documents show. The examples in docs/CALLS.md and the table "In Rust you wrote" in
 docs/DIFFERENCES.md must be tests. The functions in the README and in docs/PROVING.md must be in crates/pages, and each line that these two pages
-call refused must be an edit there. docs/SETS.md must list every public set and group of laws, and each fact there must be in a crate that is
+call refused must be an edit there. What these pages quote of the prover's words must be in a line `says:` of an edit. docs/SETS.md must list every public set and group of laws, and each fact there must be in a crate that is
 proved. With --write the script writes the tests from the tables; run `rt fmt` in their crates afterwards.
 """
 import re
@@ -127,6 +127,14 @@ def refused():
     yield from re.findall(r'^Refused: `(.*)`$', (ROOT / 'docs/PROVING.md').read_text(), re.M)
 
 
+def quoted():
+    """What the pages quote of the prover's words: its messages, and the names of goals."""
+    for page in PAGES:
+        text = ' '.join((ROOT / page).read_text().split())
+        yield from re.findall(r'"(it is not proved [^"]*)"', text)
+        yield from (f'(`{goal}`)' for goal in re.findall(r'(?:Goal |\()`([\w-]+-requires[\w-]*|[\w-]+-result|bounds-[\w-]+|returns)`', text))
+
+
 def main():
     wrong = []
     modules = [(ROOT / 'crates' / module, calls(module)) for module in USES]
@@ -148,6 +156,8 @@ def main():
     for edit in edits:
         if not any(line in edit for line in lines):
             wrong.append(f'an edit of {PROVING}: not a line that {" or ".join(PAGES)} calls refused: {edit}')
+    said = ''.join(line for file in PROVING.glob('*/*.edit') for line in re.findall('^says: (.*)$', file.read_text(), re.M))
+    wrong += [f'no edit of {PROVING} requires that the prover says {words}' for words in quoted() if words not in said]
     wrong += sets()
     print('\n'.join(wrong) or 'examples of the documents: as they should be')
     return 1 if wrong else 0

@@ -50,7 +50,7 @@ FIGURES = [
     (r'(rattle-kit-\S+ logic \w+)', subprocess.check_output(['rt', 'version'], text=True).strip()),
 ]
 # Numbers above 128 that are examples or rules of style.
-OTHERS = {'200', '300', '400', '1000', '4094'}
+OTHERS = {'200', '1000'}
 
 
 def prose(text):

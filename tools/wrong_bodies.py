@@ -11,6 +11,8 @@ A file there is an edit as in `must-fail`, under a line that names the function 
     old: narrow(x.shl_by(amount), bits)
     new: narrow(x.shl_by(amount), T::WIDTH)
 
+A line `says: TEXT` requires that the prover prints this text, which a page quotes.
+
 One check tries many wrong bodies of a crate, each of another function in another place. It proves a function from the contracts of the functions
 that it calls, not from their bodies. If a called function is wrong too, the prover reports only that, and the caller waits for the next check.
 """
@@ -45,7 +47,7 @@ class WrongBody:
     """One edit. Each change is where in its file a text begins and ends, and the text in its place."""
 
     def __init__(self, path):
-        self.path, self.changes = path, []
+        self.path, self.changes, self.says = path, [], []
         for line in path.read_text().splitlines():
             word, text = line.split(': ', 1)
             if word == 'function':
@@ -53,6 +55,8 @@ class WrongBody:
             elif word == 'file':
                 self.file = text
                 whole = (path.parent.parent / text).read_text()
+            elif word == 'says':
+                self.says.append(text)
             elif word == 'old':
                 old = text
             elif word == 'new' and whole.count(old) == 1:
@@ -79,19 +83,21 @@ def tried(crate, bodies, uses):
             together = bool(judged)
             waiting = [it for it in waiting if it not in judged]
             for it in judged:
-                words, faults = said[it]
+                words, faults, missing = said[it]
                 if HANGS.search(words) or not REFUSED.match(words):
                     bad.append(f'{it.path}: NOT REFUSED: {it.function} is {words}')
                 elif not LENT.search(words) and all(map(UNNAMED.search, faults)):
                     bad.append(f'{it.path}: no clause was tried: {faults}')
+                elif missing:
+                    bad.append(f'{it.path}: the prover does not say: {missing}')
                 else:
                     print(f'{crate}: {it.path.stem}: refused', flush=True)
     return bad
 
 
 def checked(crate, room, bodies, uses):
-    """Checks as many of these wrong bodies as go in one check. Returns for each what the prover says of its function, and what it finds
-    wrong there."""
+    """Checks as many of these wrong bodies as go in one check. Returns for each what the prover says of its function, what it finds wrong there,
+    and what it does not say although the edit requires it."""
     folder = room / 'crate'
     shutil.rmtree(folder, ignore_errors=True)
     for part in PARTS:
@@ -117,7 +123,7 @@ def checked(crate, room, bodies, uses):
             goals.append(goal[1])
         elif function := re.match(rf'fn {crate}::(\S+): (.*)', line):
             found[function[1]], goals = (function[2], [*faults.get(function[1], []), *goals]), []
-    return {it: found.get(it.function, ('unknown', [])) for it in taken}
+    return {it: (*found.get(it.function, ('unknown', [])), [text for text in it.says if text not in said]) for it in taken}
 
 
 def command(crate, room, functions, uses, jobs=1):
