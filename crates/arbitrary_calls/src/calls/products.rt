@@ -12,12 +12,14 @@ use crate::low_bits::LowBits;
 use crate::stored::Stored;
 use arbitrary_base::{checked, overflowing, power, saturating, wrapping};
 
-/// Products, quotients and powers, which out of range wrap, saturate, are refused or are told.
+/// Products, quotients and powers. Out of range they wrap, saturate, are refused, or set a flag.
 ///
 /// In the contracts `number` is the number of a value, and the exact result is that of whole numbers
 /// without bounds. `wrap` of it is the type's number that is congruent to it modulo `2 ^ BITS`, and
 /// `clamp` of it the type's number that is nearest. A quotient is rounded toward zero; the only one that
-/// is out of range is the least signed number divided by -1.
+/// is out of range is the least signed number divided by -1. Each contract begins with the exact clause.
+/// `swap`, the range of what a call takes, and `width` say nothing of the result: the search for a proof
+/// uses them.
 pub trait ProductCalls: Stored + LowBits {
     /// The product, wrapped.
     final fn wrapping_mul(self, rhs: Self) -> Self
