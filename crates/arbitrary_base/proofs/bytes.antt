@@ -1,4 +1,5 @@
--- The bytes of a number, and streams of them: lemmas for src/byte_lists.rt and src/streams.rt, which crates above cite too. One on the number
--- of some bytes goes to the first file, one on a read or a write to the second. The definitions are in specs/Bytes.antt and specs/Stream.antt.
+-- Lemmas about the bytes of a number and about streams of bytes, for src/byte_lists.rt, src/streams.rt and
+-- crates above. Those about the number of bytes are in NumberOfBytes.antt, and those about a read or a write in
+-- StreamSteps.antt. The definitions are in specs/ByteLists.antt and specs/Streams.antt.
 pub mod NumberOfBytes
 pub mod StreamSteps

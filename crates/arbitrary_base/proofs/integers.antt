@@ -1,5 +1,5 @@
--- Lemmas over integers without bounds that std lacks, for any crate to cite, a file for each subject.
--- What needs a modulus or the range of a type goes to modular, and what needs a storage to storages.
+-- Lemmas over unbounded integers that std lacks, for any crate, with a file for each subject. A lemma with a
+-- modulus or the range of a type belongs to `modular`, and one with a storage to `storages`.
 pub mod Ring
 pub mod Quotient
 pub mod Powers

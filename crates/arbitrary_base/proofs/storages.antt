@@ -1,4 +1,4 @@
--- What the primitives and their arithmetic tell of the exact result.
+-- How the primitives and their arithmetic determine the exact result.
 pub mod Primitive
 pub mod CheckedSum
 pub mod Clamp

@@ -1,4 +1,4 @@
--- What ties the assigning form of an operator to the operator.
+-- How the assigning form of an operator relates to the operator.
 
 -- it may be made where the operator may, and gives what that gives
 pub record IsAssigned {S : Type 0} (can can_assign : S → S → Type 0) (gives assign_gives : S → S → S → Type 0) : Type 0 where

@@ -1,4 +1,4 @@
--- The laws of what wraps and of bit lists, as statements. `laws` proves them.
+-- The laws of wrapping and of bit lists, as statements. `laws` proves them.
 use Rattle.std.specs.Prelude.{◌≡◌, ◌≢◌, ◌↔◌, ℕ, ℤ, Bool, List, Option, Some, None, pos, length, reverse, int_div, IsTrue, if◌then◌else◌, ◌∷◌, ◌++◌, ◌||◌, ◌+◌, ◌≤◌, ◌<◌, ◌+ℤ◌, ◌-ℤ◌, ◌*ℤ◌, false, ◌^◌, ◌<ℤ◌, ◌*◌, map, not, take, drop, SomeIff}
 use Rattle.std.specs.Bool.{beq}
 use Rattle.std.specs.Ordering.{int_eq}

@@ -1,6 +1,6 @@
--- The order of numbers that have no sign is that of whole numbers. It stands here since an impl of this crate cites it, and a `ghost use` takes
--- nothing of its own crate but of specs.
--- This is a lemma, not a definition: the unsigned storages in src/storage have it as their `order_law`.
+-- The order of unsigned numbers is that of integers. This is a lemma, not a definition: the unsigned storages in
+-- src/storage have it as their `order_law`. It is here because a `ghost use` imports nothing of its own crate
+-- but `specs`.
 use Rattle.std.specs.Prelude.{◌≡◌, ℕ, pos}
 use Rattle.std.specs.Ordering.{int_cmp, nat_cmp}
 use Rattle.std.proofs.Common.{arith}

@@ -1,4 +1,4 @@
--- The laws of powers of whole numbers, as statements. `laws` of `power` proves them.
+-- The laws of powers of integers, as statements. `power_laws` of `power` proves them.
 use Rattle.std.specs.Prelude.{◌≡◌, ℕ, ◌+◌, ℤ, ◌*ℤ◌}
 use Rattle.std.specs.Int.{int_pow}
 

@@ -1,4 +1,4 @@
--- Which numbers a type has. A type is its sign s (true where it is signed) and its width B in bits.
+-- The numbers of a type. A type is its sign s (true if it is signed) and its width B in bits.
 use Rattle.std.specs.Prelude.{ℕ, ℤ, Bool, true, false, pos, neg_ℤ, ◌-ℤ◌, ◌≤ℤ◌, ◌-◌, ◌^◌, ◌&&◌, int_le}
 
 -- the least number

@@ -1,4 +1,4 @@
--- The nearest number that a type has.
+-- The nearest number of a type.
 use Rattle.std.specs.Prelude.{ℕ, ℤ, Bool, int_lt, if◌then◌else◌}
 use Rattle.arbitrary_base.specs.Range.{lo, hi}
 

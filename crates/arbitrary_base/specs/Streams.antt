@@ -1,4 +1,4 @@
--- What reading and writing leave.
+-- What a stream contains after a read or a write.
 use Rattle.std.specs.Prelude.{ℕ, List, take, Option}
 use Rattle.std.specs.Io.KnownBytes.{Appends}
 

@@ -1,4 +1,4 @@
-//! Arithmetic at `bits` bits that refuses: the exact result where the type has it, else `None`.
+//! Arithmetic at `bits` bits that refuses: the exact result if it is in range, otherwise `None`.
 
 ghost use Rattle.std.specs.Prelude.{◌≢◌, ◌≡◌, ◌&&◌, ◌≤◌, ◌+ℤ◌, ◌-ℤ◌, ◌*ℤ◌, neg_ℤ, pos, int_div, int_lt, SomeIff, option_map};
 ghost use Rattle.arbitrary_base.specs.Range.{InRange};

@@ -1,4 +1,4 @@
-//! The refusal of a number that a type does not have.
+//! The error for a number that is out of range.
 
 ghost use Rattle.std.specs.Prelude.{Some, codes};
 

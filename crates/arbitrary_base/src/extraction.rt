@@ -1,4 +1,5 @@
-//! A number out of the middle of another's bits, as a function over storages. `extraction` of `arbitrary_calls` has the call on the types.
+//! Some bits of a number as a number, as a function over storages. `extraction` of `arbitrary_calls` has the
+//! call on the types.
 
 ghost use Rattle.std.specs.Prelude.{◌≡◌, ◌≤◌, ◌+◌, take, drop};
 ghost use Rattle.arbitrary_base.specs.Range.{InRange};

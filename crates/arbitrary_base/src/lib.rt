@@ -1,6 +1,5 @@
-//! The ground that the integer types stand on: the primitive integers as storages, the truncation of a
-//! number at fewer bits, and the arithmetic and the operations on bits at a width, written once for every
-//! storage.
+//! The base of the integer types: the primitive integers as storages, the truncation of a number to fewer bits,
+//! and the arithmetic and the operations on bits at a width, written once for all storages.
 #![tactic(auto)]
 
 pub mod bitwise;

@@ -1,5 +1,5 @@
-//! Arithmetic at `bits` bits that tells an overflow: the wrapped result, and whether the exact one is
-//! out of range.
+//! Arithmetic at `bits` bits that reports an overflow: the wrapped result, and whether the exact one is out of
+//! range.
 
 ghost use Rattle.std.specs.Prelude.{◌≡◌, ◌≢◌, ◌↔◌, ◌≤◌, ◌+ℤ◌, ◌-ℤ◌, ◌*ℤ◌, neg_ℤ, pos, int_div, IsTrue};
 ghost use Rattle.arbitrary_base.specs.Range.{InRange};

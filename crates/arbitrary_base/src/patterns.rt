@@ -1,6 +1,6 @@
-//! The operations of bit lists on patterns. The pattern of a list of `width` bits is the number that it spells, the
-//! lowest bit first: a number below `2 ^ width`. The calls on bits of both types stand on these (`fixed_width` of
-//! `arbitrary_calls`), and `bitwise` beside this file; shifts, which know a sign, stand in `shifts`.
+//! The operations of bit lists on patterns. The pattern of a list of `width` bits, lowest bit first, is the
+//! unsigned number that it represents, which is below `2 ^ width`. The calls on bits of both types (`calls` of
+//! `arbitrary_calls`) and `bitwise` use these. Shifts, which depend on the sign, are in `shifts`.
 
 ghost use Rattle.std.specs.Prelude.{◌≡◌, ◌≤◌, ◌<◌, ◌%◌, ◌^◌, ◌++◌, pos, false, true, reverse, map, not, drop, take};
 ghost use Rattle.std.specs.Bool.{beq};

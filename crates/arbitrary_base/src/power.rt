@@ -1,4 +1,4 @@
-//! Powers that stop at the ends of a range.
+//! Powers that clamp at the ends of a range.
 
 ghost use Rattle.std.specs.Prelude.{◌≡◌, ◌≤◌, ◌<◌, ◌+◌, ◌*◌, ◌*ℤ◌, ◌<ℤ◌, length, pos, unsigned_abs, int_lt, MatchOption, SomeIff, option_map};
 ghost use Rattle.std.specs.Int.{int_pow};

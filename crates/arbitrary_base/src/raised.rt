@@ -1,5 +1,5 @@
-//! Numbers moved up to the storage's end: multiplied by `2 ^ (WIDTH - bits)`. There the range of `bits` bits is the
-//! storage's own, so that the processor tells an overflow.
+//! Numbers shifted up to the storage's end: multiplied by `2 ^ (WIDTH - bits)`. There the range of `bits` bits
+//! is that of the storage, so that the processor detects an overflow.
 
 ghost use Rattle.std.specs.Prelude.{◌≡◌, ◌↔◌, ◌≤◌, ◌<◌, ◌≢◌, ◌^◌, ◌-◌, ◌+ℤ◌, ◌*ℤ◌, true, pos, negsuc, IsTrue};
 ghost use Rattle.std.specs.Int.{int_shr};

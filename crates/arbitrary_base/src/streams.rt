@@ -1,6 +1,6 @@
-//! A known number of bytes in, and all of some bytes out. After a fault no call is made again. Values in a stream
-//! (`borsh` of `arbitrary_int`) stand on these. A call may not be tried again, not even an interrupted one: `Watched`
-//! counts each failure.
+//! Reads a known number of bytes, and writes all of some bytes. After a fault it makes no further call. `borsh`
+//! of `arbitrary_int` uses these for values in a stream. No call is repeated, not even an interrupted one,
+//! because `Watched` counts each failure.
 
 ghost use Rattle.std.specs.Prelude.{◌<◌, ◌⊎◌, length, IfSome, OnOk, OnErr};
 ghost use Rattle.std.specs.Io.KnownBytes.{Appends, Consumes};

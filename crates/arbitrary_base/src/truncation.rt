@@ -1,5 +1,5 @@
-//! Truncation: a storage's number at fewer bits, and a pattern at 128. The modules `wrapping`, `bitwise` and `shifts` are a call
-//! of std's with one from here, which puts the result into the range.
+//! Truncation: a storage's number to fewer bits, and a pattern of 128 bits. The modules `wrapping`, `bitwise`
+//! and `shifts` call std and then a function of this module, which puts the result into the range.
 
 ghost use Rattle.std.specs.Prelude.{◌≡◌, ◌≤◌, ◌<◌, ◌+◌, ◌%◌, ◌^◌, ◌-ℤ◌, ◌↔◌, pos, neg_ℤ, IsTrue};
 ghost use Rattle.std.specs.Ordering.{int_cmp, int_eq};

@@ -1,4 +1,4 @@
-//! A reader or a writer, and whether and how often its calls have failed.
+//! A reader or a writer that counts its failed calls.
 
 ghost use Rattle.std.specs.Prelude.{◌≡◌, ◌<◌, false, length, IfOk, OnOk, OnErr};
 ghost use Rattle.std.specs.Io.{ReadsAtMost, WritesAtMost};

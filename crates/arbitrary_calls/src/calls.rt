@@ -1,6 +1,7 @@
-//! What every integer of fixed width can do, each call written once for both types. A trait a topic: sums and differences,
-//! products with quotients and powers, shifts with rotations, and counts of bits. They require little, so that a caller's
-//! proof carries little: `FixedWidth`, with the operators and the laws of generic code, is above them.
+//! The calls of integers of fixed width, each written once for both types, with one trait for each topic: sums
+//! and differences; products, quotients and powers; shifts and rotations; counts of bits. These traits require
+//! little, so that a caller's proof loads little. `FixedWidth`, which has the operators and the laws of generic
+//! code, requires them.
 
 use crate::extraction::Extraction;
 use crate::low_bits::LowBits;

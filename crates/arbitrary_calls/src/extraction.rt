@@ -1,4 +1,4 @@
-//! The value of some bits of a wider word, by the function of `extraction` of `arbitrary_base`.
+//! Some bits of a wider word as a value, by `extraction` of `arbitrary_base`.
 
 ghost use Rattle.std.specs.Prelude.{◌≡◌, ◌≤◌, ◌+◌, ◌/◌, ◌%◌, ◌^◌, pos, false, take, drop};
 ghost use Rattle.arbitrary_base.specs.Residue.{Congruent, wrap};

@@ -1,4 +1,4 @@
-//! What generic code knows of the operators and calls of an integer of fixed width. The calls stand in `calls`.
+//! What generic code knows of the operators and calls of an integer of fixed width. `calls` has the calls.
 
 ghost use Rattle.std.specs.Prelude.{not, Bool, ℕ, ◌&&◌, ◌||◌, ◌⊎◌, ◌≡◌, ◌≢◌, ◌≤◌, ◌<◌, ◌+◌, ◌-◌, ◌%◌, ◌^◌, ◌+ℤ◌, ◌-ℤ◌, ◌*ℤ◌, ◌≤ℤ◌, ℤ, pos, unsigned_abs, false, true};
 ghost use Rattle.std.specs.Bool.{beq};
@@ -72,9 +72,9 @@ pub trait FixedWidth: Integer + FixedWidthCalls {
     ghost greater_law: { (a b : Self) → let r = ord_max Self.cmp a b in
         (r ≡ r) × (Self.number a ≤ℤ Self.number r) × (Self.number b ≤ℤ Self.number r) };
 
-    // For proofs in generic code, where the check knows of an operator or a call what these laws say, and takes no set beside them. They are
-    // over functions of values: a law on numbers would be tried at each number of equal value. But for those that turn operands round, none
-    // makes a call of the kind that fires it, or the search would not end: so some name a value twice, by an equation.
+    // For proofs in generic code, where the search has these laws and no set. They are over functions of values, because a law on numbers
+    // would be tried at each number of equal value. Only laws that swap operands make a call of the kind that they apply to, or the search
+    // would not end. So some laws name a value twice, by an equation.
     ghost bit: { (a : Self) → Place Self.BITS → Bool };
 
     ghost value_of: { (x : ℤ) → Self };
@@ -415,7 +415,7 @@ pub trait FixedWidth: Integer + FixedWidthCalls {
     ghost sum_of_negated: { (a b c : Self) → Self.valid → c ≡ difference_of (value_of (pos 0)) b
         → sum_of a c ≡ difference_of a b };
 
-    // Without a sign the greatest number less another is its complement, told where that stands too.
+    // Without a sign, the greatest number minus another is its complement. The law applies where the complement is computed too.
     ghost rest_law: { (a b c r : Self) → Self.sub_gives a b r → Self.not_gives b c → Self.valid
         → Self.IS_SIGNED ≡ false → Self.number a ≡ hi Self.IS_SIGNED Self.BITS → r ≡ c };
 

@@ -1,5 +1,6 @@
-//! The bits of the values of `UInt` and `Int`, with none above them. The calls on bits take these, and sums and products that
-//! wrap; the others take the number in its storage (`stored`). A further representation needs an impl in both.
+//! The bits of the values of `UInt` and `Int`, with zeros above them. The calls on bits use these, and so do
+//! sums and products that wrap. The others use the number in its storage (`stored`). A further representation
+//! needs an impl of both.
 
 ghost use Rattle.std.specs.Prelude.{◌≡◌, ◌≤◌, ◌<◌, ◌^◌};
 ghost use Rattle.arbitrary_base.specs.Range.{InRange};

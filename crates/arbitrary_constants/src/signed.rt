@@ -1,4 +1,4 @@
-//! The constants of `Int`, in each storage; `unsigned` beside this file has those of `UInt`.
+//! The constants of `Int`, in each storage. `unsigned` has those of `UInt`.
 
 ghost use Rattle.std.specs.Prelude.{◌≡◌, ◌+ℤ◌, ◌-ℤ◌, ◌-◌, ◌^◌, neg_ℤ, nat_eq, if◌then◌else◌, pos, true, refl};
 ghost use Rattle.std.proofs.Common.{true≢false};

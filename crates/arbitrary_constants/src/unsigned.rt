@@ -1,4 +1,4 @@
-//! The constants of `UInt`, in each storage; `signed` beside this file has those of `Int`.
+//! The constants of `UInt`, in each storage. `signed` has those of `Int`.
 
 ghost use Rattle.std.specs.Prelude.{◌-◌, ◌^◌, pos, false, refl};
 ghost use Rattle.std.proofs.Math.Nat.{sub-add_cancel};

@@ -1,5 +1,5 @@
-//! The integer types whose width is valid, shown by a trait: so generic code makes a number of the type, and
-//! requires no valid width of whoever calls it.
+//! The integer types whose width is valid, as a trait. So generic code makes a number of the type, and its
+//! callers need not prove the width.
 
 ghost use Rattle.std.specs.Prelude.{◌≤ℤ◌, ◌<ℤ◌, pos, true, false};
 ghost use Rattle.arbitrary_base.specs.Range.{lo, hi};

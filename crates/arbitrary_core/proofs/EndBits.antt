@@ -1,4 +1,4 @@
--- Why the bits of 0, of the least and of the greatest number are those that the constants of `Int` are made of.
+-- Why the constants of `Int` have the bits of 0, of the least and of the greatest number.
 use Rattle.std.specs.Prelude.{◌≡◌, ◌≢◌, ℕ, ℤ, Bool, true, false, pos, neg_ℤ, ◌+ℤ◌, ◌-ℤ◌, ◌-◌, ◌+◌, ◌^◌, ◌≤◌, ◌<◌}
 use Rattle.std.proofs.Common.{arith, sym, subst, ◌∙◌}
 use Rattle.std.proofs.lemmas.Int.{ints}

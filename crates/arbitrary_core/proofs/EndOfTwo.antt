@@ -1,4 +1,4 @@
--- The lesser and the greater of two numbers, by bounds.
+-- The lesser and the greater of two numbers as bounds.
 use Rattle.std.specs.Prelude.{ℤ, ◌≤ℤ◌}
 use Rattle.std.specs.Ordering.{int_cmp, ord_max, ord_min}
 use Rattle.std.specs.Cmp.{int_ranks}

@@ -1,4 +1,5 @@
--- What a fact on numbers that are not below zero says of natural ones: how the clauses of `& | ^` of a signed type read.
+-- What a fact on numbers of at least 0 states about natural numbers, for the clauses of `& | ^` of a signed
+-- type.
 use Rattle.std.specs.Prelude.{◌≡◌, ℕ, ℤ, pos, unsigned_abs, ◌≤◌, ◌≤ℤ◌}
 use Rattle.std.proofs.Common.{arith, ap, ap₂, sym, ◌∙◌}
 use Rattle.std.proofs.lemmas.Int.{ints}

@@ -1,4 +1,4 @@
--- The bits of a number less those of the least one, in the storage: their order is that of the numbers.
+-- The bits of a number minus those of the least one, in the storage: their order is that of the numbers.
 use Rattle.std.specs.Prelude.{◌≡◌, ◌<ℤ◌, ◌≤ℤ◌, ℕ, ℤ, Bool, true, false, pos, ◌+ℤ◌, ◌-ℤ◌, ◌-◌, ◌^◌, ◌≤◌}
 use Rattle.std.specs.Ordering.{MatchOrdering, int_cmp}
 use Rattle.std.specs.Cmp.{int_cmp_is, int_ranks}

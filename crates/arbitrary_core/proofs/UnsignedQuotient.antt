@@ -1,4 +1,4 @@
--- A quotient of two numbers that are not below zero is in range.
+-- A quotient of two numbers of at least 0 is in range.
 use Rattle.std.specs.Prelude.{◌≡◌, ℤ, ℕ, Bool, true, false, pos, negsuc, int_div}
 use Rattle.std.proofs.Common.{arith, div-le_self}
 use Rattle.std.proofs.lemmas.Int.{ints}

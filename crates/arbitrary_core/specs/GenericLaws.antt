@@ -1,6 +1,7 @@
--- Further laws of `FixedWidth` for generic code, in groups. A group is shut, and takes nothing from a search, until a file opens it by
--- `#![tactic(auto, unfolding(arbitrary_int::specs::GenericLaws::SumLaws))]`. Each group is over the functions of values that `FixedWidth`
--- has, and names no value: laws of 0 would be tried at it.
+-- Further laws of `FixedWidth` for generic code, in groups. A group is closed and costs the search nothing until
+-- a file opens it by `#![tactic(auto, unfolding(arbitrary_int::specs::GenericLaws::SumLaws))]`. Each group is
+-- over the functions of values that `FixedWidth` has. It names no value, because the search would try laws of 0
+-- at it.
 use Rattle.std.specs.Prelude.{◌≡◌, ◌+◌, ◌%◌, ◌≤◌, ℕ, ℤ, Bool, true, false, pos}
 use Rattle.arbitrary_base.proofs.operations.Amount.{Amount, amount}
 
@@ -34,7 +35,7 @@ ProductLaws {S} B valid left difference product =
     × ((a b c : S) (m k : ℕ) → valid → m ≡ k % B → c ≡ difference a b → left c (amount B m) ≡ difference (left a (amount B m)) (left b (amount B m)))
     × ((a b c : S) (m k : ℕ) → valid → m ≡ k % B → c ≡ product a b → left c (amount B m) ≡ product (left a (amount B m)) b)
 
--- shifts beside `&`, `!` and the reversal
+-- shifts with `&`, `!` and the reversal
 unfoldable pub MovedBitLaws : {S : Type 0} (signed : Bool) (B : ℕ) (valid : Type 0) (fits : S → Bool) (value_of : ℤ → S) (left right : S → Amount B → S) (both : S → S → S) (complement back : S → S) → Type 0
 MovedBitLaws {S} signed B valid fits value_of left right both complement back =
     ((a b : S) (m k : ℕ) → valid → signed ≡ false → m ≡ k % B → b ≡ left a (amount B m) → right b (amount B m) ≡ both a (right (complement (value_of (pos 0))) (amount B m)))

@@ -1,4 +1,5 @@
-//! The constant `BITS` of each short name and each full width, as `u7::BITS`. In generic code it is that of `Numbered`.
+//! The constant `BITS` of each short name and each full width, such as `u7::BITS`. Generic code uses that of
+//! `Numbered`.
 
 pub mod signed_to_128;
 pub mod signed_to_64;

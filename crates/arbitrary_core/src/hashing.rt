@@ -1,7 +1,5 @@
-//! Both types as keys: what a hasher is fed is what it is fed for the number in the storage.
-//!
-//! `agreement` has the laws that join the hash to equality and order, which stand in `comparisons`: change these
-//! together.
+//! Both types as keys: a hasher is fed what it is fed for the number in the storage. `agreement` has the laws
+//! that relate the hash to equality and order in `comparisons`. Change these together.
 
 pub mod agreement;
 pub mod signed;

@@ -1,7 +1,6 @@
-//! `UInt` and `Int` as integer types: the contract of `Integer`, met through their own calls.
-//!
-//! The clauses stand in `arbitrary_traits`, in `integer.rt`, and the primitives meet them too: change them there. What a
-//! call of the two types does stands in `unsigned.rt` and `signed.rt` beside this file.
+//! `UInt` and `Int` as integer types: they meet the contract of `Integer` by their own calls. The clauses are in
+//! `integer.rt` of `arbitrary_traits`. The primitives meet them too, so change them there. `unsigned.rt` and
+//! `signed.rt` have what a call does.
 
 pub mod signed;
 pub mod unsigned;

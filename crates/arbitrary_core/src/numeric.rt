@@ -1,8 +1,7 @@
-//! Both types under the traits of `num_traits`: `WrappingAdd`, `WrappingSub`, and the parents that these require.
-//!
-//! There a value's integer is its number, and the truncation of an integer is `wrap`. These stand at every width,
-//! also one that is not shown to be valid; those that need a value, as the least number of `Bounded`, stand
-//! in `bounds`.
+//! The traits of `num_traits` for both types: `WrappingAdd`, `WrappingSub`, and the parents that these require.
+//! There a value's integer is its number, and the truncation of an integer is `wrap`. They are implemented at
+//! every width, also one that is not known to be valid. `bounds` has those that need a value, such as the least
+//! number of `Bounded`.
 
 pub mod laws;
 pub mod signed;

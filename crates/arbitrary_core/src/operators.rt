@@ -1,5 +1,5 @@
-//! The arithmetic operators and their assigning forms, exact: you show that the result is in range. The two files have
-//! one operator in the same words, so change both. Calls that wrap, clamp or refuse stand in `arbitrary_calls`.
+//! The arithmetic operators and their assigning forms. You prove that the exact result is in range.
+//! tools/twins.py compares the two files. The calls that wrap, clamp or refuse are in `arbitrary_calls`.
 
 pub mod signed;
 pub mod unsigned;

@@ -1,7 +1,6 @@
-//! Values as binary, octal and hexadecimal text: the number where it is not negative, and below 0 the two's
-//! complement of the storage.
-//!
-//! Contracts say what is written for storages of at most 64 bits, as std's do; tests show the wider ones.
+//! Values as binary, octal and hexadecimal text: the number if it is at least 0, otherwise the two's complement
+//! of the storage. Contracts state the text for storages of at most 64 bits, as std's do, and tests cover the
+//! wider ones.
 
 ghost use Rattle.std.specs.Prelude.{◌≡◌, ◌≤◌, ◌≤ℤ◌, pos, true, false, unsigned_abs};
 ghost use Rattle.std.specs.Fmt.{WritesOnOk, digits};

@@ -1,7 +1,6 @@
-//! The shift operators of both types: `Int` moves its bits up, and its number down.
-//!
-//! The moving itself is `arbitrary_base::shifts`, and `ShiftAmount` of `arbitrary_traits` makes a number of places of an
-//! amount. Shifts that take any amount are calls of `arbitrary_calls`. A clause in one file has its like in the other.
+//! The shift operators of both types. `<<` shifts the bits of an `Int`, and `>>` its number.
+//! `arbitrary_base::shifts` does the shift, and `ShiftAmount` of `arbitrary_traits` converts the amount. The
+//! calls that accept any amount are in `arbitrary_calls`. tools/twins.py compares the two files.
 
 pub mod signed;
 pub mod unsigned;

@@ -42,7 +42,7 @@ impl<T: SignedStorage, const BITS: usize, U: UnsignedOf<T>> Model for Int<T, BIT
     // The pattern, truncated to the width, in two's complement.
     ghost view = { λ a. wrap T.SIGNED BITS (U.number a.bits) };
 
-    // The number is in range, and the bits are its pattern: zeros stand above the width.
+    // The number is in range, and the bits are its pattern: the bits above the width are zero.
     ghost invariant = { λ a. let number = wrap T.SIGNED BITS (U.number a.bits) in
         IsInRange 1 T.WIDTH BITS × InRange T.SIGNED BITS number
         × (pos (residue BITS number) ≡ U.number a.bits) };

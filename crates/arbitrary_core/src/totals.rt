@@ -1,5 +1,5 @@
-//! Exact sums and products of many values, under std's `Sum` and `Product`: the precondition is that each total on the way
-//! is in range. The impls of `UInt` stand in `unsigned`, those of `Int` in `signed`; here is the loop of each.
+//! Exact sums and products of many values by std's `Sum` and `Product`. The precondition is that each partial
+//! result is in range. `unsigned` has the impls of `UInt`, `signed` those of `Int`, and this file the loops.
 
 ghost use Rattle.std.specs.Prelude.{◌≡◌, List};
 ghost use Rattle.std.specs.Iterator.{Drains, HoldsAlong, IsFinite};

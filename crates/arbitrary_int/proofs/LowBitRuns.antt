@@ -1,4 +1,4 @@
--- Why the low bits of a run at a wide type are those of the run at a narrow one.
+-- Why a run at a wide type has the same low bits as the run at a narrow type.
 use Rattle.std.specs.Prelude.{◌≡◌, ℕ, ℤ, Bool, pos, ◌+◌, ◌%◌, ◌≤◌, ◌<◌, List, [], ◌∷◌, ◌++◌, length, map, take, get_or, set, Result, Ok, Err, ⊤, ◌+ℤ◌, ◌-ℤ◌, ◌*ℤ◌, All}
 use Rattle.std.specs.Result.{result_map_both}
 use Rattle.std.proofs.Common.{arith, refl, ap, sym, ◌∙◌, mod-eq_of_lt}

@@ -1,4 +1,5 @@
--- Why a run of checked sums, differences, products and quotients is the same at each type that has the range.
+-- Why a run of checked sums, differences, products and quotients is the same at each type with at least the
+-- range.
 use Rattle.std.specs.Prelude.{◌≡◌, ℕ, ℤ, Bool, true, false, pos, ◌+◌, ◌≤◌, ◌<◌, List, [], ◌∷◌, length, take, drop, get_or, set, Result, Ok, Err, ok_or, ⊤, int_le, int_div, ◌&&◌, All}
 use Rattle.std.specs.Bool.{then_some}
 use Rattle.std.specs.Ordering.{int_eq}

@@ -1,4 +1,4 @@
--- Whole numbers in a row, and how far one is from another.
+-- Consecutive integers, and the distance of two integers.
 use Rattle.std.specs.Prelude.{◌≡◌, ◌^◌, ℕ, ◌-◌, Bool, ℤ, pos, negsuc, ◌+ℤ◌, ◌-ℤ◌, ◌≤ℤ◌, ◌<ℤ◌, true, IfSome, List, [], map, Option, Some, None, if◌then◌else◌, nat_lt}
 use Rattle.std.specs.Int.{int_gap}
 use Rattle.std.specs.Iterator.Runs.{Run, AnyItem, ItemsMapTo}

@@ -1,4 +1,4 @@
--- What a list of steps does, by whole numbers and bit lists. No storage comes into it.
+-- What a list of steps does, over integers and bit lists, with no storage.
 use Rattle.std.specs.Prelude.{ℕ, ℤ, Bool, ◌+◌, List, [], ◌∷◌, Result, Ok, Err, ⊤}
 use Rattle.arbitrary_int.specs.Steps.{meaning}
 use Rattle.arbitrary_int.specs.declared.steps.Step.{Step}

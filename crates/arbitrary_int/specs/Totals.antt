@@ -1,4 +1,4 @@
--- Sums and products of what an iterator gives.
+-- Sums and products of the items of an iterator.
 use Rattle.std.specs.Prelude.{◌≡◌, ℕ, ℤ, Bool, List, ◌∷◌, map, Option, MatchOption}
 use Rattle.std.specs.Iterator.Runs.{SomeRun, WholeRun}
 use Rattle.std.specs.List.{AllByRecursion, fold, scan}

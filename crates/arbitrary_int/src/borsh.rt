@@ -1,4 +1,4 @@
-//! Values in a stream, in the Borsh form.
+//! Values in a stream of Borsh bytes.
 
 ghost use Rattle.std.specs.Prelude.{◌≡◌, ◌≤◌, ℕ, pos, false, true, List, length, take, drop, IfOk, IfSome, OnOk, OnErr, MatchOption};
 ghost use Rattle.std.specs.Int.{div_ceil};

@@ -1,9 +1,8 @@
-//! Laws of the calls on bytes, each as a function that makes the calls and ensures what the law says.
-//! That a number is in range is told by `to_u128_bits`.
+//! Laws of the calls on bytes. Each function makes the calls and ensures the law. `to_u128_bits` ensures that a
+//! number is in range.
 //!
-//! A clause here speaks of numbers alone, so a body without the calls could meet it too. What a function
-//! shows is that its own body does: it follows from what the calls it makes ensure, and a caller who makes
-//! the same calls has it likewise.
+//! A clause here is about numbers alone, so a body without the calls could meet it too. The proof uses only what
+//! the calls ensure, so a caller who makes the same calls knows the same.
 
 ghost use Rattle.std.specs.Prelude.{◌≡◌, ◌↔◌, IsTrue, MatchOption};
 

@@ -1,6 +1,6 @@
-//! What most programs use: the types, their short names, the traits that give them their calls, and what sums,
-//! ranges and streams take. Each row of docs/CALLS.md compiles with this one import, so a new name of a row goes here.
-//! `traits` has the bounds of generic code too.
+//! What most programs import: the types, their short names, the traits with their calls, and the items for sums,
+//! ranges and streams. Each row of docs/CALLS.md compiles with this one import, so add the name of a new row
+//! here. `traits` also has the bounds of generic code.
 
 pub use crate::borsh::{BorshDeserialize, BorshSerialize};
 pub use crate::byte_orders::ByteOrders;

@@ -182,7 +182,7 @@ fn apply<R: FixedWidth>(step: &Step, registers: &mut [R]) -> Result<(), Why>
     Ok(())
 }
 
-/// The steps in order, up to the first that stops. That one writes nothing, and is told by its place.
+/// The steps in order, up to the first that stops. That one writes nothing, and the result has its place.
 ///
 /// Afterwards the numbers of the registers, and the ending, are those that `RunOf` gives: the
 /// arithmetic of whole numbers and bit lists, whatever the storage. The precondition is that each register

@@ -1,4 +1,4 @@
-//! Steps: each reads one or two registers and writes one.
+//! Steps. Each reads one or two registers and writes one.
 
 /// What a step makes of two registers.
 #[derive(Clone, Copy, Debug, PartialEq, Eq)]

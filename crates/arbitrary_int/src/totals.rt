@@ -1,5 +1,5 @@
-//! Sums and products of many values, from the left, that refuse a total out of range. `totals` of `arbitrary_core` has those of std, which
-//! require that each total is in range.
+//! Sums and products of many values, from the left, which refuse a partial result out of range. `totals` of
+//! `arbitrary_core` has std's, which require that each partial result is in range.
 
 ghost use Rattle.std.specs.Prelude.{◌+ℤ◌, ◌*ℤ◌, pos, SomeIff, option_map};
 ghost use Rattle.arbitrary_base.specs.Range.{InRange};

@@ -1,4 +1,5 @@
-//! Lists of steps on wide registers of which the low bits are wanted. `widths` of `arbitrary_core` is about the widths of a storage.
+//! Lists of steps on wide registers whose low bits are used. `arbitrary_widths` is about the widths of a
+//! storage.
 
 ghost use Rattle.std.specs.Prelude.{◌≡◌, ◌<◌, ◌≤◌, map, length, Ok, All};
 ghost use Rattle.arbitrary_int.specs.Widths.{IsLowBit};

@@ -1,4 +1,4 @@
--- Why a number can go from one type to another through its bits.
+-- Why a number converts from one type to another through its bits.
 use Rattle.std.specs.Prelude.{◌≡◌, ◌≤◌, ◌^◌, ◌<◌, ◌-◌, ◌||◌, ◌≤ℤ◌, ◌%◌, ℕ, ℤ, Bool, true, false, pos, negsuc, unsigned_abs}
 use Rattle.std.specs.Bool.{OnTrue}
 use Rattle.std.proofs.Common.{◌∙◌, ap, arith, subst}

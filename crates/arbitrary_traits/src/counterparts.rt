@@ -1,4 +1,4 @@
-//! The types of one width, without and with a sign: what ties them.
+//! The unsigned and the signed type of one width, and how they relate.
 
 ghost use Rattle.std.specs.Prelude.{◌≡◌};
 ghost use Rattle.std.proofs.Common.{refl};

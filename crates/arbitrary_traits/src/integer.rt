@@ -1,6 +1,6 @@
-//! The integer traits `Integer`, `UnsignedInteger` and `SignedInteger`, with the contract of each call. The primitives
-//! meet it in `primitives`, and `UInt` and `Int` in `arbitrary_core`, with a body for each call. A call with one body for
-//! all stands in a trait that requires less: of `numbered`, or of `arbitrary_calls`.
+//! The traits `Integer`, `UnsignedInteger` and `SignedInteger`, with the contract of each call. `primitives` has
+//! the bodies for the primitives, and `arbitrary_core` those for `UInt` and `Int`. A call with one body for all
+//! types belongs to a trait that requires less, in `numbered` or in `arbitrary_calls`.
 
 ghost use Rattle.std.specs.Prelude.{◌≡◌, ◌≢◌, ◌<◌, ◌^◌, ◌+ℤ◌, ◌-ℤ◌, ◌*ℤ◌, ℤ, true, false, pos, neg_ℤ, Some, MatchResult, int_div, map, not};
 ghost use Rattle.std.specs.Ordering.{int_cmp, int_eq};

@@ -1,5 +1,5 @@
-//! What every integer type of a number of bits can do, for the primitive integers: numbers of any
-//! width are told apart by their sign and their width alone.
+//! The traits of integers of any width, and their impls for the primitives. In contracts a type is its sign and
+//! its width alone.
 #![tactic(auto)]
 
 pub mod counterparts;

@@ -1,5 +1,6 @@
-//! The trait `Numbered`: the width, the sign and the number of a value, and the conversions between any two such types,
-//! each written once. It requires little, so that a caller's proof carries little: `Integer`, which has the operators, is above it.
+//! The trait `Numbered`: the width, the sign and the number of a value, and the conversions between any two such
+//! types, each written once. It requires little, so that a caller's proof loads little. `Integer`, which has the
+//! operators, requires it.
 
 ghost use Rattle.std.specs.Prelude.{◌≡◌, ◌≤◌, ◌<◌, ◌%◌, ◌^◌, ◌||◌, ℕ, ℤ, Bool, true, false, pos, not, unsigned_abs};
 ghost use Rattle.std.specs.Bool.{OnTrue};

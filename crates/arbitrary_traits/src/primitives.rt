@@ -1,4 +1,5 @@
-//! The primitive integers, as integer types, by their calls as storages: every width is valid, and every value is in range.
+//! The primitive integers as integer types, by their calls as storages. Every width is valid, and every value is
+//! in range.
 
 ghost use Rattle.std.specs.Prelude.{◌≡◌, ◌≢◌, ◌+ℤ◌, ◌-ℤ◌, ◌*ℤ◌, ⊤, pos, Some, int_div, map, not};
 ghost use Rattle.std.specs.Ordering.{int_eq};

@@ -1,4 +1,4 @@
-//! How many bits a storage has at most.
+//! The greatest number of bits of a storage.
 
 ghost use Rattle.std.specs.Prelude.{◌≤◌};
 ghost use Rattle.std.proofs.Common.{lit≤};

@@ -1,4 +1,4 @@
-//! How many bits a storage has at least.
+//! The least number of bits of a storage.
 
 ghost use Rattle.std.specs.Prelude.{◌≤◌};
 ghost use Rattle.std.proofs.Common.{lit≤};

@@ -1,4 +1,4 @@
--- Why a put sets its field and nothing else, and why the order of puts to disjoint fields doesn't matter.
+-- Why a put sets its field and nothing else, and why the order of puts to disjoint fields does not matter.
 use Rattle.std.proofs.Common.{◌≡◌, ℕ, zero, suc, ◌+◌, ◌-◌, ◌≤◌, ◌<◌, ◌^◌, ◌⊎◌, inl, inr, Bool, false, List, [], ◌∷◌, ◌++◌, length, take, drop, get_or, pos, refl, sym, ap, ◌∙◌, subst, arith, length-append, length-take, length-drop, append_assoc}
 use Rattle.std.specs.List.{replace_range}
 use Rattle.std.specs.Prelude.{All, AllPairs, Any, Contains, IsPermutation}

@@ -1,4 +1,4 @@
--- Masks and shifts write a field of a word.
+-- Why masks and shifts write a field of a word.
 use Rattle.std.proofs.Common.{◌≡◌, ℕ, ◌+◌, ◌-◌, ◌*◌, ◌/◌, ◌%◌, ◌^◌, ◌≤◌, ◌<◌, ◌++◌, length, take, drop, length-append, length-take, pos, refl, sym, ap, ◌∙◌, subst, arith, mod-lt, mod-eq_of_lt, pow-add, lt_of_lt_of_le, bit_and, bit_or}
 use Rattle.std.proofs.Math.Nat.{div-add-mod', div-div-eq-div-mul, div-lt_iff_lt-mul, mul-lt-mul_of_pos_right}
 use Rattle.std.proofs.lemmas.Nat.{pow_pos, and_block, or_block, or_shifted, and_mask}

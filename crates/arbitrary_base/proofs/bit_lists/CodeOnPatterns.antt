@@ -1,4 +1,4 @@
--- What the code computes on a pattern, as an operation on its bits.
+-- The code on a pattern computes an operation on its bits.
 use Rattle.std.proofs.Common.{◌≡◌, ℕ, ◌+◌, ◌-◌, ◌*◌, ◌/◌, ◌%◌, ◌^◌, ◌<◌, ◌≤◌, min, true, false, ◌++◌, reverse, length, replicate, pos, refl, sym, ap, ap₂, ◌∙◌, subst, arith, mod-lt, mod-eq_of_lt, length-append, lt_of_lt_of_le, div-one}
 use Rattle.std.specs.Bool.{beq}
 use Rattle.std.specs.List.{slice_rotate_right, count_by, prefix_len, suffix_len}

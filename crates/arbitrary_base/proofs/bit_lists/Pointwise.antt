@@ -1,4 +1,4 @@
--- Bit lists taken together item by item, whatever is done to two items, and the laws of `and`, `or`, `xor` and `not` on them.
+-- Bit lists combined item by item with any operation, and the laws of `and`, `or`, `xor` and `not` on them.
 use Rattle.std.specs.Bool.{beq}
 use Rattle.std.specs.List.{slice_rotate_right, zip}
 use Rattle.std.specs.Prelude.{Bool, List, [], drop, false, get_or, length, map, not, replicate, reverse, suc, take, true, zero, ℕ, ◌&&◌, ◌++◌, ◌-◌, ◌||◌, ◌∷◌, ◌≡◌}

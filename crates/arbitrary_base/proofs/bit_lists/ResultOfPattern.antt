@@ -1,4 +1,4 @@
--- From the pattern that the code computes to the number that it gives.
+-- From the pattern that the code computes to the number of the result.
 use Rattle.std.specs.List.{slice_rotate_right}
 use Rattle.std.specs.Prelude.{Bool, List, drop, length, map, not, pos, replicate, reverse, take, ℕ, ℤ, ◌%◌, ◌+◌, ◌/◌, ◌<◌, ◌^◌, ◌≡◌, ◌≤◌}
 use Rattle.std.proofs.Common.{ap, arith, length-drop, refl, sym, ◌∙◌}

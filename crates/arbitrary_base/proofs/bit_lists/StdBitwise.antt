@@ -1,4 +1,4 @@
--- The operators that go bit by bit, as std has them on numbers.
+-- The bitwise operators, as std defines them on numbers.
 use Rattle.std.specs.Prelude.{◌≡◌, ℕ, ℤ, Bool, List, [], ◌∷◌, true, false, pos, negsuc, neg_ℤ, ◌-◌, ◌^◌, ◌≤◌, ◌<◌, ◌-ℤ◌, ◌≤ℤ◌, unsigned_abs, length, map, not}
 use Rattle.std.specs.Int.Bits.{bit_and, bit_or, bit_xor}
 use Rattle.std.proofs.Common.{arith, refl, ap, ap₂, sym, subst, ◌∙◌, lt_of_lt_of_le, lt_of_le_of_lt}

@@ -1,4 +1,4 @@
--- The number that a list of bits spells.
+-- The unsigned number that a list of bits represents.
 use Rattle.std.proofs.Common.{◌≡◌, ℕ, zero, suc, ◌+◌, ◌*◌, ◌/◌, ◌%◌, ◌^◌, ◌<◌, min, max, Bool, if◌then◌else◌, true, false, not, ◌&&◌, ◌||◌, eqb, List, [], ◌∷◌, ◌++◌, length, take, drop, replicate, pos, ℤ, refl, sym, ap, ◌∙◌, subst, arith, add-one, mod-eq_of_lt}
 use Rattle.std.specs.Prelude.{map}
 use Rattle.std.proofs.Math.Nat.{mod-one, pow-suc, zero-mod, div-one, zero-div, div-div-eq-div-mul}

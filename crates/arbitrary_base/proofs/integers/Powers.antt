@@ -1,4 +1,4 @@
--- The laws of powers, and how far from 0 they are.
+-- The laws of powers, and of their distance from 0.
 use Rattle.std.specs.Prelude.{◌≡◌, ◌==◌, ◌^◌, Bool, true, not, neg_ℤ, ℕ, ℤ, false, zero, suc, pos, negsuc, ◌*ℤ◌, ◌≤ℤ◌, ◌<ℤ◌, ◌+◌, ◌*◌, ◌/◌, ◌%◌, ◌≤◌, ◌<◌, unsigned_abs, int_lt}
 use Rattle.std.proofs.Common.{arith, refl, ap, sym, subst, ◌∙◌, le_trans, le_of_eq}
 use Rattle.std.specs.Int.{int_pow}

@@ -1,4 +1,4 @@
--- A product that is put together from the sizes of its factors and their signs.
+-- A product, computed from the magnitudes and the signs of its factors.
 use Rattle.std.specs.Prelude.{◌≡◌, ℕ, ℤ, Bool, true, false, not, pos, neg_ℤ, ◌*ℤ◌, ◌+◌, ◌*◌, ◌/◌, ◌%◌, ◌^◌, ◌<◌, int_lt, unsigned_abs, if◌then◌else◌}
 use Rattle.std.specs.Int.{w128, cast_signed}
 use mathlib.Core.Bool.{beq}

@@ -1,4 +1,4 @@
--- A wrapped result by plain arithmetic: what fits is stored, and the rest is congruent.
+-- A wrapped result by plain arithmetic: in range it is exact, and otherwise congruent.
 use Rattle.std.specs.Prelude.{◌≡◌, ℕ, ℤ, Bool, true, false, pos, ◌-◌, ◌^◌, ◌≤◌, ◌<◌, ◌-ℤ◌}
 use Rattle.std.proofs.Common.{arith, sym, subst, ◌∙◌}
 use Rattle.std.proofs.lemmas.Int.{ints}

@@ -1,5 +1,5 @@
--- Calls that undo each other: a sum and a difference that wrap, the two rotations, the reversal, the same `xor` twice, and
--- the two ways between types of one width and other signs.
+-- Calls that undo each other: a sum and a difference that wrap, the two rotations, the reversal, the same `xor`
+-- twice, and the two conversions between types of one width and different signs.
 use Rattle.std.specs.Prelude.{◌≡◌, ℕ, ℤ, Bool, List, [], ◌∷◌, true, false, not, neg_ℤ, ◌-◌, ◌≤◌, ◌+ℤ◌, ◌-ℤ◌, length, reverse, take, drop}
 use Rattle.std.specs.List.{slice_rotate_right}
 use Rattle.std.specs.Bool.{beq}

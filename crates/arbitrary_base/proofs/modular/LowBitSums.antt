@@ -1,4 +1,4 @@
--- Sums, differences and products of patterns, made in 128 bits, are those of the numbers, wrapped.
+-- Sums, differences and products of patterns in 128 bits are those of the numbers, wrapped.
 use Rattle.std.specs.Prelude.{◌≡◌, ℕ, ℤ, Bool, pos, ◌+ℤ◌, ◌-ℤ◌, ◌*ℤ◌, ◌+◌, ◌-◌, ◌*◌, ◌%◌, ◌^◌, ◌≤◌}
 use Rattle.std.proofs.Common.{arith, sym, subst, ◌∙◌, le_trans, le_of_lt}
 use Rattle.std.proofs.lemmas.Int.{ints}

@@ -1,5 +1,5 @@
--- The numbers of a type for `num_traits`, whose laws have no premise on the width: so they are those that wrapping leaves as they are.
--- At a valid width these are the numbers in range. The impls of `arbitrary_core` cite these.
+-- The numbers of a type for `num_traits`, whose laws have no premise on the width. They are the numbers that
+-- wrapping does not change, and at a valid width those in range. The impls of `arbitrary_core` use these.
 use Rattle.std.specs.Prelude.{◌≡◌, ◌↔◌, ℕ, ℤ, Bool, pos, ◌+ℤ◌, ◌-ℤ◌, ◌<◌, ◌≤◌, ◌≤ℤ◌, ◌^◌, unsigned_abs}
 use Rattle.std.proofs.Common.{refl, ap, sym, subst, ◌∙◌, arith}
 use Rattle.std.proofs.lemmas.Int.{ints}

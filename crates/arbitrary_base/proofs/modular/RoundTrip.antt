@@ -1,4 +1,5 @@
--- A number in range and its pattern tell each other: the pattern is the residue, and the truncation of it is the number.
+-- A number in range and its pattern determine each other: the pattern is the residue, and its truncation is the
+-- number.
 use Rattle.std.specs.Prelude.{◌≡◌, ℕ, ℤ, Bool, false, pos, ◌≤◌, ◌<◌, ◌^◌, unsigned_abs}
 use Rattle.std.proofs.Common.{refl, ap, sym, subst}
 use Rattle.arbitrary_base.specs.Range.{InRange}

@@ -1,4 +1,4 @@
--- Why the code of `narrowing` is right.
+-- Why the code of `truncation` is right.
 use Rattle.std.specs.Prelude.{◌≡◌, ℕ, ℤ, Bool, true, false, ◌&&◌, pos, neg_ℤ, int_le, ◌+ℤ◌, ◌-ℤ◌, ◌+◌, ◌-◌, ◌%◌, ◌^◌, ◌≤◌, ◌<◌, unsigned_abs}
 use Rattle.std.proofs.Common.{arith, refl, ap, sym, subst, ◌∙◌, mod-lt, lit≤}
 use Rattle.std.proofs.lemmas.Int.{ints}

@@ -1,5 +1,6 @@
--- Shifts and rotations by an amount of at most the width, as one shut type, and the other operations as `FixedWidth` has them for generic
--- code: no premise but the width, and where a result is an operand, that operand's value of its own bits.
+-- Shifts and rotations by an amount of at most the width, as one opaque type, and the other operations as
+-- `FixedWidth` states them for generic code. Their only premise is the width. If a result is an operand, it is
+-- that operand's number of its own bits.
 use Rattle.std.specs.Bool.{beq}
 use Rattle.std.specs.List.{count_by, prefix_len, suffix_len}
 use Rattle.std.specs.Prelude.{Bool, List, false, length, negsuc, pos, replicate, reverse, take, true, ℕ, ℤ, ◌++◌, ◌-◌, ◌≡◌, ◌≤◌, ◌⊎◌}

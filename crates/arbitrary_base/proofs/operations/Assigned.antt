@@ -1,4 +1,4 @@
--- An assigning form that says what the operator says.
+-- An assigning form with the contract of its operator.
 use Rattle.arbitrary_base.specs.Assigned.{IsAssigned}
 
 -- of seven operators as of one

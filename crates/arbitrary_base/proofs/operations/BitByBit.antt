@@ -1,5 +1,5 @@
--- A number read bit by bit, for proofs in code that is generic in the type: two numbers of the type are equal, or differ in a bit, and a bit of
--- a result of `&`, `|`, `^` or `!` is the same of the operands' bits.
+-- A number read bit by bit, for proofs about generic code: two numbers of a type are equal, or differ in a bit,
+-- and a bit of a result of `&`, `|`, `^` or `!` is the same operation on the operands' bits.
 use Rattle.std.specs.Bool.{beq}
 use Rattle.std.specs.Ordering.{int_eq}
 use Rattle.std.specs.Prelude.{Bool, List, [], false, get_or, length, map, not, pos, replicate, suc, true, zero, ℕ, ℤ, ◌&&◌, ◌<◌, ◌||◌, ◌∷◌, ◌≡◌, ◌≤◌, ◌⊎◌}

@@ -1,4 +1,5 @@
--- The numbers of two lists of bits beside those of their `&`, `|` and `^`, and what follows for sums and differences.
+-- How the numbers of two lists of bits relate to those of their `&`, `|` and `^`, and what follows for sums and
+-- differences.
 use Rattle.std.specs.Bool.{beq}
 use Rattle.std.specs.Prelude.{Bool, List, [], false, length, map, not, pos, true, ℕ, ℤ, ◌&&◌, ◌+◌, ◌||◌, ◌∷◌, ◌≡◌, ◌≤ℤ◌, ◌≤◌}
 use Rattle.std.proofs.Common.{ap, arith, refl, subst, sym, ◌∙◌}

@@ -1,4 +1,4 @@
--- The laws of `&`, `|`, `^` and `!` on the numbers of a type that the calls and the laws of generic code rest on.
+-- The laws of `&`, `|`, `^` and `!` on the numbers of a type that the calls and the laws of generic code use.
 use Rattle.std.specs.Prelude.{◌≡◌, ℕ, ℤ, Bool}
 use Rattle.std.proofs.Common.{arith}
 use Rattle.arbitrary_base.specs.Operation.{bitwise_and, bitwise_or, bitwise_xor, bitwise_not}

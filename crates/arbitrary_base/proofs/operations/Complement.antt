@@ -1,4 +1,4 @@
--- The laws of the complement beside sums and differences: it is what a number lacks to -1.
+-- The laws of the complement in sums and differences: it is -1 minus the number.
 use Rattle.std.specs.Prelude.{Bool, map, negsuc, not, pos, ℕ, ℤ, ◌+◌, ◌-ℤ◌, ◌^◌, ◌≡◌, ◌≤◌}
 use Rattle.std.proofs.Common.{ap, arith, ◌∙◌}
 use Rattle.std.proofs.lemmas.Int.{ints}

@@ -1,5 +1,6 @@
--- An identity of `&`, `|`, `^` and `!` holds of numbers where it holds of single bits. An expression of these over three operands is data, and has
--- one meaning over bits, one over lists and one over numbers: `same` needs the eight cases of the bits alone.
+-- An identity of `&`, `|`, `^` and `!` holds for numbers if it holds for single bits. An expression of these
+-- over three operands is data with a meaning over bits, one over lists and one over numbers. `same` needs the
+-- eight cases of the bits alone.
 use Rattle.std.specs.Prelude.{◌≡◌, ◌≤◌, ℕ, ℤ, zero, suc, Bool, true, false, not, ◌&&◌, ◌||◌, List, [], ◌∷◌, length, map, pos, replicate}
 use Rattle.std.specs.Bool.{beq}
 use Rattle.std.proofs.Common.{refl, sym, ap, ap₂, ◌∙◌, arith}

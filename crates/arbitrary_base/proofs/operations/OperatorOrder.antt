@@ -1,5 +1,6 @@
--- The operators `!`, `&` and `|` beside the order of numbers, as `FixedWidth` has them for generic code: a complement is its operand mirrored
--- in the range, and where the type has no sign, `&` is at most its operands and `|` at least.
+-- The operators `!`, `&` and `|` and the order of numbers, as `FixedWidth` states them for generic code: a
+-- complement mirrors its operand in the range. In an unsigned type, `&` is at most its operands, and `|` at
+-- least.
 use Rattle.std.specs.Prelude.{Bool, false, map, negsuc, not, pos, suc, true, zero, ℕ, ℤ, ◌+ℤ◌, ◌+◌, ◌-ℤ◌, ◌^◌, ◌≡◌, ◌≤ℤ◌, ◌≤◌}
 use Rattle.std.proofs.Common.{ap, arith, subst, sym, ◌∙◌}
 use Rattle.std.proofs.lemmas.Int.{ints}

@@ -1,5 +1,5 @@
--- The laws of counts: how many bits of a number are one, and how many alike stand at either end.
--- What a count tells of 0, of -1 and of the greatest number is in EndCounts.antt of arbitrary_calls.
+-- The laws of counts: the number of ones, and the lengths of the runs at both ends. EndCounts.antt of
+-- `arbitrary_calls` has the counts of 0, of -1 and of the greatest number.
 use Rattle.std.specs.Bool.{beq}
 use Rattle.std.specs.List.{count_by, prefix_len, suffix_len}
 use Rattle.std.specs.Prelude.{Bool, List, [], drop, false, length, map, not, pos, replicate, reverse, suc, take, true, zero, ℕ, ℤ, ◌&&◌, ◌++◌, ◌+◌, ◌-ℤ◌, ◌-◌, ◌^◌, ◌||◌, ◌∷◌, ◌≡◌, ◌≤◌}

@@ -1,4 +1,4 @@
--- The laws of powers and quotients at small exponents and equal numbers, and of what is extended to 128 bits.
+-- The laws of powers with small exponents, of quotients of equal numbers, and of extension to 128 bits.
 use Rattle.std.specs.Int.{int_pow}
 use Rattle.std.specs.Prelude.{Bool, false, int_div, neg_ℤ, negsuc, pos, suc, true, zero, ℕ, ℤ, ◌-◌, ◌/◌, ◌≡◌, ◌≢◌, ◌≤◌}
 use Rattle.std.proofs.Common.{ap, arith, refl, subst, ◌∙◌}

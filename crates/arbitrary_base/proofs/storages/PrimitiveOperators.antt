@@ -1,4 +1,5 @@
--- How the operators of the primitives, as std tells them, speak of numbers: the impls of `arbitrary_traits` cite these.
+-- What the operators of the primitives, as std defines them, state about numbers. The impls of
+-- `arbitrary_traits` use these.
 use Rattle.std.specs.Prelude.{◌≡◌, ◌≢◌, ◌-◌, ◌^◌, ◌<◌, ◌≤◌, ◌-ℤ◌, ℕ, ℤ, zero, suc, pos, negsuc, int_div, FitsSigned, true, false, nat_eq}
 use Rattle.std.specs.Int.{Width, IsNonZero}
 use Rattle.std.specs.Ordering.{int_eq}

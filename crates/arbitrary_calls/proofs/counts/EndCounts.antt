@@ -1,4 +1,5 @@
--- The counts of the ends of a type: of 0, of -1, and of the greatest number of a type with no sign; and 0 as the number with no one.
+-- The counts of the ends of a type: of 0, of -1, and of the greatest unsigned number; and 0 as the number
+-- without ones.
 use Rattle.std.specs.Bool.{beq}
 use Rattle.std.specs.List.{count_by, prefix_len, suffix_len}
 use Rattle.std.specs.Prelude.{Bool, List, [], false, length, negsuc, pos, replicate, true, ℕ, ℤ, ◌-ℤ◌, ◌^◌, ◌∷◌, ◌≡◌, ◌≤◌}

@@ -1,4 +1,4 @@
--- What the counts of ones at an end say of the number: they are the zeros of its complement.
+-- What the counts of leading and trailing ones determine of a number: they are the zeros of its complement.
 use Rattle.std.specs.Bool.{beq}
 use Rattle.std.specs.Int.{int_div_euclid}
 use Rattle.std.specs.List.{count_by, prefix_len, suffix_len}
@@ -170,7 +170,7 @@ trailing_ones-minus_one B x e = ap (λ (z : ℤ). prefix_len (beq true) (bits B 
 pub popcount-minus_one : (B : ℕ) (x : ℤ) → x ≡ neg_ℤ (pos 1) → count_by (λ b. b) (bits B x) ≡ B
 popcount-minus_one B x e = ap (λ (z : ℤ). count_by (λ b. b) (bits B z)) e ∙ popcount-of_minus_one B
 
--- what the calls on counts ensure beside the value
+-- what the calls on counts ensure besides the value
 pub ruleset ones_ends = (popcount-of_highest, popcount-minus_one, zeros-some)
 
 pub ruleset zeros_ends = (no_ones-of_zero, popcount-some, popcount-of_highest, popcount-minus_one, zeros-some)

@@ -1,4 +1,5 @@
--- A run at one end beside the whole count: zeros and ones don't overlap, and one of two runs at an end is empty.
+-- A run at one end, compared with the whole count: zeros and ones do not overlap, and one of the two runs at an
+-- end is empty.
 use Rattle.std.specs.Bool.{beq}
 use Rattle.std.specs.List.{count_by, prefix_len, suffix_len}
 use Rattle.std.specs.Prelude.{Bool, List, [], false, length, reverse, true, ℕ, ℤ, ◌++◌, ◌+◌, ◌∷◌, ◌≡◌, ◌≤◌}

@@ -1,4 +1,4 @@
--- How many zeros stand at an end of a number, by its own digits: a width adds zeros above them, and none below.
+-- The number of zeros at an end of a number, by its own digits: a width adds zeros above them, and none below.
 use Rattle.std.specs.Bool.{beq}
 use Rattle.std.specs.Int.Count.{count_leading_zeros, count_trailing_zeros, leading_of_zero, leading_unique, under}
 use Rattle.std.specs.List.{prefix_len, suffix_len}

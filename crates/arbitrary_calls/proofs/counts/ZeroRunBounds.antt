@@ -1,4 +1,4 @@
--- What the counts of zeros at an end say of the number.
+-- What the counts of leading and trailing zeros determine of a number.
 use Rattle.std.specs.Bool.{beq}
 use Rattle.std.specs.Int.Count.{count_leading_zeros}
 use Rattle.std.specs.List.{count_by, prefix_len, suffix_len}
@@ -232,7 +232,7 @@ popcount-some s B x h f d = elim (cases_lt (count_by (λ b. b) (bits B x)) 1) [
   | inr some ↦ some
 ]
 
--- what the calls on counts ensure beside the value
+-- what the calls on counts ensure besides the value
 pub ruleset trailing_bounds = (trailing-none, trailing-found, trailing-low, trailing-odd)
 
 pub ruleset ones_bounds = (popcount-some, no_ones-of_zero)

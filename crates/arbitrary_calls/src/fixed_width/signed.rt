@@ -1,4 +1,4 @@
-//! `Int` as an integer of fixed width: the laws. `unsigned` beside this file has the same of `UInt`.
+//! `Int` as an integer of fixed width: the laws. `unsigned` has the same for `UInt`.
 
 ghost use Rattle.std.specs.Prelude.{Bool, ℕ, ℤ, ◌+ℤ◌, not, refl};
 ghost use Rattle.std.proofs.Common.{◌∙◌, ap, subst, sym};

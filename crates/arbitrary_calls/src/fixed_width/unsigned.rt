@@ -1,4 +1,4 @@
-//! `UInt` as an integer of fixed width: the laws. `signed` beside this file has the same of `Int`.
+//! `UInt` as an integer of fixed width: the laws. `signed` has the same for `Int`.
 
 ghost use Rattle.std.specs.Prelude.{Bool, ℕ, ℤ, ◌+ℤ◌, not, refl};
 ghost use Rattle.std.proofs.Common.{◌∙◌, ap, subst, sym};

@@ -1,4 +1,4 @@
-//! `Int` under the traits of `num_traits` that ask for its ends, and under std's `Default`.
+//! The traits of `num_traits` that need the ends of the range, and std's `Default`, for `Int`.
 
 ghost use Rattle.std.specs.Prelude.{◌≡◌, ◌<ℤ◌, ◌+ℤ◌, ◌-ℤ◌, pos, refl};
 ghost use Rattle.arbitrary_base.specs.Range.{lo, hi, InRange};

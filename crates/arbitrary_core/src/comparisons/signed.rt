@@ -1,4 +1,5 @@
-//! Equality and order of `Int`: those of the number, and not of its bits. `unsigned` has those of `UInt`, which keeps its number.
+//! Equality and order of `Int`, by the number and not by its bits. `unsigned` has those of `UInt`, which stores
+//! its number.
 
 ghost use Rattle.std.specs.Prelude.{◌≡◌, ◌⊎◌, ◌≤ℤ◌, ◌<ℤ◌, ◌+ℤ◌, ◌-ℤ◌, ◌-◌, ◌^◌, pos};
 ghost use Rattle.std.specs.Int.{IsInRange};
@@ -80,8 +81,8 @@ where
     }
 }
 
-// What `Ord` gives under these names, told by bounds. `Ord` tells it by a word that a search splits by the sign of each number, so that facts of
-// three numbers stay open. A `UInt` has no sign to split by, and none of these.
+// What `Ord` has under these names, with bounds in the contracts. The words of `Ord` make the search split by the sign of each number, so it does
+// not prove facts of three numbers. `UInt` has no sign to split by, and needs none of these.
 impl<T: BuiltinInteger + SignedStorage, const BITS: usize> Int<T, BITS>
 where
     T::Unsigned: UnsignedOf<T>,

@@ -1,5 +1,5 @@
-//! `Int` into a narrower storage by std's `From`, at the same width, which both have; `narrower_unsigned` beside this file has
-//! the same of `UInt`, so change both.
+//! std's `From` from `Int` into a narrower storage at the same width. tools/twins.py compares this file with
+//! `narrower_unsigned`.
 
 ghost use Rattle.std.specs.Prelude.{◌≡◌, true};
 ghost use Rattle.arbitrary_base.specs.Range.{InRange};

@@ -1,5 +1,5 @@
-//! `UInt` into a narrower storage by std's `From`, at the same width, which both have; `narrower_signed` beside this file has the
-//! same of `Int`, so change both.
+//! std's `From` from `UInt` into a narrower storage at the same width. tools/twins.py compares this file with
+//! `narrower_signed`.
 
 ghost use Rattle.std.specs.Prelude.{◌≡◌, false};
 ghost use Rattle.arbitrary_base.specs.Range.{InRange};

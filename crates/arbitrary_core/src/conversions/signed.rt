@@ -1,6 +1,6 @@
-//! `Int` from and into other signed integers by std's `From`, where each number has its place; `unsigned` beside this
-//! file has the same of `UInt`, so change both. Where a number may be out of range, `from_` has a condition, and `try_new`
-//! is the test.
+//! std's `From` between `Int` and other signed integers, where the target contains each number. tools/twins.py
+//! compares this file with `unsigned`. If a number can be out of range, `from_` has a condition, and `try_new`
+//! tests it.
 
 ghost use Rattle.std.specs.Prelude.{◌≡◌, true};
 ghost use Rattle.arbitrary_base.specs.Range.{InRange};

@@ -1,6 +1,6 @@
-//! `UInt` from and into other unsigned integers by std's `From`, where each number has its place; `signed` beside this
-//! file has the same of `Int`, so change both. Where a number may be out of range, `from_` has a condition, and `try_new`
-//! is the test.
+//! std's `From` between `UInt` and other unsigned integers, where the target contains each number.
+//! tools/twins.py compares this file with `signed`. If a number can be out of range, `from_` has a condition,
+//! and `try_new` tests it.
 
 ghost use Rattle.std.specs.Prelude.{◌≡◌, pos, false};
 ghost use Rattle.arbitrary_base.specs.Range.{InRange};

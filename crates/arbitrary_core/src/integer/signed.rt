@@ -1,5 +1,5 @@
-//! `Int` as an integer type: the body of each required call of `Integer`, and the laws. The clauses stand in the trait,
-//! in `arbitrary_traits`. `unsigned` beside this file has the same of `UInt`.
+//! `Int` as an integer type: the bodies of the required calls of `Integer`, and the laws. The trait in
+//! `arbitrary_traits` has the clauses. `unsigned` has the same for `UInt`.
 
 ghost use Rattle.std.specs.Prelude.{refl};
 ghost use Rattle.std.specs.Int.{IsInRange};

@@ -1,5 +1,5 @@
-//! `UInt` as an integer type: the body of each required call of `Integer`, and the laws. The clauses stand in the trait,
-//! in `arbitrary_traits`. `signed` beside this file has the same of `Int`.
+//! `UInt` as an integer type: the bodies of the required calls of `Integer`, and the laws. The trait in
+//! `arbitrary_traits` has the clauses. `signed` has the same for `Int`.
 
 ghost use Rattle.std.specs.Prelude.{refl};
 ghost use Rattle.std.specs.Int.{IsInRange};

@@ -1,4 +1,4 @@
-//! What `num_traits` says of a type, in the words of this crate. Each function proves its clauses, and does
+//! What `num_traits` states about a type, in the words of this crate. Each function proves its clauses, and does
 //! nothing.
 
 ghost use Rattle.std.specs.Prelude.{◌↔◌, ◌≤◌, ℤ};

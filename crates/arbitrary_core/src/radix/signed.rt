@@ -1,5 +1,5 @@
-//! `Int` as binary, octal and hexadecimal text: the number where it is not negative, and below 0 the two's
-//! complement of the storage.
+//! `Int` as binary, octal and hexadecimal text: the number if it is at least 0, otherwise the two's complement
+//! of the storage.
 
 ghost use Rattle.std.specs.Prelude.{◌≤◌, ◌≤ℤ◌, pos, true, false, Some, None, cond, nat_le, unsigned_abs};
 ghost use Rattle.std.specs.Fmt.{WritesOnOk, digits};

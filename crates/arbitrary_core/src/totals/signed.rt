@@ -1,4 +1,4 @@
-//! Sums and products of `Int`; `unsigned` beside this file has those of `UInt`.
+//! Sums and products of `Int`. `unsigned` has those of `UInt`.
 
 ghost use Rattle.std.specs.Prelude.{◌≡◌, ◌+ℤ◌, ◌*ℤ◌, pos};
 ghost use Rattle.std.specs.List.{fold};

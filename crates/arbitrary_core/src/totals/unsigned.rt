@@ -1,4 +1,4 @@
-//! Sums and products of `UInt`; `signed` beside this file has those of `Int`.
+//! Sums and products of `UInt`. `signed` has those of `Int`.
 
 ghost use Rattle.std.specs.Prelude.{◌≡◌, ◌+ℤ◌, ◌*ℤ◌, ◌*◌, ◌^◌, ◌<◌, pos, unsigned_abs};
 ghost use Rattle.std.specs.List.{fold, sum_by};

@@ -1,4 +1,4 @@
-//! What the operators of the integers of 128 bits do.
+//! The operators of the integers of 128 bits.
 
 ghost use Rattle.std.specs.Prelude.{◌+◌, ◌*◌, ◌+ℤ◌, ◌-ℤ◌, ◌*ℤ◌, pos, neg_ℤ, refl};
 ghost use Rattle.std.specs.Int.{w128};
