@@ -102,9 +102,11 @@ use Rattle.arbitrary_laws.proofs.sums.Ring.{difference-of_difference_right, diff
 use Rattle.arbitrary_laws.proofs.sums.Saturations.{clamped-difference_twice, clamped-differences_exchanged, difference-of_clamped_sum}
 use Rattle.arbitrary_laws.proofs.sums.SerialNumbers.{none-apart, step-back, turned-none, turned-of_least, turned-with_sign, turned-without_sign}
 use Rattle.arbitrary_laws.proofs.sums.WrappedWords.{word_difference-right, word_sum-after, word_sum-before, word_sum-left, wrap-masked, wrap-remainder, wrap-word_difference}
-use Rattle.arbitrary_laws.proofs.words.ApartParts.{apart_parts}
+use Rattle.arbitrary_laws.proofs.words.ApartParts.{apart_joined, apart_parts, below_moved, below_within, into_within, joined_apart, masked_within, moved_above, moved_within, or_apart, within_above, within_apart, within_around}
+use Rattle.arbitrary_laws.proofs.words.LowestZeros.{lowest_by_zeros}
+use Rattle.arbitrary_laws.proofs.words.Multiples.{multiples}
 use Rattle.arbitrary_laws.proofs.words.OverflowFlags.{one_bits}
-use Rattle.arbitrary_laws.proofs.words.WrittenMasks.{written_masks}
+use Rattle.arbitrary_laws.proofs.words.WrittenMasks.{and_none, and_runs, differing, written_masks}
 use Rattle.arbitrary_laws.proofs.written.AnyWidth.{negative-in_range, number-in_range, number-in_range_signed}
 use Rattle.arbitrary_laws.proofs.written.KnownBytes.{bytes-of_negative, bytes-of_positive}
 use Rattle.arbitrary_laws.proofs.written.KnownCount.{popcount-of_numeral}
@@ -140,10 +142,14 @@ pub ruleset numbers = (wrap-of_in_range, wrap-congruent, wrap-wrap, clamp-fits, 
 
 -- register words: any expression of `&`, `|`, `^`, `!`, shifts and conversions over written masks is a sum of fields. The laws compute on the
 -- masks, so none of them says how many fields there are, or how wide they are
-pub ruleset words = (written_masks, apart_parts)
+pub ruleset words = (written_masks, apart_parts, multiples, lowest_by_zeros)
 
--- carry, overflow and borrow by one bit of a primitive or a `UInt`, and pages that differ
-pub ruleset overflow_flags = (written_masks, one_bits)
+-- the same for a `UInt` whose lowest field is written and whose rest stays, and for pages of a `UInt` that are compared: fewer laws of parts, and
+-- those by which the search knows the range of a number. Beside all laws of `words` these take it to its limits
+pub ruleset uint_words = (and_runs, and_none, differing, or_apart, joined_apart, apart_joined, masked_within, moved_within, within_apart, within_above, below_within, moved_above, below_moved, within_around, into_within, val-bits_in_range, ints)
+
+-- carry, overflow and borrow by one bit of a primitive or a `UInt`
+pub ruleset overflow_flags = (one_bits, ints)
 
 -- words of fields and flags: joined, written in place, read back, with a sign, beside conversions
 pub ruleset fields = (or_next, or_after_shift, or_above, or_above_numeral, numeral_next, or_numeral_first, or_numeral_last, or_numeral_between, or_masked, and_above, and_numeral, ints, Decides-eqb, Decides-int_eq, and_beside, and_around, or_into_hole, or_flags, or_moved_in, or_moved_above, xor_flags, or-into_cleared, and-by_complement, and-digits, one_shifted, pos-unsigned_abs, bit_tested, bit_set, bit_set-other, bit_turned, bit_turned-other, bit_cleared, bit_cleared-other, set_then_cleared, Borsh-told, number-of_Borsh, number-of_Borsh_signed, first-of_Borsh, first-of_Borsh_signed, reverse-reverse, signed_items, length-of_text, numbers-head, last_of-joined, numbers-end, numbers-count, with_field-of_nothing, and-digits_signed, and-run, and-congruent, and-multiple, and-multiple_by_negative, and-within, and-below, and-by_negative, or-by_and, xor-by_and, and-of_cleared, and-of_set, own_bits-in_range, wrap-congruent, signed_primitive, sum-right, sum-left, difference-right, difference-left, product-right, product-left, word_sum-right, congruent-by_remainder, wrap-of_in_range, wrap-wrap, clamp-fits, length-bits, num-bits_residue, val-bits_in_range, in_range-tells, sums-associate, or_three, wrap-remainder, wrap-masked, word_sum-left, word_sum-before, word_sum-after, word_difference-right, wrap-word_difference, lowest_field, lowest_field-wrapped, or_below_flag, signed-of_bits, signed-of_unsigned, unsigned-of_signed, bits-of_signed, written-congruent, bitwise_and-complement, field_cleared, field_written, placed-written)

@@ -1,4 +1,6 @@
-pub mod ApartParts
 pub mod LowestOne
-pub mod OverflowFlags
+pub mod LowestZeros
 pub mod WrittenMasks
+pub mod ApartParts
+pub mod Multiples
+pub mod OverflowFlags

@@ -1,7 +1,7 @@
 //! The flags of a processor: what a result and a shift set in the status byte.
 #![tactic(auto, using(arbitrary_laws::proofs::Sets::words))]
 
-ghost use Rattle.std.specs.Prelude.{◌≡◌, ◌↔◌, ◌/◌, ◌%◌, ◌*◌, ◌+◌, ◌<◌, ◌≤◌, IsTrue, if◌then◌else◌};
+ghost use Rattle.std.specs.Prelude.{◌≡◌, ◌≢◌, ◌↔◌, ◌/◌, ◌%◌, ◌*◌, ◌+◌, ◌<◌, ◌≤◌, IsTrue, if◌then◌else◌};
 
 /// The status after a result: its sign, and whether it is 0. The other flags stay.
 pub fn negative_and_zero(status: u8, value: u8) -> u8
@@ -59,6 +59,15 @@ pub fn half_carry(a: u8, b: u8) -> bool
     ensures { IsTrue result ↔ (16 ≤ (a % 16 + b % 16)) }
 {
     (a & 0xF) + (b & 0xF) > 0xF
+}
+
+/// Whether the sum of two bytes passes the range of a signed byte.
+#[tactic(auto, using(arbitrary_laws::proofs::Sets::overflow_flags))]
+pub fn overflows(a: u8, b: u8) -> bool
+    ensures { IsTrue result ↔ ((a / 128 ≡ b / 128) × ((a + b) % 256 / 128 ≢ a / 128)) }
+{
+    let sum = a.wrapping_add(b);
+    (a ^ sum) & (b ^ sum) & 0x80 != 0
 }
 
 /// The status byte of six flags.

@@ -2,6 +2,7 @@
 //! each file names one public set of laws, `words` or `overflow_flags`.
 #![tactic(auto)]
 
+pub mod addresses;
 pub mod device_registers;
 pub mod instruction_words;
 pub mod network_words;

@@ -28,6 +28,30 @@ pub fn field(v: u24) -> u24
     v & u24::new(0xFF0)
 }
 
+/// Writes a field from a value under a mask.
+pub fn name_table(t: u15, value: u8) -> u15
+    ensures field { int_rem (int_div result (pos 1024)) (pos 4) ≡ pos (value % 4) }
+    ensures low { int_rem result (pos 1024) ≡ int_rem t (pos 1024) }
+{
+    (t & !u15::new(0x0C00)) | (u15::from_(value & 3) << 10)
+}
+
+/// A field that moves up, and one below it.
+pub fn cell(x: u12, y: u5) -> u12
+    requires { x <ℤ pos 1024 }
+    ensures { result ≡ int_div x (pos 8) *ℤ pos 32 +ℤ y }
+{
+    ((x >> 3) << 5) | u12::from_(y)
+}
+
+/// Writes the field whose low bits two shifts clear.
+pub fn with_low(x: u20, y: u6) -> u20
+    ensures low { int_rem result (pos 64) ≡ y }
+    ensures high { int_div result (pos 64) ≡ int_div x (pos 64) }
+{
+    ((x >> 6) << 6) | u20::from_(y)
+}
+
 /// Three fields.
 pub fn three(a: u4, b: u3, c: u5) -> u12
     ensures { result ≡ a *ℤ pos 256 +ℤ b *ℤ pos 32 +ℤ c }
@@ -55,6 +79,13 @@ pub fn rotated_with_carry(word: u9) -> u9
     ensures { result ≡ int_rem word (pos 256) *ℤ pos 2 +ℤ int_div word (pos 256) }
 {
     (word << 1) | (word >> 8)
+}
+
+/// 17 bits, rotated up by three places.
+pub fn rotated(word: u17) -> u17
+    ensures { result ≡ int_rem word (pos 16384) *ℤ pos 8 +ℤ int_div word (pos 16384) }
+{
+    (word << 3) | (word >> 14)
 }
 
 /// Writes a field behind `&mut`.
@@ -98,4 +129,38 @@ pub fn unsigned_words(v: u24) -> u24
     ensures { unsigned_abs result ≡ unsigned_abs v % 256 * 65536 + unsigned_abs v / 256 }
 {
     (v << 16) | (v >> 8)
+}
+
+/// Writes the lowest field from a number of its own width. The others stay.
+#[tactic(auto, using(arbitrary_laws::proofs::Sets::uint_words))]
+pub fn coarse(v: u15, x: u5) -> u15
+    ensures low { int_rem result (pos 32) ≡ x }
+    ensures high { int_div result (pos 32) ≡ int_div v (pos 32) }
+{
+    (v & !u15::new(0x1F)) | u15::from_(x)
+}
+
+/// The same of a wider word.
+#[tactic(auto, using(arbitrary_laws::proofs::Sets::uint_words))]
+pub fn low_of_forty(v: u40, x: u12) -> u40
+    ensures low { int_rem result (pos 4096) ≡ x }
+    ensures high { int_div result (pos 4096) ≡ int_div v (pos 4096) }
+{
+    (v & !u40::new(0xFFF)) | u40::from_(x)
+}
+
+/// Writes a field further up.
+pub fn middle(v: u24, x: u4) -> u24
+    ensures field { int_rem (int_div result (pos 256)) (pos 16) ≡ x }
+    ensures low { int_rem result (pos 256) ≡ int_rem v (pos 256) }
+{
+    (v & !u24::new(0xF00)) | (u24::from_(x) << 8)
+}
+
+/// Whether two addresses are in one page of 64.
+#[tactic(auto, using(arbitrary_laws::proofs::Sets::uint_words))]
+pub fn same_page(a: u12, b: u12) -> bool
+    ensures { IsTrue result ↔ (int_div a (pos 64) ≡ int_div b (pos 64)) }
+{
+    (a ^ b) & u12::new(0xFC0) == u12::new(0)
 }

@@ -1,12 +1,12 @@
 -- Parts of a word that share no bit: what `|` and `^` make of them is their sum, in any order and number.
-use Rattle.std.specs.Prelude.{◌≡◌, ℕ, zero, suc, ◌+◌, ◌-◌, ◌*◌, ◌/◌, ◌%◌, ◌^◌, ◌<◌, ◌≤◌}
+use Rattle.std.specs.Prelude.{◌≡◌, ℕ, suc, ◌+◌, ◌-◌, ◌*◌, ◌/◌, ◌%◌, ◌^◌, ◌<◌, ◌≤◌}
 use Rattle.std.specs.Int.Bits.{bit_and, bit_or, bit_xor, xor_add_and}
 use lib.Arith.{mod-mul}
 use lib.Bits.{and_self, and_shifted}
 use Rattle.std.proofs.Common.{refl, sym, ap, ap₂, subst, ◌∙◌, arith, div-add-mod', mod-eq_of_lt, inl, inr}
 use Rattle.std.proofs.Math.Nat.{mul-mod_left}
 use Rattle.std.proofs.lemmas.Bool.{cases_lt}
-use Rattle.std.proofs.lemmas.Nat.{and_assoc, and_comm, and_mask, and_mod, le-div, le_or_l, le_or_r, or_disjoint, or_mod, pow_pos, shl-shr}
+use Rattle.std.proofs.lemmas.Nat.{and_assoc, and_comm, and_mod, le-div, le_or_l, le_or_r, or_disjoint, or_mod, pow_pos, shl-shr}
 use Rattle.std.proofs.lemmas.Nat.Bits.{bit_at_and, bit_at_or, bit_at-zero, same_from_bits}
 use Rattle.std.specs.Int.{bit_at}
 use Rattle.arbitrary_laws.proofs.words.LowestOne.{low_bit, low_power, none, power}
@@ -113,17 +113,6 @@ module _ (m b : ℕ) (f : b < low_bit (suc m)) where
   pub below_within : (n : ℕ) → shared b (within (suc m) n) ≡ 0
   below_within n = swapped (within (suc m) n) b (within_above n)
 
--- a number whose low bits are 0, beside what a mask lets through of those
-module _ (a n m : ℕ) (p : bit_and (suc m + 1) (suc m) ≡ 0) (e : a % (suc m + 1) ≡ 0) where
-  pub multiple_above : shared a (within (suc m) n) ≡ 0
-  multiple_above =
-      let f = power (suc m + 1) (omega arith) (let s : suc m + 1 - 1 ≡ suc m = omega arith in ap (bit_and (suc m + 1)) s ∙ p) in
-      let k = f.0 in
-      let o : suc m ≡ 2 ^ k - 1 = omega (arith, f.1) in
-      let z : a % 2 ^ k ≡ 0 = subst (λ (i : ℕ). a % i ≡ 0) f.1 e in
-      shared-is a (within (suc m) n) ∙ ap (bit_and a) (is (suc m) n ∙ and_comm n (suc m)) ∙ sym (and_assoc n a (suc m))
-      ∙ ap (λ (i : ℕ). bit_and i n) (ap (bit_and a) o ∙ and_mask a k ∙ z) ∙ and_comm 0 n ∙ none n
-
 whole : (v d : ℕ) → 0 < v → v % d ≡ 0 → 1 * d ≤ v
 whole v d b q = elim (cases_lt v d) [
   | inl l ↦ absurd (omega (arith, mod-eq_of_lt l, q, b))
@@ -185,4 +174,4 @@ module _ (y d v : ℕ) (c : 0 < d) (p : bit_and d (d - 1) ≡ 0) (b : 0 < v) (q 
     into_within n = swapped (within (suc m) n) (y * d % v) (within_around n)
 
 -- parts that are masked, moved or bounded, and written numbers
-pub ruleset apart_parts = (or_apart, written_or_apart, xor_apart, joined_apart, written_joined_apart, apart_joined, masked_within, moved_within, within_apart, within_written, written_within, written_above, below_written, within_above, below_within, multiple_above, moved_above, below_moved, written_around, into_written, within_around, into_within)
+pub ruleset apart_parts = (or_apart, written_or_apart, xor_apart, joined_apart, written_joined_apart, apart_joined, masked_within, moved_within, within_apart, within_written, written_within, written_above, below_written, within_above, below_within, moved_above, below_moved, written_around, into_written, within_around, into_within)

@@ -10,10 +10,10 @@ use Rattle.std.proofs.lemmas.Nat.{and_block, and_le_r, pow_pos, xor_block}
 pub none : (n : ℕ) → bit_and n 0 ≡ 0
 none n = let l = and_le_r n 0 in omega arith
 
-twice : (q p : ℕ) → 2 * (q * p) ≡ q * (2 * p)
+pub twice : (q p : ℕ) → 2 * (q * p) ≡ q * (2 * p)
 twice q p = grind arith
 
-next : (k : ℕ) → 2 ^ suc k ≡ 2 * 2 ^ k
+pub next : (k : ℕ) → 2 ^ suc k ≡ 2 * 2 ^ k
 next k = omega arith
 
 -- its value, in words that compute where the number is written out, and are not opened where it is not
@@ -21,7 +21,7 @@ abbrev pub low_bit : ℕ → ℕ
 low_bit n = bit_xor n (n - 1) / 2 + 1
 
 -- a number above 0 is odd times a power of two
-odd_times : (f n : ℕ) → n < f → 0 < n → (k : ℕ) × (r : ℕ) × (n ≡ r * 2 ^ suc k + 2 ^ k)
+pub odd_times : (f n : ℕ) → n < f → 0 < n → (k : ℕ) × (r : ℕ) × (n ≡ r * 2 ^ suc k + 2 ^ k)
 odd_times zero n l p = absurd (omega arith)
 odd_times (suc f) n l p = elim (cases_lt (n % 2) 1) [
   | inl e ↦
@@ -42,7 +42,7 @@ module _ (k r : ℕ) where
       let l : 2 ^ k - 1 < 2 ^ k = omega (arith, pow_pos k) in
       ap (λ (i : ℕ). bit_xor i (2 ^ k - 1)) one ∙ xor_shifted 1 k (2 ^ k - 1) l ∙ omega arith
 
-  low_bit-of_odd_times : low_bit (r * 2 ^ suc k + 2 ^ k) ≡ 2 ^ k
+  pub low_bit-of_odd_times : low_bit (r * 2 ^ suc k + 2 ^ k) ≡ 2 ^ k
   low_bit-of_odd_times =
       let p = pow_pos k in
       let s = next k in
@@ -53,7 +53,7 @@ module _ (k r : ℕ) where
       ∙ ap₂ (λ (i j : ℕ). i * 2 ^ suc k + j) (xor_self r) with_before in
       ap (λ (i : ℕ). i / 2 + 1) e ∙ omega arith
 
-  and_before : bit_and (r * 2 ^ suc k + 2 ^ k) (r * 2 ^ suc k + 2 ^ k - 1) ≡ r * 2 ^ suc k
+  pub and_before : bit_and (r * 2 ^ suc k + 2 ^ k) (r * 2 ^ suc k + 2 ^ k - 1) ≡ r * 2 ^ suc k
   and_before =
       let p = pow_pos k in
       let s = next k in

@@ -1,9 +1,12 @@
 -- A number under a written mask is the sum of what the mask's runs of ones let through, each as a quotient and a remainder.
-use Rattle.std.specs.Prelude.{◌≡◌, ℕ, zero, suc, ◌+◌, ◌-◌, ◌*◌, ◌/◌, ◌%◌, ◌^◌, ◌<◌}
+use Rattle.std.specs.Prelude.{◌≡◌, ℕ, zero, suc, ◌+◌, ◌-◌, ◌*◌, ◌/◌, ◌%◌, ◌^◌, ◌<◌, min}
 use Rattle.std.specs.Int.Bits.{bit_and, bit_or, bit_xor, or_add_and, xor_add_and}
+use Rattle.std.specs.Int.{bit_at}
+use lib.Bits.{xor_self}
 use Rattle.std.proofs.Common.{refl, sym, ap, ap₂, ◌∙◌, arith, div-add-mod', mod-lt}
 use Rattle.std.proofs.Math.Nat.{add-mul, mod-mod}
-use Rattle.std.proofs.lemmas.Nat.{and_assoc, and_block, and_comm, and_le_l, and_mask, pow_pos, shl-shr}
+use Rattle.std.proofs.lemmas.Nat.{and_assoc, and_block, and_comm, and_le_l, and_le_r, and_mask, pow_pos, shl-shr}
+use Rattle.std.proofs.lemmas.Nat.Bits.{bit_at_and, bit_at_xor, bit_at-lt, same_from_bits}
 use Rattle.arbitrary_laws.proofs.words.LowestOne.{low_bit, low_power, none}
 
 -- a mask that is moved up
@@ -92,5 +95,30 @@ written_or a m = omega (arith, or_add_and (suc m) a, and_comm a (suc m), and_le_
 pub xor_written : (a m : ℕ) → bit_xor a (suc m) ≡ a + suc m - 2 * through a (suc m)
 xor_written a m = omega (arith, xor_add_and a (suc m), through-is a (suc m))
 
--- a word under written masks, and written numbers that are set in it or turned over
-pub ruleset written_masks = (and_runs, and_none, and_of_and, through_runs, through_none, or_written, written_or, xor_written)
+-- ---- several bits in which two words differ: a page that is crossed
+
+digits : (x y z : ℕ) → x < 2 → y < 2 → z < 2 → min ((x + y) % 2) z ≡ (min x z + min y z) % 2
+digits x y z p q r = omega arith
+
+and_of_xor : (a b m : ℕ) → bit_and (bit_xor a b) (suc m) ≡ bit_xor (bit_and a (suc m)) (bit_and b (suc m))
+and_of_xor a b m =
+    same_from_bits _ _ (λ i. by-digits a b (suc m) i)
+  where
+    by-digits : (x y z i : ℕ) → bit_at (bit_and (bit_xor x y) z) i ≡ bit_at (bit_xor (bit_and x z) (bit_and y z)) i
+    by-digits x y z i =
+        bit_at_and (bit_xor x y) z i ∙ ap (λ (n : ℕ). min n (bit_at z i)) (bit_at_xor x y i)
+        ∙ digits (bit_at x i) (bit_at y i) (bit_at z i) (bit_at-lt x i) (bit_at-lt y i) (bit_at-lt z i)
+        ∙ sym (bit_at_xor (bit_and x z) (bit_and y z) i ∙ ap₂ (λ (n k : ℕ). (n + k) % 2) (bit_at_and x z i) (bit_at_and y z i))
+
+-- the first part of the conclusion shows the search what to match
+pub differing : (a b m : ℕ) → (bit_and (bit_xor a b) (suc m) ≡ bit_and (bit_xor a b) (suc m))
+    × ((bit_and (bit_xor a b) (suc m) ≡ 0 → bit_and a (suc m) ≡ bit_and b (suc m))
+    × (bit_and a (suc m) ≡ bit_and b (suc m) → bit_and (bit_xor a b) (suc m) ≡ 0))
+differing a b m =
+    let x = bit_and a (suc m) in
+    let y = bit_and b (suc m) in
+    let e = and_of_xor a b m in
+    (refl, (λ f. omega (arith, e, f, xor_add_and x y, and_le_l x y, and_le_r x y), λ f. e ∙ ap (λ (i : ℕ). bit_xor i y) f ∙ xor_self y))
+
+-- a word under written masks, written numbers that are set in it or turned over, and words that differ under a mask
+pub ruleset written_masks = (and_runs, and_none, and_of_and, through_runs, through_none, or_written, written_or, xor_written, differing)
