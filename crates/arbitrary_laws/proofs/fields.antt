@@ -1,5 +1,4 @@
 pub mod EmptyWord
-pub mod FieldInNumber
 pub mod FieldReads
 pub mod JoinedFields
 pub mod JoinedWords

@@ -1,6 +1,5 @@
 pub mod FlagTests
 pub mod LowMask
-pub mod MaskDigits
 pub mod MaskTests
 pub mod MaskedResults
 pub mod VariableMasks

@@ -5,7 +5,7 @@
 //! | 7      | stopped | `bool` |
 //! | 4 to 6 | tens    | `u3`   |
 //! | 0 to 3 | units   | `u4`   |
-#![tactic(auto, using(arbitrary_laws::proofs::fields::Rulesets::fields))]
+#![tactic(auto, using(arbitrary_laws::proofs::fields::JoinedWords::joined_words))]
 
 ghost use Rattle.std.specs.Prelude.{◌≡◌, ◌↔◌, ◌⊎◌, ◌<◌, ◌/◌, ◌%◌, ◌+ℤ◌, ◌*ℤ◌, ◌≤ℤ◌, ◌<ℤ◌, pos, IsTrue, IsNone, IfSome, if◌then◌else◌};
 

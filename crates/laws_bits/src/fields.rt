@@ -5,7 +5,7 @@ ghost use Rattle.std.specs.Prelude.{◌≡◌, ◌≢◌, ◌/◌, ◌%◌, ◌^
 
 use arbitrary_int::prelude::*;
 
-#[tactic(auto, using(arbitrary_laws::proofs::fields::Rulesets::fields))]
+#[tactic(auto, using(arbitrary_laws::proofs::fields::JoinedWords::joined_words))]
 pub fn or_of_fields(high: u5, middle: u6, low: u5) -> u16
     ensures { pos result ≡ pos 2048 *ℤ high +ℤ pos 32 *ℤ middle +ℤ low }
 {
@@ -75,7 +75,7 @@ pub fn complement_is_tested(map: u24, place: u8) -> bool
     ((!map >> place) & u24::new(1) == u24::new(1)) == ((map >> place) & u24::new(1) == u24::zero())
 }
 
-#[tactic(auto, using(arbitrary_laws::proofs::fields::Rulesets::fields))]
+#[tactic(auto, using(arbitrary_laws::proofs::fields::JoinedWords::joined_words))]
 pub fn six_fields(a: u7, b: u5, c: u5, d: u3, e: u5, f: u7) -> u32
     ensures { pos result ≡ pos 33554432 *ℤ a +ℤ pos 1048576 *ℤ b +ℤ pos 32768 *ℤ c +ℤ pos 4096 *ℤ d
         +ℤ pos 128 *ℤ e +ℤ f }

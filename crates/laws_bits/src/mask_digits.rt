@@ -1,5 +1,5 @@
 //! Several flags under a constant mask, tested at once, with contracts in quotients and remainders.
-#![tactic(auto, using(arbitrary_laws::proofs::masks::MaskDigits::mask_digits))]
+#![tactic(auto, using(arbitrary_laws::proofs::Sets::words))]
 
 ghost use Rattle.std.specs.Prelude.{◌≡◌, ◌↔◌, ◌<◌, ◌+◌, ◌*◌, ◌/◌, ◌%◌, pos, unsigned_abs, IsTrue};
 

@@ -1,5 +1,5 @@
 //! Words of instructions whose constant has ones on both sides of a field.
-#![tactic(auto, using(arbitrary_laws::proofs::fields::FieldInNumber::fields_in_numbers))]
+#![tactic(auto, using(arbitrary_laws::proofs::Sets::words))]
 
 ghost use Rattle.std.specs.Prelude.{◌≡◌, ◌+ℤ◌, ◌*ℤ◌, pos, IsTrue};
 

@@ -1,5 +1,5 @@
 //! Fields joined by `|`.
-#![tactic(auto, using(arbitrary_laws::proofs::fields::Rulesets::fields))]
+#![tactic(auto, using(arbitrary_laws::proofs::fields::JoinedWords::joined_words))]
 
 ghost use Rattle.std.specs.Prelude.{◌≡◌, ◌*◌, ◌+◌, ◌/◌, ◌+ℤ◌, ◌*ℤ◌, pos};
 ghost use Rattle.arbitrary_int.specs.Residue.{Congruent};
@@ -128,27 +128,27 @@ pub fn lowest_read_back(mode: u4, source: u6, target: u6) -> u6
     u6::extract_u16(word, 0)
 }
 
-#[tactic(auto, using(arbitrary_laws::proofs::fields::Rulesets::joined_numbers))]
+#[tactic(auto, using(arbitrary_laws::proofs::Sets::words))]
 pub fn under_a_mark(high: u6, low: u8) -> u16
     ensures { pos result ≡ pos 32768 +ℤ pos 256 *ℤ high +ℤ pos low }
 {
     0x8000 | (u16::from_(high) << 8) | u16::from(low)
 }
 
-#[tactic(auto, using(arbitrary_laws::proofs::fields::Rulesets::joined_numbers))]
+#[tactic(auto, using(arbitrary_laws::proofs::Sets::words))]
 pub fn from_eight_bits(red: u8, green: u8, blue: u8) -> u16
     ensures { result ≡ red / 8 * 2048 + green / 4 * 32 + blue / 8 }
 {
     (u16::from(red >> 3) << 11) | (u16::from(green >> 2) << 5) | u16::from(blue >> 3)
 }
 
-#[tactic(auto, using(arbitrary_laws::proofs::fields::Rulesets::joined_numbers))]
 pub fn four_in_their_own_type(a: u3, b: u6, c: u6, d: u6) -> u21
     ensures { result ≡ pos 262144 *ℤ a +ℤ pos 4096 *ℤ b +ℤ pos 64 *ℤ c +ℤ d }
 {
     (u21::from_(a) << 18) | (u21::from_(b) << 12) | (u21::from_(c) << 6) | u21::from_(d)
 }
 
+#[tactic(auto, using(arbitrary_laws::proofs::fields::JoinedFields::five_fields))]
 pub fn five_in_their_own_type(a: u7, b: u5, c: u5, d: u3, e: u12) -> u48
     ensures { result ≡ pos 33554432 *ℤ a +ℤ pos 1048576 *ℤ b +ℤ pos 32768 *ℤ c +ℤ pos 4096 *ℤ d
         +ℤ e }
@@ -167,14 +167,12 @@ pub fn read_back_under_a_mask(response: bool, operation: u4, code: u4) -> u4
     u4::new((flags >> 11 & 0xF) as u8)
 }
 
-#[tactic(auto, using(arbitrary_laws::proofs::fields::Rulesets::two_marked))]
 pub fn two_under_a_mark(x: u4, y: u4) -> u16
     ensures { pos result ≡ pos 53248 +ℤ pos 256 *ℤ x +ℤ pos 16 *ℤ y }
 {
     0xD000 | (x.as_u16() << 8) | (y.as_u16() << 4)
 }
 
-#[tactic(auto, using(arbitrary_laws::proofs::fields::Rulesets::three_marked))]
 pub fn three_under_a_mark(x: u4, y: u4, n: u4) -> u16
     ensures { pos result ≡ pos 53248 +ℤ pos 256 *ℤ x +ℤ pos 16 *ℤ y +ℤ n }
 {

@@ -1,5 +1,5 @@
--- Fields side by side in a `UInt`, put together by `|`, the high one first: three to five of them. SideBySide.antt has those of
--- primitives.
+-- Fields side by side in a `UInt`, put together by `|`, the high one first: five of them, and four of which the lowest is moved up too.
+-- JoinedWords.antt has those of primitives, and up to four.
 use Rattle.std.specs.Prelude.{◌≡◌, ℕ, ℤ, false, pos, negsuc, unsigned_abs, ◌+◌, ◌-◌, ◌*◌, ◌^◌, ◌≤◌, ◌<◌, ◌≤ℤ◌, ◌<ℤ◌, ◌+ℤ◌, ◌-ℤ◌, ◌*ℤ◌}
 use Rattle.std.specs.Int.Bits.{bit_or}
 use Rattle.std.proofs.Common.{refl, sym, ap, ap₂, subst, ◌∙◌, arith, pow-add, mul-le-mul_right}
@@ -82,19 +82,6 @@ module _ (B : ℕ) (h : 1 ≤ B) where
       let t = i.high in
       (e, (plus k w _ (lower j k w l s.1.0) f.1.0, omega (arith, ints, subst (λ (v : ℤ). v ≤ℤ (pos (2 ^ B) -ℤ pos 1)) e t)))
 
-  pub joined-three : (x y z : ℤ) (j k : ℕ) → j < B → k ≤ j → pos 0 ≤ℤ x → (x *ℤ pos (2 ^ j)) <ℤ pos (2 ^ B)
-      → pos 0 ≤ℤ y → (y *ℤ pos (2 ^ k)) <ℤ pos (2 ^ j) → pos 0 ≤ℤ z → z <ℤ pos (2 ^ k)
-      → bitwise_or false B (bitwise_or false B (shifted_left false B x j) (shifted_left false B y k)) z
-      ≡ x *ℤ pos (2 ^ j) +ℤ y *ℤ pos (2 ^ k) +ℤ z
-  joined-three x y z j k g l a b c d e f = last k _ _ z (omega arith) (more j k _ _ y l g (one x j g a b) c d) e f
-
-  pub joined-four : (t x y z : ℤ) (i j k : ℕ) → i < B → j ≤ i → k ≤ j → pos 0 ≤ℤ t → (t *ℤ pos (2 ^ i)) <ℤ pos (2 ^ B)
-      → pos 0 ≤ℤ x → (x *ℤ pos (2 ^ j)) <ℤ pos (2 ^ i) → pos 0 ≤ℤ y → (y *ℤ pos (2 ^ k)) <ℤ pos (2 ^ j) → pos 0 ≤ℤ z → z <ℤ pos (2 ^ k)
-      → bitwise_or false B (bitwise_or false B (bitwise_or false B (shifted_left false B t i) (shifted_left false B x j)) (shifted_left false B y k)) z
-      ≡ t *ℤ pos (2 ^ i) +ℤ x *ℤ pos (2 ^ j) +ℤ y *ℤ pos (2 ^ k) +ℤ z
-  joined-four t x y z i j k g l m a b c d e f n o =
-      last k _ _ z (omega arith) (more j k _ _ y m (omega arith) (more i j _ _ x l g (one t i g a b) c d) e f) n o
-
   -- where the lowest field is moved up too
   pub joined-four_up : (t x y z : ℤ) (i j k l : ℕ) → i < B → j ≤ i → k ≤ j → l ≤ k → pos 0 ≤ℤ t → (t *ℤ pos (2 ^ i)) <ℤ pos (2 ^ B)
       → pos 0 ≤ℤ x → (x *ℤ pos (2 ^ j)) <ℤ pos (2 ^ i) → pos 0 ≤ℤ y → (y *ℤ pos (2 ^ k)) <ℤ pos (2 ^ j)
@@ -118,3 +105,5 @@ module _ (B : ℕ) (h : 1 ≤ B) where
 
 -- four fields of which the lowest is moved up too
 pub ruleset four_moved_fields = (joined-four_up)
+
+pub ruleset five_fields = (joined-five)

@@ -1,13 +1,12 @@
--- A number that is moved up, also past the end of its type, and what comes in below it by `|`: `(history << 1) | bit`; and two or three
--- fields below a number that is written out: `0xD000 | (x << 8) | (y << 4) | n`. SideBySide.antt has the fields that lose no bit.
-use Rattle.std.specs.Prelude.{◌≡◌, ℕ, suc, ◌+◌, ◌*◌, ◌/◌, ◌%◌, ◌^◌, ◌<◌}
+-- A number that is moved up, also past the end of its type, and what comes in below it by `|`: `(history << 1) | bit`. SideBySide.antt has the
+-- fields that lose no bit.
+use Rattle.std.specs.Prelude.{◌≡◌, ℕ, ◌+◌, ◌*◌, ◌/◌, ◌%◌, ◌^◌, ◌<◌}
 use Rattle.std.specs.Int.Bits.{bit_or}
 use Rattle.std.proofs.Common.{sym, ap, subst, ◌∙◌, arith, div-add-mod', mod-eq_of_lt}
 use Rattle.std.proofs.Math.Arith.{mod-mul}
 use Rattle.std.proofs.Math.Nat.{mod-mod, mul-add-mod_self_right, mul-mod_left}
-use Rattle.std.proofs.lemmas.Grind.{low_zeros, numeral_or, or_after_shift}
-use Rattle.std.proofs.lemmas.Nat.{or_comm, or_shifted}
-use Rattle.arbitrary_laws.proofs.Everyday.{or_three}
+use Rattle.std.proofs.lemmas.Grind.{low_zeros, or_after_shift}
+use Rattle.std.proofs.lemmas.Nat.{or_comm}
 use Rattle.arbitrary_laws.proofs.fields.SideBySide.{beside}
 
 -- c is 2 to the shift, and w is 2 to the type's width: the bits below the shift are zeros
@@ -39,33 +38,3 @@ or_two_moved_in x c w y d v b p o r q e g h j =
     let z : x * c % w + y * d ≡ (u * (c / d) + y) * d = ap (λ (n : ℕ). n + y * d) m ∙ ap (λ (n : ℕ). u * n + y * d) r ∙ regroup u (c / d) d y in
     let a : (u * (c / d) + y) * d % ((u * (c / d) + y) * d + 1) ≡ (u * (c / d) + y) * d = mod-eq_of_lt (omega arith) in
     ap (λ (n : ℕ). bit_or n b) (first ∙ z ∙ sym a) ∙ or_after_shift (u * (c / d) + y) d ((u * (c / d) + y) * d + 1) b o h (omega arith) ∙ ap (λ (n : ℕ). n + b) (sym z)
-
--- ---- below a number that is written out, which `suc m` fits
-
-join : (a x c : ℕ) → a * c + x * c ≡ (a + x) * c
-join a x c = grind arith
-
-module _ (m x c w : ℕ) (low : suc m % 2 ^ low_zeros 128 (suc m) ≡ 0) (whole : suc m ≡ suc m / c * c) (below : x * c < 2 ^ low_zeros 128 (suc m)) (fits : x * c < w) where
-  one : bit_or (suc m) (x * c % w) ≡ suc m + x * c
-  one = let s : x * c % w ≡ x * c = mod-eq_of_lt fits in ap (bit_or (suc m)) s ∙ numeral_or m (x * c) low below
-
-  together : suc m + x * c ≡ (suc m / c + x) * c
-  together = let t = join (suc m / c) x c in omega arith
-
-pub numeral_two : (m x c w b : ℕ) → c ≡ 2 ^ low_zeros 128 c → suc m % 2 ^ low_zeros 128 (suc m) ≡ 0 → suc m ≡ suc m / c * c
-    → x * c < 2 ^ low_zeros 128 (suc m) → b < c → x * c < w → bit_or (bit_or (suc m) (x * c % w)) b ≡ suc m + x * c + b
-numeral_two m x c w b p e q f g h =
-    let k = low_zeros 128 c in
-    let z = together m x c w e q f h in
-    ap (λ (n : ℕ). bit_or n b) (one m x c w e q f h ∙ z) ∙ ap (λ (n : ℕ). bit_or ((suc m / c + x) * n) b) p
-    ∙ or_shifted (suc m / c + x) k b (omega arith) ∙ ap (λ (n : ℕ). (suc m / c + x) * n + b) (sym p) ∙ ap (λ (n : ℕ). n + b) (sym z)
-
-pub numeral_three : (m x c w y d v b : ℕ) → c ≡ 2 ^ low_zeros 128 c → d ≡ 2 ^ low_zeros 128 d → suc m % 2 ^ low_zeros 128 (suc m) ≡ 0 → suc m ≡ suc m / c * c
-    → c ≡ c / d * d → x * c < 2 ^ low_zeros 128 (suc m) → y * d < c → b < d → x * c < w → y * d < v
-    → bit_or (bit_or (bit_or (suc m) (x * c % w)) (y * d % v)) b ≡ suc m + x * c + y * d + b
-numeral_three m x c w y d v b p o e q r f g h i j =
-    let u = suc m / c + x in
-    let z = together m x c w e q f i in
-    let n : u * c % (u * c + 1) ≡ u * c = mod-eq_of_lt (omega arith) in
-    ap (λ (k : ℕ). bit_or (bit_or k (y * d % v)) b) (one m x c w e q f i ∙ z ∙ sym n)
-    ∙ or_three u c (u * c + 1) y d v b p o r g h (omega arith) j ∙ ap (λ (k : ℕ). k + y * d + b) (sym z)

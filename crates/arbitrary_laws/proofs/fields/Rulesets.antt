@@ -1,30 +1,18 @@
 -- Small sets of laws of fields of a word, each for one kind of goal. Sets.antt has the set of the whole topic.
 use Rattle.arbitrary_laws.proofs.Everyday.{or_three}
 use Rattle.arbitrary_laws.proofs.fields.EmptyWord.{with_field-of_nothing}
-use Rattle.arbitrary_laws.proofs.fields.JoinedFields.{joined-five, joined-four, joined-three}
 use Rattle.arbitrary_laws.proofs.fields.JoinedWords.{words_read_back}
-use Rattle.arbitrary_laws.proofs.fields.MovedIn.{numeral_three, numeral_two, or_moved_above, or_moved_in, or_two_moved_in}
+use Rattle.arbitrary_laws.proofs.fields.MovedIn.{or_moved_above, or_moved_in, or_two_moved_in}
 use Rattle.arbitrary_laws.proofs.fields.PrimitiveFlags.{and_beside, or_flags, xor_flags}
 use Rattle.arbitrary_laws.proofs.fields.ReadBack.{low_of_three, middle_of_three}
 use Rattle.arbitrary_laws.proofs.fields.ReplacedField.{and_around, or-into_cleared, or_below_mask, or_into_hole, written-inside, written-outside}
-use Rattle.arbitrary_laws.proofs.fields.SideBySide.{below_numeral, numeral_next, or_five, or_four, or_next, or_six, or_three_up}
+use Rattle.arbitrary_laws.proofs.fields.SideBySide.{or_next}
 use Rattle.arbitrary_laws.proofs.masks.NumberUnderMask.{and-by_complement, and-digits}
 use Rattle.std.proofs.lemmas.Bool.Decides.{Decides-eqb, Decides-int_eq}
-use Rattle.std.proofs.lemmas.Grind.{and_high_numeral, and_numeral, numeral_or, or_after_shift, or_before_shift}
-
--- three to six fields put together by `|`, and one read back under a mask
-pub ruleset fields = (or_three, or_four, or_five, or_six, or_three_up, joined-three, joined-four, joined-five, and_numeral)
+use Rattle.std.proofs.lemmas.Grind.{and_high_numeral, and_numeral, or_before_shift}
 
 -- three fields put together by `|`, and a test that one of them is read back, all in one function
 pub ruleset read_back = (Decides-eqb, Decides-int_eq, middle_of_three, low_of_three, or_three, and_numeral)
-
--- numbers of a primitive put together by `|`, as many as there are, also masked ones and one that is written out
-pub ruleset joined_numbers = (or_next, numeral_next, below_numeral, or_after_shift, or_before_shift, numeral_or, and_numeral)
-
--- two fields below the lowest one of a number that is written out, and three: both laws at once are too much for the search
-pub ruleset two_marked = (numeral_two, and_numeral)
-
-pub ruleset three_marked = (numeral_three)
 
 -- a number that is moved up, also past the end of its type, and one or two fields that come in below it
 pub ruleset moved_in = (or_moved_in, or_two_moved_in, and_numeral)
