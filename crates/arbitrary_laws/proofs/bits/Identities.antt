@@ -8,7 +8,7 @@ use Rattle.arbitrary_base.specs.Range.{InRange}
 use Rattle.arbitrary_base.specs.BitList.{bits, bits_xor, val}
 use Rattle.arbitrary_base.specs.Operation.{bitwise_and, bitwise_or, bitwise_xor, bitwise_not}
 use Rattle.arbitrary_base.proofs.operations.Definition.{not-is, xor-is, by-bits, of-bits, bits-highest, bits-minus_one, bits-not, bits-not_zero, minus_one-in_range}
-use Rattle.arbitrary_base.proofs.operations.Expression.{Expression, all, apart, both, complement, either, first, none, same, second, third}
+use Rattle.arbitrary_base.proofs.operations.Expression.{all, apart, both, complement, either, first, none, same, second, third}
 
 -- ---- any numbers
 

@@ -4,7 +4,7 @@ use Rattle.std.proofs.Common.{arith}
 use Rattle.arbitrary_base.specs.Range.{InRange}
 use Rattle.arbitrary_base.specs.Operation.{bitwise_and, bitwise_not, bitwise_or, bitwise_xor}
 use Rattle.arbitrary_base.proofs.operations.Definition.{of-bits}
-use Rattle.arbitrary_base.proofs.operations.Expression.{Expression, apart, both, complement, either, first, same, second, third}
+use Rattle.arbitrary_base.proofs.operations.Expression.{apart, both, complement, either, first, same, second, third}
 
 pub or-of_parts : (s : Bool) (B : ℕ) (x y : ℤ) → 1 ≤ B → InRange s B x → bitwise_or s B (bitwise_and s B x y) (bitwise_and s B x (bitwise_not s B y)) ≡ x
 or-of_parts s B x y h f =

@@ -2,7 +2,7 @@
 -- For callers: `#![tactic(auto, using(arbitrary_laws::proofs::counts::Population::population))]`.
 use Rattle.std.specs.Bool.{beq}
 use Rattle.std.specs.List.{count_by, prefix_len, suffix_len}
-use Rattle.std.specs.Prelude.{Bool, List, [], false, length, map, not, pos, true, ℕ, ℤ, ◌&&◌, ◌+◌, ◌-◌, ◌↔◌, ◌∷◌, ◌≡◌, ◌≤◌}
+use Rattle.std.specs.Prelude.{Bool, List, [], false, length, map, not, pos, true, ℕ, ℤ, ◌&&◌, ◌+◌, ◌↔◌, ◌∷◌, ◌≡◌, ◌≤◌}
 use Rattle.std.proofs.Common.{ap, arith, refl, ◌∙◌}
 use Rattle.std.proofs.lemmas.Bool.Decides.{Decides-int_eq}
 use Rattle.arbitrary_base.specs.BitList.{bits, bits_and}

@@ -1,6 +1,6 @@
 -- A quotient times its divisor, a third power, and a negated number as a difference.
 use Rattle.std.specs.Int.{int_pow}
-use Rattle.std.specs.Prelude.{Bool, neg_ℤ, negsuc, pos, ℕ, ℤ, ◌*ℤ◌, ◌*◌, ◌+◌, ◌-ℤ◌, ◌-◌, ◌/◌, ◌<◌, ◌≡◌, ◌≤ℤ◌, ◌≤◌}
+use Rattle.std.specs.Prelude.{Bool, neg_ℤ, negsuc, pos, ℕ, ℤ, ◌*ℤ◌, ◌*◌, ◌+◌, ◌-ℤ◌, ◌/◌, ◌<◌, ◌≡◌, ◌≤ℤ◌, ◌≤◌}
 use Rattle.std.proofs.Common.{ap, arith, div-add-mod', mod-lt, mul-le-mul, refl, sym, ◌∙◌}
 use Rattle.std.proofs.Math.IntN.{*ℤ_comm}
 use Rattle.std.proofs.lemmas.Int.{ints}

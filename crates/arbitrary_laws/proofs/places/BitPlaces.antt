@@ -1,14 +1,14 @@
 -- The bits of a number with or without a sign by their places: of a result, of one bit that is set, cleared or turned over, and as they are tested,
 -- by `x & (1 << k)` and by `(x >> k) & 1`.
 -- For callers: `#![tactic(auto, using(arbitrary_laws::proofs::places::BitPlaces::bit_places))]`.
-use Rattle.std.specs.Prelude.{◌≡◌, ◌≢◌, ◌⊎◌, ℕ, ℤ, zero, suc, Bool, true, false, not, ◌&&◌, ◌||◌, ◌==◌, List, [], ◌∷◌, ◌++◌, drop, get_or, length, replicate, take, pos, unsigned_abs, ◌≤◌, ◌<◌, ◌-◌, ◌*◌, ◌/◌, ◌%◌, ◌^◌, ◌-ℤ◌}
+use Rattle.std.specs.Prelude.{◌≡◌, ◌≢◌, ◌⊎◌, ℕ, ℤ, zero, suc, Bool, true, false, not, ◌&&◌, ◌||◌, ◌==◌, List, ◌∷◌, ◌++◌, drop, get_or, length, replicate, take, pos, unsigned_abs, ◌≤◌, ◌<◌, ◌-◌, ◌*◌, ◌/◌, ◌%◌, ◌^◌, ◌-ℤ◌}
 use Rattle.std.specs.Bool.{beq}
 use Rattle.std.specs.Ordering.{int_eq}
 use Rattle.std.proofs.Common.{refl, sym, ap, ◌∙◌, arith, inl, inr, pow-suc, length-drop}
 use Rattle.std.proofs.lemmas.Int.{ints}
 use Rattle.std.proofs.lemmas.Bool.{cases_lt}
 use Rattle.std.proofs.lemmas.Bool.Decides.{Decides-int_eq}
-use Rattle.std.proofs.lemmas.List.{ext_get_or, get_or_append_left, get_or-drop, get_or-map, get_or-replicate, length-replicate}
+use Rattle.std.proofs.lemmas.List.{ext_get_or, get_or_append_left, get_or-drop, get_or-replicate, length-replicate}
 use Rattle.std.proofs.Math.Nat.{div-div-eq-div-mul}
 use Rattle.std.proofs.Math.Pow.{pow_mono}
 use Rattle.arbitrary_base.specs.Range.{InRange}
@@ -16,7 +16,7 @@ use Rattle.arbitrary_base.specs.BitList.{bits, bits_and, fill, val}
 use Rattle.arbitrary_base.specs.Operation.{bitwise_and, bitwise_not, bitwise_or, bitwise_xor, shifted_left, shifted_right}
 use Rattle.arbitrary_base.proofs.bit_lists.UnsignedNumber.{digit, length-bits, same_length}
 use Rattle.arbitrary_base.proofs.operations.BitByBit.{bit, bit-and, bit-not, bit-or, bit-xor}
-use Rattle.arbitrary_base.proofs.operations.Definition.{and-is, bits-and, bits-left, bits-not, bits-or, bits-right, bits-xor, bits-zero, by-bits, left-is, zero-is}
+use Rattle.arbitrary_base.proofs.operations.Definition.{and-is, bits-and, bits-left, bits-right, bits-zero, by-bits, left-is, zero-is}
 use Rattle.arbitrary_base.proofs.operations.KnownMask.{and-by_one}
 use Rattle.arbitrary_laws.proofs.counts.CountBounds.{bits-one_bit}
 use Rattle.arbitrary_laws.proofs.written.KnownCount.{digit-of}

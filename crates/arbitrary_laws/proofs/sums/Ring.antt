@@ -1,5 +1,5 @@
 -- Sums, differences and products that wrap: what one takes back of another. The laws of a ring are those of the base.
-use Rattle.std.specs.Prelude.{Bool, pos, ℕ, ℤ, ◌*ℤ◌, ◌-ℤ◌, ◌≡◌, ◌≤◌}
+use Rattle.std.specs.Prelude.{Bool, pos, ℕ, ℤ, ◌-ℤ◌, ◌≡◌, ◌≤◌}
 use Rattle.std.proofs.Common.{ap, arith, ◌∙◌}
 use Rattle.std.proofs.Math.IntN.{*ℤ_comm}
 use Rattle.std.proofs.lemmas.Int.{ints}
