@@ -1,4 +1,5 @@
--- For callers: what no single call can say, as one set to name: `#[tactic(auto, using(arbitrary_laws::proofs::Everyday::everyday))]`.
+-- For callers, one set of laws that no single call can state:
+-- `#[tactic(auto, using(arbitrary_laws::proofs::Everyday::everyday))]`.
 use Rattle.std.specs.Prelude.{◌≡◌, ℕ, ◌+◌, ◌*◌, ◌/◌, ◌%◌, ◌^◌, ◌<◌}
 use Rattle.std.specs.Int.Bits.{bit_or}
 use Rattle.std.proofs.Common.{arith, ap, sym, ◌∙◌, mod-eq_of_lt}

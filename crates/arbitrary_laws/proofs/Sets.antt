@@ -1,6 +1,7 @@
--- The public sets of laws, one a topic, for callers: `#![tactic(auto, using(arbitrary_laws::proofs::Sets::bits))]` atop a file, or without the
--- first `!` on a function. docs/SETS.md has two examples of each. The small sets that they are made of are next to their lemmas, and have a few
--- laws that are not here: beside so many laws the search would come to its limit.
+-- The public sets of laws, one for each topic. Write
+-- `#![tactic(auto, using(arbitrary_laws::proofs::Sets::bits))]` at the top of a file, or without the first `!`
+-- on a function. docs/SETS.md has facts that each proves. The small sets of which they consist are next to their
+-- lemmas, and have a few more laws: with all of them the search would run out of budget.
 use Rattle.arbitrary_base.proofs.LawProof.{in_range-tells, sums-associate}
 use Rattle.arbitrary_base.proofs.bit_lists.TwosComplement.{num-bits_residue, val-bits_in_range}
 use Rattle.arbitrary_base.proofs.bit_lists.UnsignedNumber.{length-bits}
@@ -131,10 +132,10 @@ pub ruleset masks = (Decides-int_eq, and-digits, and-digits_signed, and-run, and
 -- shifts and rotations, also by an amount that varies, and the masks that they make
 pub ruleset shifts = (Decides-int_eq, rotated_right-none, rotated_right-twice, rotated_right-round, rotated_right-zero, rotated_right-highest, rotated_right-minus_one, rotated_right-not_zero, rotated_right-and, rotated_right-or, rotated_right-xor, rotated_right-not, right_rotations-exchanged, left_rotations-exchanged, rotations-exchanged, left-undoes_right, right-undoes_left, reversed-rotated_left, reversed-rotated_right, right_rotations-equal, popcount-of_right, not-of_highest, not-of_minus_one, bitwise_not-zero, bitwise_not-zero_signed, right-of_highest, low-exact, and-not_low, low-joined, low-turned, without-low, low-again, low-wrapped, parts-wrapped, right-again, and-highest_moved, and-minus_one_moved, right-of_masked, right-of_masked_signed, right-of_low, left-of_low, low-of_left, bitwise_or-commutes, bitwise_xor-commutes, lt-tested, le-tested, left-of_one, and-low, rest-in_range, parts-in_range, parts-exact, part-at_most, shifted_left-negated, shifted_left-exchanged, shifted_right-exchanged, product-of_shifted, product-shifted, wrapped_product-one, wrapped_product-commutes, set-beside_cleared, turned-beside_cleared, low-of_turned_right, reversed_left-converted, left-truncated, shifted_right-is_shr, shifted_left-none, shifted_left-zero, shifted_left-twice, shifted_left-past, shifted_left-sum, shifted_left-difference, shifted_left-and, shifted_left-or, shifted_left-xor, sum-twice, shifted_right-none, shifted_right-zero, shifted_right-twice, shifted_right-and, shifted_right-or, shifted_right-xor, right_left-mask, right_left-mask_signed, right_left-mask_not, left_right-mask, left_right-mask_not, shifted_right-not, right_left-numeral, right_left-numeral_signed, left_right-numeral, left_right-wraps, wrap-of_in_range, bitwise_xor-zero, bitwise_xor-undoes, bitwise_xor-chain, bitwise_xor-exchanged, shifted_right-past, folded-twice, folded-away, folds-exchanged, rotated_left-none, rotated_left-twice, rotated_left-round, rotated_left-zero, rotated_left-highest, rotated_left-minus_one, rotated_left-not_zero, rotated_left-and, rotated_left-or, rotated_left-xor, rotated_left-not, rotated_right-as_left, reversed-zero, reversed-highest, reversed-minus_one, reversed-not_zero, reversed-and, reversed-or, reversed-xor, reversed-not, reversed-twice, reversed-shifted_left, reversed-shifted_right, rotated_left-as_shifts, rotated_left-as_xor, rotated_left-as_sum, reversed-one, reversed-one_bit, wrapped_sum-commutes, rotated_left-number, rotated_right-number, and-digits, right-as_left_round)
 
--- the sign of a number: as a mask, told by bits, overflows, and a number with its sign turned over
+-- the sign of a number: as a mask and in bits, overflows, and a number with its sign turned over
 pub ruleset signs = (Decides-int_eq, sign-spread, and-with_all, and-with_none, or-with_all, or-with_none, xor-with_all, xor-with_none, xor-of_sum, difference-of_xor, absolute-by_double, bitwise_xor-undoes, bitwise_xor-commutes, bitwise_and-commutes, bitwise_or-commutes, le-tested, lt-tested, ge-tested, gt-tested, ge-by_lt, and-negative, or-negative, xor-negative, not-sign, below-by_bits, below-by_overflow, most-by_bits, not_zero-by_sign, positive-by_sign, differ-by_sign, like-overflow_flag, sum-overflow_told, difference-overflow_told, like-overflow_told, sum-overflow_ends, difference-overflow_ends, sum-overflow_flag, difference-overflow_flag, xor-sign_told, xor-by_sign, and-by_sign, or-by_sign, and-by_complement, turned-number, turned-order, highest-turned_order, highest-turned_order_back, coded-by_sign)
 
--- `<`, `<=` and `==` of results, beside bits, exact sums and what clamps
+-- `<`, `<=` and `==` of results, with bits, exact sums and clamped results
 pub ruleset orders = (Decides-int_eq, le-tested, lt-tested, ge-tested, gt-tested, or-above, and-below_or, xor-below_or, or-below_sum, or-below_clamped, difference-below_xor, shifted_right-keeps_order, and-negative, or-negative, xor-negative, bitwise_and-commutes, bitwise_or-commutes, bitwise_xor-commutes, further-at_most, nearer-at_least, within-at_most, and-at_most, or-at_least, sums-equal, differences-equal, differences_from-equal, xors-equal, nots-equal, reversals-equal, left_rotations-equal, right_rotations-equal, wrapped_sum-commutes, ints, or-by_and, xor-by_and, and-by_complement, or-at_most_sum, xor-at_most_sum, clamped-difference_twice, clamped-differences_exchanged, difference-of_clamped_sum, clamp-fits, clamp-below, clamp-above, and_not-none, or-unchanged, or-equal_xor, xor-equal_or, xor-unchanged, xor-none, bitwise_and-same, or-none, and-minus_one, and-highest)
 
 -- conversions, quotients, remainders, small powers, and calls on written numbers
@@ -151,7 +152,7 @@ pub ruleset uint_words = (and_runs, and_none, differing, or_apart, joined_apart,
 -- carry, overflow and borrow by one bit of a primitive or a `UInt`
 pub ruleset overflow_flags = (one_bits, ints)
 
--- words of fields and flags: joined, written in place, read back, with a sign, beside conversions
+-- words of fields and flags: joined, written in place, read back, with a sign, with conversions
 pub ruleset fields = (or_next, or_after_shift, or_above, or_above_numeral, numeral_next, or_numeral_first, or_numeral_last, or_numeral_between, or_masked, and_above, and_numeral, ints, Decides-eqb, Decides-int_eq, and_beside, and_around, or_into_hole, or_flags, or_moved_in, or_moved_above, xor_flags, or-into_cleared, and-by_complement, and-digits, one_shifted, pos-unsigned_abs, bit_tested, bit_set, bit_set-other, bit_turned, bit_turned-other, bit_cleared, bit_cleared-other, set_then_cleared, Borsh-told, number-of_Borsh, number-of_Borsh_signed, first-of_Borsh, first-of_Borsh_signed, reverse-reverse, signed_items, length-of_text, numbers-head, last_of-joined, numbers-end, numbers-count, with_field-of_nothing, and-digits_signed, and-run, and-congruent, and-multiple, and-multiple_by_negative, and-within, and-below, and-by_negative, or-by_and, xor-by_and, and-of_cleared, and-of_set, own_bits-in_range, wrap-congruent, signed_primitive, sum-right, sum-left, difference-right, difference-left, product-right, product-left, word_sum-right, congruent-by_remainder, wrap-of_in_range, wrap-wrap, clamp-fits, length-bits, num-bits_residue, val-bits_in_range, in_range-tells, sums-associate, or_three, wrap-remainder, wrap-masked, word_sum-left, word_sum-before, word_sum-after, word_difference-right, wrap-word_difference, lowest_field, lowest_field-wrapped, or_below_flag, signed-of_bits, signed-of_unsigned, unsigned-of_signed, bits-of_signed, written-congruent, bitwise_and-complement, field_cleared, field_written, placed-written)
 
 -- streams, byte orders and texts

@@ -1,4 +1,4 @@
--- A number of which at most one bit is one: 0 or a power of two, told by `x & (x - 1) == 0` and by the count at once.
+-- A number with at most one bit that is one, so 0 or a power of two: by `x & (x - 1) == 0` and by the count.
 -- For callers: `#![tactic(auto, using(arbitrary_laws::proofs::bits::AtMostOneBit::at_most_one_bit))]`.
 use Rattle.std.specs.List.{count_by}
 use Rattle.std.specs.Prelude.{Bool, pos, suc, zero, ℕ, ℤ, ◌↔◌, ◌≡◌, ◌≢◌, ◌≤◌}

@@ -1,6 +1,7 @@
--- Numbers of one type compared at one place: two numbers are equal where they have the same bit at the place at which they differ first, and a
--- bit of a result of `&`, `|`, `^` or `!` is the same of the operands' bits. So each law of these operations closes by cases of single bits.
--- MovedBits.antt has the bits of what shifts, rotations and conversions give.
+-- Numbers of one type compared at one place. Two numbers are equal if they have the same bit at the place at
+-- which they first differ, and a bit of a result of `&`, `|`, `^` or `!` is the same operation on the operands'
+-- bits. So a law of these operations is proved by cases of single bits. MovedBits.antt has the bits of the
+-- results of shifts, rotations and conversions.
 use Rattle.std.specs.Prelude.{◌≡◌, ◌≤◌, ◌<◌, ◌⊎◌, ◌+◌, ◌-◌, ◌%◌, ◌^◌, ◌-ℤ◌, ℕ, ℤ, Bool, zero, suc, true, false, not, ◌&&◌, ◌||◌, pos, negsuc, List, [], ◌∷◌, get_or, length}
 use Rattle.std.specs.Bool.{beq}
 use Rattle.std.specs.Int.{int_div_euclid}

@@ -1,4 +1,5 @@
--- `|`, `^` and `& !` told by `&` and sums, exactly: a law of them beside sums, differences and the order is linear arithmetic then.
+-- `|`, `^` and `& !` as exact sums of `&` and the operands. A law that relates them to sums, differences and the
+-- order is then linear arithmetic.
 -- For callers: `#![tactic(auto, using(arbitrary_laws::proofs::bits::BitSums::bit_sums))]`.
 use Rattle.std.specs.Prelude.{false, ℕ, ℤ, ◌+ℤ◌, ◌≡◌, ◌≤ℤ◌, ◌≤◌}
 use Rattle.std.proofs.Common.{arith, refl}
@@ -21,5 +22,5 @@ module _ (B : ℕ) (x y : ℤ) (h : 1 ≤ B) (f : InRange false B x) (g : InRang
 
 pub ruleset bit_sums = (Decides-int_eq, ints, le-tested, lt-tested, ge-tested, gt-tested, or-by_and, xor-by_and, and-by_complement, bitwise_and-commutes)
 
--- the order of `|` and `^` beside the sum
+-- the order of `|`, `^` and the sum
 pub ruleset at_most_sums = (or-at_most_sum, xor-at_most_sum)

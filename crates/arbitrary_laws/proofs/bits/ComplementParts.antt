@@ -1,4 +1,5 @@
--- The complement of `^` and of `|` beside sums and differences; `&` and `& !` by a difference from `|`; and `^` by carries.
+-- The complements of `^` and `|` in sums and differences, `&` and `& !` as a difference from `|`, and `^` by
+-- carries.
 -- For callers: `#![tactic(auto, using(arbitrary_laws::proofs::bits::ComplementParts::complement_parts))]`.
 use Rattle.std.specs.Prelude.{Bool, negsuc, pos, ℕ, ℤ, ◌-ℤ◌, ◌≡◌, ◌≤◌}
 use Rattle.std.proofs.Common.{arith, subst, sym}

@@ -1,5 +1,6 @@
--- The algebra of `&`, `|`, `^` and `!` on the numbers of a type: what commutes, associates, distributes and absorbs, beside 0 and the number whose
--- bits are all one. Parts.antt has one operation in terms of others; four laws that the calls rest on are in the base's Bitwise.antt.
+-- The algebra of `&`, `|`, `^` and `!` on the numbers of a type: they commute, associate, distribute and absorb,
+-- also with 0 and with the number whose bits are all one. Parts.antt states one operation by others.
+-- Bitwise.antt of `arbitrary_base` has four laws that the calls need.
 use Rattle.std.specs.Prelude.{◌≡◌, ℕ, ℤ, Bool, true, false, List, pos, negsuc, ◌≤◌, ◌^◌, ◌-ℤ◌}
 use Rattle.std.proofs.Common.{sym, ap, ◌∙◌, arith}
 use Rattle.std.proofs.lemmas.Int.{ints}

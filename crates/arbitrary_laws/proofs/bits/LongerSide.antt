@@ -1,5 +1,6 @@
--- Laws that tell one operation by several others, each from its longer side: the search meets such a law only where the longer side stands, and
--- so tells no operation by others again and again. The set `bits` of Sets.antt has these; the small sets have the laws from the shorter side.
+-- Laws that rewrite several operations to one, each from its longer side. The search applies such a law only
+-- where the longer side occurs, so it does not rewrite back and forth. The set `bits` of Sets.antt has these.
+-- The small sets have the laws from the shorter side.
 use Rattle.std.specs.Prelude.{Bool, false, pos, ℕ, ℤ, ◌+◌, ◌≡◌, ◌≤◌}
 use Rattle.std.proofs.Common.{ap, arith, sym, ◌∙◌}
 use Rattle.arbitrary_base.specs.Operation.{bitwise_and, bitwise_not, bitwise_or, bitwise_xor, rotated_left, shifted_left, shifted_right, wrapped_difference, wrapped_sum}

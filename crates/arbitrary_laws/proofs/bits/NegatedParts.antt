@@ -1,4 +1,4 @@
--- Differences of two of `&`, `|` and `^` in the order that gives a negated one.
+-- Differences of two of `&`, `|` and `^` whose result is negated.
 -- For callers: `#![tactic(auto, using(arbitrary_laws::proofs::bits::NegatedParts::negated_parts))]`.
 use Rattle.std.specs.Prelude.{Bool, pos, ℕ, ℤ, ◌-ℤ◌, ◌≡◌, ◌≤◌}
 use Rattle.std.proofs.Common.{arith}

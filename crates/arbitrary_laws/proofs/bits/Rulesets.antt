@@ -13,7 +13,7 @@ pub ruleset bits = (Decides-int_eq, bitwise_and-commutes, bitwise_and-associates
 -- `& | ^ !` one over another
 pub ruleset distribution = (Decides-int_eq, and-distributes_or, or-distributes_and, and-distributes_xor, and-absorbs, or-absorbs, not-and_parts, not-or_parts, not-xor_left, xor-is_and, bitwise_and-commutes, bitwise_or-commutes, bitwise_xor-commutes, bitwise_not-twice)
 
--- a number taken apart and put together under a mask, and one operation told by others
+-- a number taken apart and put together under a mask, and one operation computed by others
 pub ruleset masks = (Decides-int_eq, or-of_parts, sum-of_parts, choice-is_xor, and-or_of_not, or-and_of_not, xor-is_or, and_not-is_xor, or-is_xor, bitwise_and-commutes, bitwise_or-commutes, bitwise_xor-commutes, majority-is_xor)
 
 -- any law of `& | ^ !`: the two sides are compared bit by bit

@@ -1,4 +1,5 @@
--- The bytes of a number in a stream: they tell the number, also where more bytes follow, and compare as the numbers do.
+-- The bytes of a number in a stream: they determine the number, also if more bytes follow, and they compare as
+-- the numbers do.
 use Rattle.std.specs.Int.{div_ceil}
 use Rattle.std.specs.Prelude.{Bool, List, false, length, pos, reverse, take, true, ℕ, ℤ, ◌*◌, ◌++◌, ◌<◌, ◌^◌, ◌≡◌, ◌≤◌}
 use lib.Dec.{eqb}

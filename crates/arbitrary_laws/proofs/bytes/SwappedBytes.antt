@@ -1,4 +1,5 @@
--- A number with its bytes in the other order, beside `&`, `|`, `^`, `!`, the reversal of its bits, their count, and `==`.
+-- A number with its bytes in reverse order, under `&`, `|`, `^`, `!`, the reversal of its bits, their count, and
+-- `==`.
 -- For callers: `#![tactic(auto, using(arbitrary_laws::proofs::bytes::SwappedBytes::swapped_words))]`.
 use Rattle.std.specs.Bool.{beq}
 use Rattle.std.specs.Int.{bytes_low_first}

@@ -1,4 +1,4 @@
--- The counts of a number that is converted: to the type of its width with the other sign, and to one of Rust's own integers.
+-- The counts of a converted number: to the type of its width with the other sign, and to a primitive.
 -- For callers: `#![tactic(auto, using(arbitrary_laws::proofs::counts::ConvertedCounts::converted_counts))]`.
 use Rattle.std.specs.Int.{Width, cast_unsigned}
 use Rattle.std.specs.Int.Count.{count_trailing_zeros, under}

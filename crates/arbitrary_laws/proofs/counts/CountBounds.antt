@@ -1,4 +1,4 @@
--- More laws of counts: of `^`, of shifted numbers and of one bit; and the runs of a number that is written out.
+-- More laws of counts: of `^`, of shifted numbers and of one bit, and the runs of a constant.
 -- For callers: `#![tactic(auto, using(arbitrary_laws::proofs::counts::CountBounds::count_bounds))]`.
 use Rattle.std.specs.Bool.{beq}
 use Rattle.std.specs.List.{count_by, prefix_len, suffix_len}

@@ -1,5 +1,5 @@
--- How many zeros stand at the high end: of a number that is written out, below a power of two or from one on, and of the greater of two;
--- and beside the counts of Rust's own integers.
+-- The leading zeros of a constant, of a number below a power of two or at least 1, of the greater of two, and of
+-- primitives.
 -- For callers: `#![tactic(auto, using(arbitrary_laws::proofs::counts::LeadingZeros::leading_zeros))]`.
 use Rattle.std.specs.Bool.{beq}
 use Rattle.std.specs.Int.Count.{count_leading_zeros}
@@ -42,7 +42,7 @@ tail-orders B (pos (suc n)) y h f g o = by-order (cases_lt (suffix_len (beq fals
         absurd (omega (arith, ints))
     by-order (inr less) = less
 
--- ---- beside the count of a primitive
+-- ---- with the count of a primitive
 
 pub leading-of_primitive : (W n : ℕ) → W ≤ 128 → n < 2 ^ W → count_leading_zeros W n + 128 ≡ count_leading_zeros 128 n + W
 leading-of_primitive W n h g = let p = pow_mono h in omega (arith, leading-counted W n h g, leading-counted 128 n (omega arith) (omega arith))

@@ -1,4 +1,5 @@
--- How many bits are one in a number's lowest bit and the zeros below it, and with its lowest zero filled; and that bit told by `^`.
+-- The number of ones in a number's lowest set bit and in the zeros below it, and with its lowest zero filled;
+-- and that bit by `^`.
 -- For callers: `#![tactic(auto, using(arbitrary_laws::proofs::counts::LowestBitCounts::lowest_bit_counts))]`.
 use Rattle.std.specs.Bool.{beq}
 use Rattle.std.specs.List.{count_by, prefix_len}

@@ -1,4 +1,4 @@
--- A number shifted by its own count of zeros: an odd number is left, and shifted back it is the number again.
+-- A number shifted right by its trailing zeros: the result is odd, and shifting it back returns the number.
 -- For callers: `#![tactic(auto, using(arbitrary_laws::proofs::counts::NormalShifts::normal_shifts))]`.
 use Rattle.std.specs.Bool.{beq}
 use Rattle.std.specs.List.{count_by, prefix_len}

@@ -1,4 +1,4 @@
--- How many bits are one where two numbers meet under `&`, `|`, `^` and `!`, and in a sum of numbers that share no bit.
+-- The number of ones in `&`, `|`, `^` and `!` of two numbers, and in a sum of numbers that share no bit.
 -- For callers: `#![tactic(auto, using(arbitrary_laws::proofs::counts::Population::population))]`.
 use Rattle.std.specs.Bool.{beq}
 use Rattle.std.specs.List.{count_by, prefix_len, suffix_len}
@@ -31,7 +31,7 @@ popcount-of_or s B x y =
     let f = popcount-of_and s B x y in
     (omega arith, omega arith)
 
--- ---- how many alike stand at an end
+-- ---- how many equal bits are at an end
 
 pub front-of_not_zero : (s : Bool) (B : ℕ) → prefix_len (beq true) (bits B (bitwise_not s B (pos 0))) ≡ B
 front-of_not_zero s B = ap (prefix_len (beq true)) (bits-not_zero s B) ∙ front-alike true B

@@ -1,4 +1,5 @@
--- The runs of zeros and ones at the ends of `&`, `|` and `^` of two numbers, and of a shifted one; and both ends of one number beside its ones.
+-- The runs of zeros and ones at the ends of `&`, `|` and `^` of two numbers and of a shifted number, and both
+-- ends of one number with its count.
 -- For callers: `#![tactic(auto, using(arbitrary_laws::proofs::counts::RunsOfTwo::runs_of_two))]`.
 use Rattle.std.specs.Bool.{beq}
 use Rattle.std.specs.Int.{int_shr}
@@ -212,7 +213,7 @@ one-more (false ∷ l) b = elim (one-more l b) [
   | inr n ↦ inr (omega (arith, n.0, popcount-cons false l), omega (arith, n.1))
 ]
 
--- the ones stand between the two runs of zeros, and a single one fills what is left
+-- the ones are between the two runs of zeros, and a single one fills what is left
 abbrev pub Between : ℕ → ℕ → ℕ → ℕ → Type 0
 Between n front tail ones = (front + tail + ones ≤ n) × (n + n ≤ front + tail + 1 + n * ones)
 

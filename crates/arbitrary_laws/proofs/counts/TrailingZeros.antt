@@ -1,4 +1,4 @@
--- How many zeros stand at the low end of a multiple of a power of two.
+-- The trailing zeros of a multiple of a power of two.
 -- For callers: `#![tactic(auto, using(arbitrary_laws::proofs::counts::TrailingZeros::trailing_zeros))]`.
 use Rattle.std.specs.Prelude.{◌≡◌, ◌⊎◌, ℕ, zero, suc, ◌≤◌, ◌<◌, ◌+◌, ◌*◌, ◌/◌, ◌%◌, ◌^◌}
 use Rattle.std.proofs.Common.{refl, sym, ◌∙◌, arith, inl, inr, mod-eq_of_lt, pow-suc}

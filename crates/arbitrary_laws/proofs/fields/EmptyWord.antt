@@ -1,4 +1,4 @@
--- A field that is put into an empty word.
+-- A field that is written into an empty word.
 use Rattle.std.specs.Prelude.{◌≡◌, ℕ, ℤ, false, pos, ◌++◌, length, take, drop, unsigned_abs, ◌+◌, ◌*◌, ◌≤◌, ◌^◌}
 use Rattle.std.proofs.Common.{ap, ◌∙◌, arith, length-take}
 use Rattle.arbitrary_base.specs.Range.{InRange}

@@ -1,5 +1,6 @@
--- What a field of a primitive reads of a word that `|` and masks have made: the same of each part. So several fields that are written at once,
--- under masks and beside written numbers in any order, are read back, and the other fields stay.
+-- What a field of a primitive reads of a word made of `|` and masks: the same of each part. So several fields
+-- that are written at once, under masks and with constants in any order, are read back, and the other fields do
+-- not change.
 -- For callers: `#![tactic(auto, using(arbitrary_laws::proofs::fields::FieldReads::field_reads))]`.
 use Rattle.std.specs.Prelude.{◌≡◌, ℕ, suc, ◌+◌, ◌-◌, ◌*◌, ◌/◌, ◌%◌, ◌^◌, ◌<◌}
 use Rattle.std.specs.Int.Bits.{bit_and, bit_or, or_add_and}

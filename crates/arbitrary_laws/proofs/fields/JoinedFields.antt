@@ -1,5 +1,5 @@
--- Fields side by side in a `UInt`, put together by `|`, the high one first: five of them, and four of which the lowest is moved up too.
--- JoinedWords.antt has those of primitives, and up to four.
+-- Three to five adjacent fields in a `UInt`, joined by `|`, the high one first. SideBySide.antt has those of
+-- primitives.
 use Rattle.std.specs.Prelude.{◌≡◌, ℕ, ℤ, false, pos, negsuc, unsigned_abs, ◌+◌, ◌-◌, ◌*◌, ◌^◌, ◌≤◌, ◌<◌, ◌≤ℤ◌, ◌<ℤ◌, ◌+ℤ◌, ◌-ℤ◌, ◌*ℤ◌}
 use Rattle.std.specs.Int.Bits.{bit_or}
 use Rattle.std.proofs.Common.{refl, sym, ap, ap₂, subst, ◌∙◌, arith, pow-add, mul-le-mul_right}
@@ -51,7 +51,7 @@ module _ (B : ℕ) (h : 1 ≤ B) where
   Stack : ℕ → ℤ → ℤ → Type 0
   Stack k u w = (u ≡ w) × (Multiple k w × (w <ℤ pos (2 ^ B)))
 
-  -- what is below that place, beside it
+  -- what is below that place
   last : (k : ℕ) (u w z : ℤ) → k < B → Stack k u w → pos 0 ≤ℤ z → z <ℤ pos (2 ^ k) → bitwise_or false B u z ≡ w +ℤ z
   unfolding Multiple Stack
   last k u w (negsuc z) g s a b = absurd (omega (arith, ints, a))

@@ -1,7 +1,8 @@
--- Words of fields put together by `|`, as registers, headers and instructions have them: any number of fields, the high one first or the low one
--- first, with gaps between them or none, and beside numbers that are written out, in a primitive; in a `UInt` up to four, whose calls say more.
--- Each law is about one field of the word and what stands on one side of it, so no law says how many fields there are. `ints` reads the numbers
--- of these types without a case for each sign, of which a word of fields would have too many.
+-- Words of fields joined by `|`, as in registers, headers and instructions: in a primitive any number of fields,
+-- the high one first or the low one first, with or without gaps, and with constants; in a `UInt` up to four,
+-- because its calls state more. Each law is about one field and the bits on one side of it, so no law depends on
+-- the number of fields. `ints` reads the numbers of these types without a case for each sign, which would be too
+-- many for a word of fields.
 -- For callers: `#![tactic(auto, using(arbitrary_laws::proofs::fields::JoinedWords::joined_words))]`.
 use Rattle.std.specs.Prelude.{◌≡◌, ℕ, zero, suc, ◌+◌, ◌-◌, ◌*◌, ◌/◌, ◌%◌, ◌^◌, ◌<◌}
 use Rattle.std.specs.Int.Bits.{bit_and, bit_or, bit_xor}

@@ -1,5 +1,5 @@
--- The lowest field of a word that is put together by `|`: what the word is congruent to, also where the field has a sign; and what comes below
--- a flag that a test sets above a field.
+-- The lowest field of a word that is joined by `|`: the congruence of the word, also for a signed field, and the
+-- bits below a flag that a test sets above a field.
 -- For callers: `#![tactic(auto, using(arbitrary_laws::proofs::fields::LowestField::lowest_fields))]`.
 use Rattle.std.specs.Prelude.{◌≡◌, ℕ, ℤ, suc, false, pos, ◌+◌, ◌*◌, ◌%◌, ◌^◌, ◌<◌}
 use Rattle.std.specs.Int.Bits.{bit_or}

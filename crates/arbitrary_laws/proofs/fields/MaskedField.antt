@@ -1,5 +1,6 @@
--- What a written mask lets through of a number, moved up and beside what stands below it, as `((red & 0xF8) << 8) | ((green & 0xFC) << 3)`. Its
--- lowest place is that of the mask's lowest one, further up than the shift alone tells.
+-- The bits of a number under a constant mask, shifted above other bits, such as
+-- `((red & 0xF8) << 8) | ((green & 0xFC) << 3)`. The lowest place of the result is that of the mask's lowest
+-- one, which is higher than the shift.
 -- For callers: `#![tactic(auto, using(arbitrary_laws::proofs::fields::MaskedField::masked_fields))]`.
 use Rattle.std.specs.Prelude.{◌≡◌, ℕ, suc, ◌+◌, ◌*◌, ◌/◌, ◌%◌, ◌^◌, ◌<◌}
 use Rattle.std.specs.Int.Bits.{bit_and, bit_or}

@@ -1,5 +1,5 @@
--- A field at a place k that varies, written where a mask has cleared it: `(word & !(3 << k)) | (mode << k)`. It is read back, and fields apart
--- from it stay.
+-- A field at a variable place k, written where a mask has cleared it: `(word & !(3 << k)) | (mode << k)`. It is
+-- read back, and other fields do not change.
 -- For callers: `#![tactic(auto, using(arbitrary_laws::proofs::fields::PlacedField::placed_fields))]`.
 use Rattle.std.specs.Prelude.{◌≡◌, ◌⊎◌, ℕ, ℤ, suc, false, pos, unsigned_abs, ◌+◌, ◌-◌, ◌*◌, ◌/◌, ◌%◌, ◌^◌, ◌≤◌, ◌<◌}
 use Rattle.std.specs.Int.Bits.{bit_and, bit_or, or_add_and}

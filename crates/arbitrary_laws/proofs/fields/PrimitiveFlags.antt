@@ -1,4 +1,5 @@
--- Flags of a primitive under a mask that is written out, as `port | 0x20`: set, cleared, turned over and tested. The other bits stay.
+-- Flags of a primitive under a constant mask, such as `port | 0x20`: set, cleared, toggled and tested. The other
+-- bits do not change.
 use Rattle.std.specs.Prelude.{◌≡◌, ℕ, suc, ◌+◌, ◌-◌, ◌*◌, ◌/◌, ◌%◌, ◌^◌, ◌≤◌}
 use Rattle.std.specs.Int.Bits.{bit_and, bit_or, bit_xor, or_add_and, xor_add_and}
 use Rattle.std.proofs.Common.{ap, ◌∙◌, arith}

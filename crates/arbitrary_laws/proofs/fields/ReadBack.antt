@@ -1,5 +1,6 @@
--- One of three fields that were put together by `|`, read back by a quotient and a remainder, as `>>` and `as_` give them.
--- A field is a number times a power of two, as a left shift gives it. SideBySide.antt says what all of them together are.
+-- One of three fields that were joined by `|`, read back as a quotient and a remainder by `>>` and `as_`. A
+-- field is a number times a power of two, as a left shift returns it. SideBySide.antt states what all of them
+-- are together.
 use Rattle.std.specs.Prelude.{◌≡◌, ℕ, ◌+◌, ◌*◌, ◌/◌, ◌%◌, ◌^◌, ◌<◌}
 use Rattle.std.specs.Int.Bits.{bit_or}
 use Rattle.std.proofs.Common.{sym, ap, ◌∙◌, arith}

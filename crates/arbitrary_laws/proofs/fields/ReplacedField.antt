@@ -1,4 +1,5 @@
--- A field that is written where a mask has cleared one, as `(word & !0xF0) | (field << 4)`. The other bits stay.
+-- A field that is written where a mask has cleared one, such as `(word & !0xF0) | (field << 4)`. The other bits
+-- do not change.
 use Rattle.std.specs.Int.Bits.{bit_and, bit_or}
 use Rattle.std.specs.Prelude.{false, pos, suc, unsigned_abs, ℕ, ℤ, ◌%◌, ◌*◌, ◌+ℤ◌, ◌+◌, ◌-◌, ◌/◌, ◌<◌, ◌^◌, ◌≡◌, ◌≤ℤ◌, ◌≤◌}
 use Rattle.std.proofs.Common.{ap, ap₂, arith, div-add-mod', lt_of_le_of_lt, mod-eq_of_lt, pow-add, sym, ◌∙◌}

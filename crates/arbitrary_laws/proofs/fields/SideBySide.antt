@@ -1,5 +1,6 @@
--- One more field below any number of them that `|` puts together. A field is a number times a power of two, as a left shift gives it.
--- Everyday.antt has three fields, std two.
+-- Adjacent fields joined by `|`: four, five and six of them, three with the low one first, and one more below
+-- any number of them. A field is a number times a power of two, as a left shift returns it. Everyday.antt has
+-- three, and std two.
 use Rattle.std.specs.Prelude.{◌≡◌, ℕ, suc, ◌+◌, ◌*◌, ◌/◌, ◌%◌, ◌^◌, ◌<◌}
 use Rattle.std.specs.Int.Bits.{bit_or}
 use Rattle.std.proofs.Common.{refl, sym, ap, ◌∙◌, arith, div-add-mod', mod-eq_of_lt}

@@ -1,5 +1,5 @@
--- Fields with a sign in a word that is put together by `|`, or written where a mask has cleared one: the number that is read is the one whose
--- bits were written, and the bits that are written are those that were read.
+-- Signed fields in a word that is joined by `|`, or written where a mask has cleared one: you read the number
+-- whose bits you wrote, and write the bits that you read.
 -- For callers: `#![tactic(auto, using(arbitrary_laws::proofs::fields::SignedField::signed_fields))]`.
 use Rattle.std.specs.Prelude.{◌≡◌, ℕ, ℤ, suc, true, false, pos, ◌+◌, ◌*◌, ◌/◌, ◌%◌, ◌^◌, ◌≤◌, ◌<◌}
 use Rattle.std.specs.Int.Bits.{bit_and, bit_or}
@@ -34,7 +34,7 @@ bits-of_signed B n h = let u = unsigned-of_signed B n h in (refl, residue-wrap B
 quotient : (y c : ℕ) → 0 < c → y * c / c ≡ y
 quotient y c l = let e : y * c ≡ y * c + 0 = omega arith in ap (λ (i : ℕ). i / c) e ∙ div-mul-add y c 0 l
 
--- what stands there then
+-- what is there then
 written : (B w m y d v : ℕ) → d ≡ 2 ^ low_zeros 128 d → suc m / d % 2 ^ B ≡ 0 → y * d < v → bit_or (bit_and w (suc m)) (y * d % v) / d % 2 ^ B ≡ y % 2 ^ B
 written B w m y d v p f h =
     let k = low_zeros 128 d in
@@ -68,5 +68,5 @@ written-read_back w m y d v c p q f l h =
 -- the field alone
 pub ruleset signs_read_back = (signed-of_bits, signed-of_unsigned, unsigned-of_signed, bits-of_signed, written-congruent)
 
--- and what stands beside it in the word
+-- and the other bits of the word
 pub ruleset signed_fields = (words_read_back, signs_read_back, written-read_back)

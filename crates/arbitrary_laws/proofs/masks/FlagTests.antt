@@ -1,5 +1,5 @@
--- A number under a written mask with several ones, compared with a written number: each one of the mask is compared alone. So flags that are
--- tested at once are tested one by one, and each by its place.
+-- A number under a constant mask with several ones, compared with a constant: each one of the mask is compared
+-- alone. So a test of several flags is a test of each flag, by its place.
 -- For callers: `#![tactic(auto, using(arbitrary_laws::proofs::masks::FlagTests::flag_tests))]`.
 use Rattle.std.specs.Int.Bits.{and_self, bit_and}
 use Rattle.std.specs.Ordering.{int_eq}

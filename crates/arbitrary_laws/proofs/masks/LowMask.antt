@@ -1,5 +1,5 @@
--- The mask of the k lowest bits of a primitive, where k varies, as `(1 << k) - 1` or `!(u32::MAX << k)`: what it keeps of a number, and what its
--- complement keeps.
+-- The mask of the k lowest bits of a primitive, where k is variable, such as `(1 << k) - 1` or
+-- `!(u32::MAX << k)`: the bits that it keeps, and those that its complement keeps.
 -- For callers: `#![tactic(auto, using(arbitrary_laws::proofs::masks::LowMask::low_masks))]`.
 use Rattle.std.specs.Prelude.{◌≡◌, ℕ, suc, ◌+◌, ◌-◌, ◌*◌, ◌/◌, ◌%◌, ◌^◌, ◌≤◌, ◌<◌}
 use Rattle.std.specs.Int.Bits.{bit_and, bit_or}

@@ -1,5 +1,6 @@
--- The low bits of a sum, a difference or a product that wraps, under a written mask, as `(x + y) & 15`: masks of the operands that keep these
--- bits change nothing, and what is shifted past the mask is gone, also under `|` and `^`.
+-- The low bits of a sum, a difference or a product that wraps, under a constant mask, such as `(x + y) & 15`.
+-- Masks of the operands that keep these bits change nothing, and bits that are shifted past the mask are lost,
+-- also under `|` and `^`.
 -- For callers: `#![tactic(auto, using(arbitrary_laws::proofs::masks::MaskedResults::masked_results))]`.
 use Rattle.std.specs.Prelude.{Bool, false, pos, ℕ, ℤ, ◌%◌, ◌*ℤ◌, ◌+ℤ◌, ◌+◌, ◌-ℤ◌, ◌-◌, ◌^◌, ◌≡◌, ◌≤ℤ◌, ◌≤◌}
 use Rattle.std.proofs.Common.{ap, arith, mod-eq_of_lt, subst, sym, ◌∙◌}

@@ -1,5 +1,6 @@
--- What a number under a written mask is: below the mask, a multiple, a sum of its digits; what is cleared and set under it stays so. WrittenMask.antt
--- has a mask of the complement of a written number, MaskDigits.antt quotients and remainders of the sum.
+-- A number under a constant mask is at most the mask, a multiple, and a sum of its digits. Bits that are cleared
+-- and set under it stay so. WrittenMask.antt has the mask of the complement of a constant, and MaskDigits.antt
+-- the quotients and remainders of the sum.
 use Rattle.std.specs.Bool.{beq}
 use Rattle.std.specs.Int.Bits.{bit_and}
 use Rattle.std.specs.Prelude.{Bool, false, int_lt, negsuc, not, pos, true, unsigned_abs, ℕ, ℤ, ◌%◌, ◌&&◌, ◌*◌, ◌+ℤ◌, ◌+◌, ◌-ℤ◌, ◌-◌, ◌/◌, ◌<◌, ◌^◌, ◌||◌, ◌≡◌, ◌≤ℤ◌, ◌≤◌}

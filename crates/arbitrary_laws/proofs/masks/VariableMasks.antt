@@ -1,8 +1,8 @@
--- The mask of the k lowest bits, where k varies: `(1 << k) - 1`, wrapped or not, `!(max << k)` and `max >> (BITS - k)`, and what it leaves
--- of a number and clears.
--- Each form is told by the wrapped one, `low s B k` below, so that a law of the mask is stated once.
--- For callers: `#![tactic(auto, using(arbitrary_laws::proofs::masks::VariableMasks::variable_masks))]`, and `variable_parts` beside exact sums,
--- differences and the order.
+-- The mask of the k lowest bits, where k is variable: `(1 << k) - 1`, wrapped or not, `!(max << k)` and
+-- `max >> (BITS - k)`. It keeps some bits of a number and clears the others. Each form is stated by the wrapped
+-- one, `low s B k` below, so that a law of the mask is stated once.
+-- For callers: `#![tactic(auto, using(arbitrary_laws::proofs::masks::VariableMasks::variable_masks))]`, and
+-- `variable_parts` for exact sums, differences and the order.
 use Rattle.std.specs.Int.{int_shr}
 use Rattle.std.specs.Prelude.{Bool, false, neg_ℤ, negsuc, pos, true, ℕ, ℤ, ◌*ℤ◌, ◌+ℤ◌, ◌+◌, ◌-ℤ◌, ◌-◌, ◌/◌, ◌<ℤ◌, ◌<◌, ◌^◌, ◌≡◌, ◌≤ℤ◌, ◌≤◌}
 use Rattle.std.proofs.Common.{ap, ap₂, arith, refl, subst, sym, ◌∙◌}

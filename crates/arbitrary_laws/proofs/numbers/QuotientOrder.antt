@@ -1,5 +1,5 @@
--- How a quotient stands to its dividend, its divisor and other quotients, and to a product that is divided again, as a scaled number is.
--- It is rounded toward zero.
+-- The order of a quotient, its dividend, its divisor and other quotients, and of a product that is divided
+-- again, such as a scaled number. Quotients round toward zero.
 -- For callers: `#![tactic(auto, using(arbitrary_laws::proofs::numbers::QuotientOrder::quotient_order))]`.
 use Rattle.std.specs.Prelude.{◌≡◌, ℕ, ℤ, zero, suc, pos, negsuc, int_div, ◌≤◌, ◌<◌, ◌*◌, ◌/◌, ◌≤ℤ◌, ◌<ℤ◌, ◌*ℤ◌}
 use Rattle.std.proofs.Common.{refl, ap, arith, div-le_self, le_trans, mul-le-mul}

@@ -1,5 +1,6 @@
--- What becomes of a quotient where the dividend is moved on by the divisor, negated, a product or a quotient, and where it is 0; and two quotients
--- in order whose divisors vary. `QuotientOrder` has a quotient beside its dividend: beside its laws a checked product and a negated dividend stay open.
+-- The quotient of a dividend plus the divisor, of a negated number, a product or a quotient, quotients that are
+-- 0, and two quotients in order whose divisors vary. `QuotientOrder` compares a quotient with its dividend. With
+-- those laws, the search fails at a checked product and a negated dividend.
 -- For callers: `#![tactic(auto, using(arbitrary_laws::proofs::numbers::QuotientParts::quotient_parts))]`.
 use Rattle.std.specs.Prelude.{int_div, neg_ℤ, negsuc, pos, suc, zero, ℕ, ℤ, ◌*◌, ◌+◌, ◌/◌, ◌<ℤ◌, ◌<◌, ◌≡◌, ◌≢◌, ◌≤ℤ◌, ◌≤◌}
 use Rattle.std.proofs.Common.{ap, arith, div-add-mod', le_trans, refl, sym, ◌∙◌}

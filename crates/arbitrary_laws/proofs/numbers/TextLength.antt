@@ -1,4 +1,4 @@
--- How long the decimal text of a number is.
+-- The length of a number's decimal text.
 use Rattle.std.specs.Prelude.{◌≡◌, ℕ, zero, suc, length, ◌+◌, ◌*◌, ◌/◌, ◌%◌, ◌^◌, ◌≤◌, ◌<◌, false, [], ◌∷◌}
 use Rattle.std.specs.Fmt.{digits, decimal}
 use Rattle.std.proofs.Common.{refl, ap, arith, length-append, pow-suc}

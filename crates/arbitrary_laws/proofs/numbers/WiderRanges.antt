@@ -1,4 +1,4 @@
--- A type of the same sign with at least as many bits has each number, where the widths are not known.
+-- A type with at least as many bits and the same sign contains each number, where the widths are not known.
 -- For callers: `#![tactic(auto, using(arbitrary_laws::proofs::numbers::WiderRanges::wider_ranges))]`.
 use Rattle.std.specs.Prelude.{◌≡◌, ℕ, Bool, true, false, ◌≤◌, ◌-◌, ◌^◌, ◌≤ℤ◌}
 use Rattle.std.proofs.Common.{arith, refl, subst}

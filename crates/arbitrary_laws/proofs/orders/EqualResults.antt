@@ -1,4 +1,4 @@
--- Results of an operation that can be undone are equal where what they came from is.
+-- Results of an operation that can be undone are equal if their operands are equal.
 use Rattle.std.specs.Ordering.{int_eq}
 use Rattle.std.specs.Prelude.{Bool, true, ℕ, ℤ, ◌≡◌, ◌≤◌}
 use Rattle.std.proofs.Common.{ap, sym, ◌∙◌}

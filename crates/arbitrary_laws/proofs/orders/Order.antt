@@ -1,4 +1,5 @@
--- What the tests of two numbers tell, and the order beside bits, sums and shifts. SignedOrder.antt has `&` and `|` of signed numbers.
+-- What the tests of two numbers return, and the order of bits, sums and shifts. SignedOrder.antt has `&` and `|`
+-- of signed numbers.
 use Rattle.std.specs.Bool.{Decides, beq}
 use Rattle.std.specs.Cmp.{int_ranks}
 use Rattle.std.specs.Int.{int_shr}

@@ -9,7 +9,7 @@ use Rattle.arbitrary_laws.proofs.orders.SignedOrder.{and-at_most, or-at_least}
 use Rattle.arbitrary_laws.proofs.shifts.ShiftPairs.{further-at_most, nearer-at_least}
 use Rattle.std.proofs.lemmas.Bool.Decides.{Decides-int_eq}
 
--- the order: what its tests tell, and bits, shifts and signs beside it
+-- the order: what its tests say, with bits, shifts and signs
 pub ruleset order = (Decides-int_eq, le-tested, lt-tested, ge-tested, gt-tested, or-above, and-below_or, xor-below_or, or-below_sum, or-below_clamped, difference-below_xor, shifted_right-keeps_order, and-negative, or-negative, xor-negative, bitwise_and-commutes, bitwise_or-commutes, bitwise_xor-commutes, further-at_most, nearer-at_least, within-at_most)
 
 -- the order of a signed number and its `&` or `|` with another

@@ -1,4 +1,5 @@
--- Which of a signed number and its `&` or `|` with another is the greater: that depends on the two signs alone. Order.antt has numbers with no sign.
+-- The order of a signed number and its `&` or `|` with another, which depends on the two signs alone. Order.antt
+-- has unsigned numbers.
 use Rattle.std.specs.Prelude.{pos, true, ℕ, ℤ, ◌<ℤ◌, ◌↔◌, ◌≤ℤ◌, ◌≤◌, ◌⊎◌}
 use Rattle.std.proofs.Common.{arith, refl}
 use Rattle.std.proofs.lemmas.Int.{ints}

@@ -1,4 +1,5 @@
--- One bit that is set or cleared at a place j, and then tested at a place k, which is j or another: by `(x >> k) & 1`, or by `x & (1 << k)`.
+-- One bit that is set or cleared at a place j, and then tested at a place k, which may be j, by `(x >> k) & 1`
+-- or by `x & (1 << k)`.
 use Rattle.std.specs.Prelude.{◌≡◌, ◌≢◌, ℕ, ℤ, false, pos, ◌≤◌, ◌<◌, ◌*◌, ◌^◌}
 use Rattle.std.proofs.Common.{ap, sym, ◌∙◌}
 use Rattle.arbitrary_base.specs.Range.{InRange}

@@ -1,4 +1,5 @@
--- The lowest bit of a number that is one: `x & (x - 1)` clears it, which leaves 0 of a power of two, and `x & -x` keeps it alone.
+-- The lowest bit of a number that is one. `x & (x - 1)` clears it, so a power of two becomes 0, and `x & -x`
+-- clears the others.
 -- For callers: `#![tactic(auto, using(arbitrary_laws::proofs::places::LowestBit::lowest_bits))]`.
 use Rattle.std.specs.Bool.{beq}
 use Rattle.std.specs.List.{count_by, prefix_len}
@@ -145,7 +146,7 @@ and-of_negated s B x h f d =
     left-again : (k : ℕ) → k < B → shifted_left s B (pos 1) k ≡ val s (bits B (shifted_left s B (pos 1) k))
     left-again k g = left-is s B (pos 1) k ∙ ap (val s) (sym (bits-left s B (pos 1) k (omega arith)))
 
--- how many zeros stand below it, also where there is none
+-- how many zeros are below it, also where there is none
 pub front-of_lowest : (s : Bool) (B : ℕ) (x : ℤ) → 1 ≤ B → InRange s B x
     → prefix_len (beq false) (bits B (bitwise_and s B x (wrapped_difference s B (pos 0) x))) ≡ prefix_len (beq false) (bits B x)
 front-of_lowest s B x h f = by-count (count_by (λ b. b) (bits B x)) refl

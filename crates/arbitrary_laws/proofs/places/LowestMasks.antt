@@ -1,4 +1,5 @@
--- The masks that the lowest bit that is one gives, beside each other: `x & -x`, `x & (x - 1)`, `!x & (x - 1)`, `x ^ (x - 1)`.
+-- The masks made from the lowest bit that is one, and how they relate: `x & -x`, `x & (x - 1)`, `!x & (x - 1)`,
+-- `x ^ (x - 1)`.
 -- For callers: `#![tactic(auto, using(arbitrary_laws::proofs::places::LowestMasks::lowest_masks))]`.
 use Rattle.std.specs.Prelude.{Bool, pos, ℕ, ℤ, ◌-ℤ◌, ◌≡◌, ◌≤◌}
 use Rattle.std.proofs.Common.{ap, arith, subst, sym, ◌∙◌}
@@ -21,7 +22,7 @@ use Rattle.arbitrary_laws.proofs.sums.Complements.{not-of_before}
 pub negated-is_not_before : (s : Bool) (B : ℕ) (x : ℤ) → 1 ≤ B → wrapped_difference s B (pos 0) x ≡ bitwise_not s B (wrapped_difference s B x (pos 1))
 negated-is_not_before s B x h = sym (not-of_before s B x h)
 
--- the lowest bit that is one, taken away and told by what stands below it
+-- the lowest bit that is one: removed, and found from the bits below it
 module _ (s : Bool) (B : ℕ) (x : ℤ) (h : 1 ≤ B) (f : InRange s B x) where
   pub lowest-taken : wrapped_difference s B x (bitwise_and s B x (wrapped_difference s B (pos 0) x)) ≡ bitwise_and s B x (wrapped_difference s B x (pos 1))
   lowest-taken =
@@ -46,5 +47,5 @@ module _ (s : Bool) (B : ℕ) (x : ℤ) (h : 1 ≤ B) (f : InRange s B x) where
 -- under `&`, `|`, `^` and `!`
 pub ruleset lowest_masks = (Decides-int_eq, negated-is_not_before, and-compared, or-compared, xor-compared, not-compared, compared-and, compared-or, compared-xor, compared-not, bit_near-and, bit_near-or, bit_near-xor, bit_near-not, bit_near-zero, bit_near-highest, bit_near-minus_one)
 
--- beside differences
+-- with differences
 pub ruleset lowest_parts = (Decides-int_eq, lowest-taken, below-lowest, bitwise_and-commutes)

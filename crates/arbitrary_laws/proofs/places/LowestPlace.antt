@@ -1,4 +1,4 @@
--- The lowest bit of a sum, a difference or a product, by the lowest bits of what it is made of.
+-- The lowest bit of a sum, a difference or a product, by the lowest bits of its operands.
 -- For callers: `#![tactic(auto, using(arbitrary_laws::proofs::places::LowestPlace::lowest_place))]`.
 use Rattle.std.specs.Prelude.{Bool, negsuc, pos, suc, unsigned_abs, zero, ℕ, ℤ, ◌%◌, ◌*ℤ◌, ◌+ℤ◌, ◌-ℤ◌, ◌/◌, ◌≡◌, ◌≤◌, ◌⊎◌}
 use Rattle.std.proofs.Common.{ap, arith, inl, inr, refl, subst, sym, ◌∙◌}

@@ -1,5 +1,6 @@
--- The bits of shifted, rotated and converted numbers, and of written ones: each stands where the operand has it at another place. So a law
--- of shifts, rotations, written masks and conversions, also of several, closes as those of `& | ^ !` do in BitByBit.antt.
+-- The bits of shifted, rotated and converted numbers, and of constants: each is a bit of the operand at another
+-- place. So a law of shifts, rotations, constant masks and conversions, also nested, is proved as those of
+-- `& | ^ !` in BitByBit.antt are.
 -- For callers: `#![tactic(auto, using(arbitrary_laws::proofs::places::MovedBits::moved_bits))]`.
 use Rattle.std.specs.Prelude.{Bool, List, drop, false, get_or, length, negsuc, not, pos, replicate, suc, take, true, zero, ℕ, ℤ, ◌%◌, ◌*◌, ◌+◌, ◌-◌, ◌/◌, ◌<ℤ◌, ◌<◌, ◌==◌, ◌^◌, ◌≡◌, ◌≤ℤ◌, ◌≤◌, ◌⊎◌}
 use Rattle.std.proofs.Common.{ap, arith, div-add-mod', inl, inr, length-drop, pow-add, pow-suc, refl, subst, sym, true≢false, ◌∙◌}
@@ -271,7 +272,7 @@ high-kept n i j h =
     ap (λ (k : ℕ). n / 2 ^ j * 2 ^ j / k) s ∙ sym (div-div-eq-div-mul (n / 2 ^ j * 2 ^ j) (2 ^ j) (2 ^ (i - j)))
     ∙ ap (λ (k : ℕ). k / 2 ^ (i - j)) m ∙ div-div-eq-div-mul n (2 ^ j) (2 ^ (i - j)) ∙ ap (λ (k : ℕ). n / k) (sym s)
 
--- the ones of a written number come in runs: its lowest run, and what stands above it
+-- the ones of a written number come in runs: its lowest run, and what is above it
 module _ (n : ℕ) (p : Spot) (u v : ℕ) (l : v ≤ index p + u) (e : suc n % 2 ^ low_zeros 128 (suc n) ≡ 0)
     (f : (suc n / 2 ^ low_zeros 128 (suc n) + 1) % 2 ^ low_zeros 128 (suc n / 2 ^ low_zeros 128 (suc n) + 1) ≡ 0) where
   abbrev from : ℕ
@@ -363,7 +364,7 @@ module _ (A : ℕ) (x : ℤ) (p : Spot) (u v : ℕ) (some : 1 ≤ A) (l : v ≤ 
         )
       ]
 
--- ---- two fields side by side, and what stands below them
+-- ---- two fields side by side, and what is below them
 
 module _ (B : ℕ) (x y : ℤ) (k : ℕ) (p : Spot) (u v : ℕ) (l : v ≤ index p + u) (h : index p + u < B + v) (within : k ≤ B) (low : pos 0 ≤ℤ y) (high : y <ℤ pos (2 ^ k)) where
   none-there : k + v ≤ index p + u → bit_near y p u v ≡ false

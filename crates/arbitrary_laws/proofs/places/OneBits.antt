@@ -1,5 +1,7 @@
--- The numbers `1 << k` and `(1 << k) - 1`: beside each other, the zeros and ones at their ends, and a number's parts above place k and below it.
--- For callers: `#![tactic(auto, using(arbitrary_laws::proofs::places::OneBits::one_bits))]`, and `one_bit_counts` for the zeros and ones.
+-- The numbers `1 << k` and `(1 << k) - 1`: how they relate, the zeros and ones at their ends, and a number's
+-- parts above place k and below it.
+-- For callers: `#![tactic(auto, using(arbitrary_laws::proofs::places::OneBits::one_bits))]`, and
+-- `one_bit_counts` for the zeros and ones.
 use Rattle.std.specs.Bool.{beq}
 use Rattle.std.specs.List.{prefix_len, suffix_len}
 use Rattle.std.specs.Ordering.{int_cmp, int_eq, is_lt}
@@ -32,7 +34,7 @@ use Rattle.arbitrary_laws.proofs.places.LowestBit.{before, bits-before}
 use Rattle.arbitrary_laws.proofs.places.SingleBit.{left-of_one}
 use Rattle.arbitrary_laws.proofs.shifts.ShiftAndBack.{right_left-numeral}
 
--- ---- the numbers `1 << k` beside each other
+-- ---- two numbers `1 << k`
 
 pub one_bits-compared : (s : Bool) (B j k : ℕ) → j < B → k < B
     → ((int_eq (shifted_left s B (pos 1) j) (shifted_left s B (pos 1) k) ≡ true) × (j ≡ k)) ⊎ ((int_eq (shifted_left s B (pos 1) j) (shifted_left s B (pos 1) k) ≡ false) × (j ≢ k))
@@ -77,7 +79,7 @@ one-turned s (suc n) k h =
     rest (suc i) zero h = absurd (omega arith)
     rest (suc i) (suc n) h = rest i n (omega arith) ∙ ap (λ (j : ℕ). replicate j false) (let e : n - i ≡ suc n - suc i = omega arith in e)
 
--- ---- how many zeros stand above `1 << k`, and what `(1 << k) - 1` has
+-- ---- how many zeros are above `1 << k`, and what `(1 << k) - 1` has
 
 tail-by_power : (B k n : ℕ) → k < B → 2 ^ k ≤ n → n < 2 * 2 ^ k → suffix_len (beq false) (bits B (pos n)) + k + 1 ≡ B
 tail-by_power B k n h low high =
@@ -146,7 +148,7 @@ module _ (B k : ℕ) (x : ℤ) (place : k < B) (range : InRange false B x) where
       ap₂ (bitwise_or false B) upper (ap (bitwise_and false B x) e) ∙ bitwise_or-commutes false B _ _
       ∙ or-of_parts false B x (shifted_left false B (pos 1) k -ℤ pos 1) (omega arith) range
 
--- these numbers beside each other, and the parts above a place and below it
+-- two of these numbers, and the parts above a place and below it
 pub ruleset one_bits = (Decides-int_eq, one_bit-some, xor-unchanged, one_bits-compared, one_bits-ordered, one-turned, upper-by_mask, parts-joined)
 
 -- their counts

@@ -1,4 +1,4 @@
--- One bit that is set, cleared or turned over, at a place k that varies: what that bit is then, and that the others stay.
+-- One bit that is set, cleared or toggled at a variable place k. The other bits do not change.
 use Rattle.std.specs.Int.{bit_at}
 use Rattle.std.specs.Int.Bits.{bit_and, bit_or, bit_xor}
 use Rattle.std.specs.Prelude.{false, pos, unsigned_abs, ℕ, ℤ, ◌%◌, ◌*◌, ◌+◌, ◌-◌, ◌/◌, ◌<◌, ◌^◌, ◌≡◌, ◌≢◌, ◌≤◌}

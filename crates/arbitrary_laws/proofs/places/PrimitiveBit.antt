@@ -1,4 +1,5 @@
--- One bit of a primitive by its place k, as `1 << k` makes it: set, cleared, turned over and tested, and the others, which stay.
+-- One bit of a primitive by its place k, as `1 << k` makes it: set, cleared, toggled and tested. The other bits
+-- do not change.
 use Rattle.std.specs.Prelude.{◌≡◌, ◌≢◌, ◌⊎◌, ℕ, zero, suc, max, ◌+◌, ◌-◌, ◌*◌, ◌/◌, ◌%◌, ◌^◌, ◌≤◌, ◌<◌}
 use Rattle.std.specs.Int.{bit_at}
 use Rattle.std.specs.Int.Bits.{bit_and, bit_or, bit_xor}

@@ -1,4 +1,5 @@
--- The laws of one bit of a number with no sign, by its place k: as `1 << k`, tested, set and reversed, and under the complement.
+-- The laws of one bit of an unsigned number by its place k: as `1 << k`, tested, set and reversed, and under the
+-- complement.
 use Rattle.std.specs.Prelude.{◌≡◌, ◌⊎◌, ℕ, ℤ, zero, suc, false, pos, negsuc, unsigned_abs, max, ◌≤◌, ◌<◌, ◌+◌, ◌*◌, ◌/◌, ◌%◌, ◌^◌, ◌-ℤ◌, ◌*ℤ◌, Bool, true, List, [], ◌∷◌, ◌++◌, length, take, replicate, reverse, ◌-◌}
 use Rattle.std.specs.Int.{bit_at}
 use Rattle.std.specs.Int.Bits.{bit_and, bit_or}

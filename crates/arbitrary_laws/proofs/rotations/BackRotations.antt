@@ -1,4 +1,4 @@
--- A rotation to the right as one to the left by the rest of the width, where the amount varies.
+-- A rotation to the right by a variable amount as one to the left by the width minus the amount.
 -- For callers: `#![tactic(auto, using(arbitrary_laws::proofs::rotations::BackRotations::back_rotations))]`.
 use Rattle.std.specs.Prelude.{Bool, suc, zero, ℕ, ℤ, ◌%◌, ◌*◌, ◌+◌, ◌-◌, ◌/◌, ◌<◌, ◌≡◌, ◌≤◌, ◌⊎◌}
 use Rattle.std.proofs.Common.{ap, arith, div-add-mod', inl, inr, sym, ◌∙◌}
@@ -9,7 +9,7 @@ use Rattle.arbitrary_base.specs.Operation.{rotated_left, rotated_right}
 use Rattle.arbitrary_base.specs.Range.{InRange}
 use Rattle.arbitrary_base.proofs.operations.RotateAndReverse.{rotated_left-none, rotated_right-as_left, rotated_right-none}
 
--- two amounts that make a whole round are told by a remainder: a case for none would split the search
+-- two amounts that make a whole round have a remainder of 0: a case for none would split the search
 pub right-as_left_round : (s : Bool) (B : ℕ) (x : ℤ) (j k : ℕ) → 1 ≤ B → InRange s B x → j < B → k < B → (j + k) % B ≡ 0 → rotated_right s B x j ≡ rotated_left s B x k
 right-as_left_round s B x zero k h f g l e =
     let m = mod-eq_of_lt l in

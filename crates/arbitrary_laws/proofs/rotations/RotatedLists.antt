@@ -87,7 +87,7 @@ shl-past l a b h g e =
     ∙ replicate-append-replicate b (length l - b) false
     ∙ ap (λ (k : ℕ). replicate k false) (let i : b + (length l - b) ≡ length l = omega arith in i)
 
--- ---- shifts beside the other operations
+-- ---- shifts with the other operations
 
 pub rotl-shifts : (l : List Bool) (k : ℕ) → k ≤ length l → slice_rotate_right l k ≡ bits_or (shl l k) (shr l (length l - k) false)
 rotl-shifts l k h =

@@ -1,4 +1,5 @@
--- A rotation of a number from 0 up, by quotient and remainder: what is pushed out at one end comes in at the other.
+-- A rotation of a number of at least 0 as a quotient and a remainder: bits that leave at one end come back at
+-- the other.
 use Rattle.std.specs.Prelude.{Bool, List, false, length, pos, unsigned_abs, ℕ, ℤ, ◌%◌, ◌*◌, ◌+◌, ◌-◌, ◌/◌, ◌^◌, ◌≡◌, ◌≤◌}
 use Rattle.std.proofs.Common.{ap, arith, refl, subst, sym, ◌∙◌}
 use Rattle.arbitrary_base.specs.BitList.{bits, num, val}

@@ -1,4 +1,5 @@
--- Rotations and reversals: two rotations as one, there and back, to the right, and of the numbers whose bits are all alike.
+-- Rotations and reversals: two rotations as one, there and back, to the right, and of the numbers whose bits are
+-- all equal.
 use Rattle.std.specs.Bool.{beq}
 use Rattle.std.specs.List.{slice_rotate_right}
 use Rattle.std.specs.Prelude.{Bool, List, false, map, negsuc, not, pos, replicate, reverse, true, ℕ, ℤ, ◌&&◌, ◌+◌, ◌-ℤ◌, ◌-◌, ◌^◌, ◌||◌, ◌≡◌, ◌≤◌}
@@ -93,7 +94,7 @@ reversed-minus_one B h = turned-alike true B (negsuc 0) true h (minus_one-in_ran
 pub rotated_right-not_zero : (s : Bool) (B : ℕ) (k : ℕ) → 1 ≤ B → k ≤ B → rotated_right s B (bitwise_not s B (pos 0)) k ≡ bitwise_not s B (pos 0)
 rotated_right-not_zero s B k h g = right-alike s B (bitwise_not s B (pos 0)) k true h g (not-in_range s B (pos 0) h) (bits-not_zero s B)
 
--- ---- beside the other operations
+-- ---- with the other operations
 
 pub rotated_right-and : (s : Bool) (B : ℕ) (x y : ℤ) (k : ℕ) → rotated_right s B (bitwise_and s B x y) k ≡ bitwise_and s B (rotated_right s B x k) (rotated_right s B y k)
 rotated_right-and s B x y k =

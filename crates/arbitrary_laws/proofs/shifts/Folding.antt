@@ -1,5 +1,5 @@
--- A number under `^` with itself shifted: Gray codes, and generators of random numbers by shifts and `^`. FoldingOrder.antt has several of these in
--- either order.
+-- `^` of a number and itself shifted: Gray codes, and generators of random numbers by shifts and `^`.
+-- FoldingOrder.antt has several of these in either order.
 use Rattle.std.specs.Int.{int_shr}
 use Rattle.std.specs.Prelude.{Bool, false, negsuc, pos, ℕ, ℤ, ◌+◌, ◌/◌, ◌<◌, ◌^◌, ◌≡◌, ◌≤◌}
 use Rattle.std.proofs.Common.{ap, arith, lit≤, pow-add, sym, ◌∙◌}

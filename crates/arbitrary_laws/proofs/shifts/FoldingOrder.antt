@@ -1,4 +1,4 @@
--- Foldings by `x ^ (x >> k)` give the same in either order, so that a Gray code is read back by foldings in the order of a program.
+-- Foldings by `x ^ (x >> k)` commute, so that a Gray code is decoded by foldings in the order of a program.
 -- For callers: `#![tactic(auto, using(arbitrary_laws::proofs::shifts::FoldingOrder::folding_orders))]`.
 use Rattle.std.specs.Prelude.{false, ℕ, ℤ, ◌≡◌, ◌≤◌}
 use Rattle.std.proofs.Common.{ap, sym, ◌∙◌}
@@ -17,5 +17,5 @@ folds-exchanged B x a b h p q f =
     ∙ bitwise_xor-exchanged false B x _ _ _ h
     ∙ ap (bitwise_xor false B _) (sym (shifted_right-xor false B x _ a p))
 
--- Apart from `folds`, by which four foldings of twelve bits prove: beside this law the search comes to its limit there.
+-- Apart from `folds`, which proves four foldings of twelve bits. With this law the search reaches its limit there.
 pub ruleset folding_orders = (Decides-int_eq, folded-twice, folded-away, folds-exchanged)

@@ -1,4 +1,4 @@
--- Shifts to the left by an amount that may vary, beside products, negation and each other.
+-- Left shifts by constant and variable amounts, with products, negation and other left shifts.
 -- For callers: `#![tactic(auto, using(arbitrary_laws::proofs::shifts::MovedProducts::moved_products))]`.
 use Rattle.std.specs.Int.{int_shr}
 use Rattle.std.specs.Prelude.{Bool, negsuc, pos, ℕ, ℤ, ◌+◌, ◌/◌, ◌^◌, ◌≡◌, ◌≤◌}

@@ -1,5 +1,5 @@
--- Two shifts of one number: left and back, as what a narrower type has of it; side by side, as a rotation; and right by more places, which is no
--- greater.
+-- Two shifts of one number: left and back, as the bits that a narrower type keeps; joined, as a rotation; and
+-- right by more places, which is at most the other.
 use Rattle.std.specs.Int.{int_shr}
 use Rattle.std.specs.Ordering.{int_cmp, is_ge, is_le}
 use Rattle.std.specs.Prelude.{Bool, List, drop, false, length, negsuc, pos, replicate, take, true, ℕ, ℤ, ◌&&◌, ◌*ℤ◌, ◌*◌, ◌++◌, ◌+◌, ◌-◌, ◌/◌, ◌^◌, ◌≡◌, ◌≤ℤ◌, ◌≤◌}

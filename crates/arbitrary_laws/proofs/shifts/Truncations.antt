@@ -1,5 +1,5 @@
--- The low bits of a result, as a conversion to a narrower type keeps them, are those of the same operation on the low bits; and a rotation or
--- a reversal of a number that is converted to the other sign.
+-- The low bits of a result, which a conversion to a narrower type keeps, are those of the same operation on the
+-- low bits; and a rotation or a reversal of a number that is converted to the other sign.
 -- For callers: `#![tactic(auto, using(arbitrary_laws::proofs::shifts::Truncations::truncations))]`.
 use Rattle.std.specs.List.{slice_rotate_right}
 use Rattle.std.specs.Prelude.{Bool, List, reverse, ℕ, ℤ, ◌<◌, ◌≡◌, ◌≤◌}

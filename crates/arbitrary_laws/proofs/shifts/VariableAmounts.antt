@@ -1,6 +1,6 @@
--- The laws of shifts and rotations by amounts that vary, of every kind at once: RightRotations.antt, VariableMasks.antt, MovedProducts.antt
--- and VariablePlaces.antt have them by theme. With them stand a left shift before a conversion to a narrower type, and a right one as a quotient,
--- which a wider type has too.
+-- All laws of shifts and rotations by variable amounts: RightRotations.antt, VariableMasks.antt,
+-- MovedProducts.antt and VariablePlaces.antt have them by topic. It also has a left shift before a conversion to
+-- a narrower type, and a right shift as a quotient, which a wider type contains.
 -- For callers: `#![tactic(auto, using(arbitrary_laws::proofs::shifts::VariableAmounts::variable_amounts))]`.
 use Rattle.std.proofs.lemmas.Bool.Decides.{Decides-int_eq}
 use Rattle.arbitrary_base.proofs.operations.Bitwise.{bitwise_or-commutes, bitwise_xor-commutes}

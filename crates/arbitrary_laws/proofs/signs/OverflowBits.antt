@@ -1,4 +1,4 @@
--- An overflow of a sum or a difference, told by the signs of its operands and of what wraps.
+-- An overflow of a sum or a difference, computed from the signs of its operands and of the wrapped result.
 -- For callers: `#![tactic(auto, using(arbitrary_laws::proofs::signs::OverflowBits::overflow_bits))]`.
 use Rattle.std.specs.Bool.{beq}
 use Rattle.std.specs.Ordering.{int_cmp, is_lt}

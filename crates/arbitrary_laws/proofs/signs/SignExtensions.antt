@@ -1,4 +1,5 @@
--- A number shifted to the left and back as the low bits that it keeps, read with the type's sign: beside a conversion to a narrower type and back.
+-- A number shifted left and back is its low bits, read with the type's sign, and so is its conversion to a
+-- narrower type and back.
 -- For callers: `#![tactic(auto, using(arbitrary_laws::proofs::signs::SignExtensions::sign_extensions))]`.
 use Rattle.std.proofs.lemmas.Bool.Decides.{Decides-int_eq}
 use Rattle.arbitrary_base.proofs.modular.Residue.{wrap-congruent}

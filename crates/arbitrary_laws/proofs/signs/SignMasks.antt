@@ -1,5 +1,6 @@
--- A number under a mask that is -1 or 0, as a spread sign `x >> (BITS - 1)`, its complement or a chosen number is: the absolute of a number, the
--- lesser and the greater of two. `SignWord` has the spread sign alone. These laws are about any such mask, so they hold of its complement too.
+-- A number under a mask that is -1 or 0, such as a sign mask `x >> (BITS - 1)`, its complement or a chosen
+-- number: the absolute value, the lesser and the greater of two. `SignWord` has the sign mask alone. These laws
+-- are about any such mask, so they also hold for its complement.
 -- For callers: `#![tactic(auto, using(arbitrary_laws::proofs::signs::SignMasks::sign_masks))]`.
 use Rattle.std.specs.Prelude.{neg_ℤ, negsuc, pos, true, ℕ, ℤ, ◌+ℤ◌, ◌+◌, ◌-ℤ◌, ◌<ℤ◌, ◌^◌, ◌≡◌, ◌≤ℤ◌, ◌≤◌, ◌⊎◌}
 use Rattle.std.proofs.Common.{ap, arith, inl, inr, refl, subst, sym, ◌∙◌}
@@ -40,7 +41,7 @@ module _ (B : ℕ) (x y : ℤ) (h : 1 ≤ B) (f : InRange true B x) where
   pub xor-with_none : y ≡ pos 0 → bitwise_xor true B x y ≡ x
   xor-with_none e = ap (bitwise_xor true B x) e ∙ bitwise_xor-zero true B x h f
 
--- ---- the negated number: beside the mask, as what wraps isn't told by its number
+-- ---- the negated number and the mask, because a wrapped result is not the negated number
 
 module _ (B : ℕ) (x y : ℤ) (h : 1 ≤ B) where
   -- x - 1, turned over

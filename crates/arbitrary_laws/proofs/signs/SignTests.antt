@@ -1,6 +1,7 @@
--- What the sign of a number tells that bits make of two numbers and their difference or sum: their order, whether they are equal, an overflow.
--- The search does not find these by itself: it would split each number by its sign and each difference by how it wraps. So each law has one
--- formula whole, proved by the highest bits of its parts.
+-- The sign of an expression on bits of two numbers and their difference or sum decides their order, their
+-- equality, or an overflow. The search does not find these laws itself: it would split each number by its sign
+-- and each difference by how it wraps. So each law has one whole formula, proved by the highest bits of its
+-- parts.
 -- For callers: `#![tactic(auto, using(arbitrary_laws::proofs::signs::SignTests::sign_tests))]`.
 use Rattle.std.specs.Bool.{beq}
 use Rattle.std.specs.Ordering.{int_cmp, int_eq, is_ge, is_le, is_lt}

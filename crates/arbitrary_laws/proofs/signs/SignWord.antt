@@ -1,4 +1,4 @@
--- The sign of a number spread over all its bits, `x >> (BITS - 1)`: -1 below 0, and else 0; and a number under it.
+-- The sign mask of a number, `x >> (BITS - 1)`: -1 below 0, otherwise 0; and a number under it.
 -- For callers: `#![tactic(auto, using(arbitrary_laws::proofs::signs::SignWord::signs))]`.
 use Rattle.std.specs.Prelude.{neg_ℤ, negsuc, pos, true, ℕ, ℤ, ◌+◌, ◌-ℤ◌, ◌-◌, ◌/◌, ◌<ℤ◌, ◌<◌, ◌^◌, ◌≡◌, ◌≤ℤ◌, ◌⊎◌}
 use Rattle.std.proofs.Common.{ap, arith, inl, inr, refl, ◌∙◌}

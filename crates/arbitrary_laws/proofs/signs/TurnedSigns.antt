@@ -1,4 +1,5 @@
--- A signed number with its sign turned over, `x ^ min_value()`, read without a sign: the numbers stand from 0 up, in their order.
+-- A signed number with its sign bit toggled, `x ^ min_value()`, read as an unsigned number: the numbers are from
+-- 0 up, in the same order.
 -- For callers: `#![tactic(auto, using(arbitrary_laws::proofs::signs::TurnedSigns::turned_signs))]`.
 use Rattle.std.specs.Cmp.{int_ranks}
 use Rattle.std.specs.Ordering.{int_cmp}
@@ -83,5 +84,5 @@ pub highest-turned_order_back : (B n : ℕ) (x y : ℤ) → 1 ≤ B → n ≡ 2 
     → int_cmp (bitwise_xor false B (wrap false B x) (pos n)) (bitwise_xor false B (wrap false B y) (pos n)) ≡ int_cmp x y
 highest-turned_order_back B n x y h e f g = ap₂ int_cmp (highest-turned_back B n x h e f) (highest-turned_back B n y h e g) ∙ moved_up x y (pos n)
 
--- numbers with no sign whose highest bit is turned over, beside the same bits with one
+-- numbers with no sign whose highest bit is turned over, and the same bits with a sign
 pub ruleset turned_orders = (Decides-int_eq, highest-turned_order, highest-turned_order_back)

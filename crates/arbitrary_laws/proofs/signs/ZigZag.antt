@@ -1,4 +1,5 @@
--- A number coded with its sign in the lowest bit (zigzag), as `((x << 1) ^ (x >> 11)).to_unsigned()` of an `i12`.
+-- The zigzag code of a number, which stores the sign in the lowest bit: `((x << 1) ^ (x >> 11)).to_unsigned()`
+-- of an `i12`.
 -- For callers: `#![tactic(auto, using(arbitrary_laws::proofs::signs::ZigZag::zigzag))]`.
 use Rattle.std.specs.Prelude.{false, neg_ℤ, negsuc, pos, true, ℕ, ℤ, ◌*ℤ◌, ◌+◌, ◌-ℤ◌, ◌<ℤ◌, ◌≡◌, ◌≤ℤ◌, ◌⊎◌}
 use Rattle.std.proofs.Common.{ap, ap₂, arith, inl, inr, refl, ◌∙◌}

@@ -1,5 +1,5 @@
--- The mean of two numbers by their bits, with no sum that may overflow: what both have and half of what one has alone, rounded down; what any
--- has, less that half, rounded up. Also with a sign.
+-- The mean of two numbers by their bits, where no sum overflows, signed and unsigned. Rounded down it is the
+-- shared bits plus half of the bits that only one has. Rounded up it is the bits of either, minus that half.
 -- For callers: `#![tactic(auto, using(arbitrary_laws::proofs::sums::Averages::averages))]`.
 use Rattle.std.specs.Prelude.{Bool, pos, ℕ, ℤ, ◌*ℤ◌, ◌+ℤ◌, ◌-ℤ◌, ◌≡◌, ◌≤ℤ◌, ◌≤◌}
 use Rattle.std.proofs.Common.{arith, refl, ◌∙◌}

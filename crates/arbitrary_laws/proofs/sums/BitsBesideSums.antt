@@ -1,4 +1,5 @@
--- `&`, `|` and `^` beside sums and differences that wrap. Carry.antt has carries and borrows, BitSums.antt in bits/ exact sums.
+-- `&`, `|` and `^` in sums and differences that wrap. Carry.antt has carries and borrows, and BitSums.antt in
+-- bits/ has exact sums.
 use Rattle.std.specs.Prelude.{Bool, ℕ, ℤ, ◌≡◌, ◌≤◌}
 use Rattle.std.proofs.Common.{ap, arith, ◌∙◌}
 use Rattle.std.proofs.lemmas.Int.{ints}

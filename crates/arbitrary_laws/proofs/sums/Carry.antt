@@ -1,5 +1,5 @@
--- Sums and differences by the bits that two numbers share, and those that only one of them has: the carries and the borrows. BitsBesideSums.antt has
--- sums of results of `&`, `|` and `^`.
+-- Sums and differences by the bits that two numbers share and those that only one has: the carries and the
+-- borrows. BitsBesideSums.antt has sums of results of `&`, `|` and `^`.
 use Rattle.std.specs.Prelude.{Bool, map, not, pos, ℕ, ℤ, ◌+ℤ◌, ◌≡◌, ◌≤◌}
 use Rattle.std.proofs.Common.{ap, arith, subst, ◌∙◌}
 use Rattle.std.proofs.lemmas.Int.{ints}

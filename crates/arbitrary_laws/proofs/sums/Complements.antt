@@ -1,4 +1,5 @@
--- The complement beside sums and differences that wrap. ComplementParts.antt in bits/ has the complement of `^` and `|`.
+-- The complement in sums and differences that wrap. ComplementParts.antt in bits/ has the complement of `^` and
+-- `|`.
 use Rattle.std.specs.Prelude.{Bool, pos, ℕ, ℤ, ◌≡◌, ◌≤◌}
 use Rattle.std.proofs.Common.{ap, arith, ◌∙◌}
 use Rattle.std.proofs.lemmas.Int.{ints}

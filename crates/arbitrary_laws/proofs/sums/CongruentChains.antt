@@ -1,4 +1,4 @@
--- What several steps that wrap, one after another, are congruent to, at any width, also one that is not known, and with products.
+-- The congruence of several operations that wrap, also products, at any width, known or not.
 -- For callers: `#![tactic(auto, using(arbitrary_laws::proofs::sums::CongruentChains::congruent_chains))]`.
 use Rattle.std.specs.Prelude.{◌≡◌, ℕ, ℤ, Bool, ◌≤◌, ◌+ℤ◌, ◌-ℤ◌, ◌*ℤ◌}
 use Rattle.std.proofs.Common.{ap, arith, subst, ◌∙◌}

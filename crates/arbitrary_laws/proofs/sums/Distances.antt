@@ -1,4 +1,5 @@
--- How far two numbers with a sign are apart, as a number without one: the difference wraps, and its bits are read without a sign.
+-- The distance of two signed numbers as an unsigned number: the difference wraps, and its bits are read without
+-- a sign.
 -- For callers: `#![tactic(auto, using(arbitrary_laws::proofs::sums::Distances::distances))]`.
 use Rattle.std.specs.Prelude.{◌≡◌, ℕ, ℤ, true, false, ◌≤◌, ◌≤ℤ◌, ◌<ℤ◌, ◌-ℤ◌}
 use Rattle.std.proofs.Common.{arith, ◌∙◌}

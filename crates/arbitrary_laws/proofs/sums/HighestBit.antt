@@ -1,4 +1,5 @@
--- A sum or a difference with the highest bit turns that bit and no other: the carry out of it is lost. Carry.antt has any two numbers.
+-- A sum or a difference with the highest bit toggles that bit and no other, because the carry out of it is lost.
+-- Carry.antt has any two numbers.
 use Rattle.std.specs.Prelude.{Bool, neg_ℤ, negsuc, pos, unsigned_abs, ℕ, ℤ, ◌*◌, ◌+ℤ◌, ◌-ℤ◌, ◌^◌, ◌≡◌, ◌≤◌}
 use Rattle.std.proofs.Common.{ap, arith, refl, sym, ◌∙◌}
 use Rattle.std.proofs.lemmas.Int.{ints}

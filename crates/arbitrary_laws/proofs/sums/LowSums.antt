@@ -1,4 +1,4 @@
--- A number below the place to which another one is moved: they share no bit, so `|` and `^` are their sum.
+-- A shifted number and one below its lowest place share no bit, so `|` and `^` are their sum.
 -- For callers: `#![tactic(auto, using(arbitrary_laws::proofs::sums::LowSums::low_sums))]`.
 use Rattle.std.specs.Int.{int_shr}
 use Rattle.std.specs.Prelude.{Bool, negsuc, pos, ℕ, ℤ, ◌+ℤ◌, ◌/◌, ◌<ℤ◌, ◌<◌, ◌^◌, ◌≡◌, ◌≤ℤ◌, ◌≤◌}

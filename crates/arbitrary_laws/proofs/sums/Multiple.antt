@@ -1,4 +1,4 @@
--- Multiples of one number, added and taken from each other, wrapped: `(x << 3) + (x << 1)` is ten times x.
+-- Multiples of one number, added and subtracted, wrapped: `(x << 3) + (x << 1)` is ten times x.
 use Rattle.std.specs.Prelude.{Bool, false, negsuc, pos, ℕ, ℤ, ◌*ℤ◌, ◌+ℤ◌, ◌-ℤ◌, ◌≡◌, ◌≤◌}
 use Rattle.std.proofs.Common.{ap, ap₂, arith, sym, ◌∙◌}
 use Rattle.std.proofs.Math.IntN.{*ℤ_comm}

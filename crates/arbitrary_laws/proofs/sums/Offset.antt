@@ -1,4 +1,4 @@
--- A number moved by written numbers, up and down, round its range: `x + 5 - 9` is `x - 4`, and of three bits `x - 1` is `x + 7`.
+-- A number plus and minus constants, wrapped: `x + 5 - 9` is `x - 4`, and at three bits `x - 1` is `x + 7`.
 use Rattle.std.specs.Prelude.{Bool, IsTrue, false, int_lt, neg_ℤ, negsuc, pos, ℕ, ℤ, ◌+ℤ◌, ◌-ℤ◌, ◌^◌, ◌≡◌, ◌≤◌}
 use Rattle.std.proofs.Common.{arith, refl, ◌∙◌}
 use Rattle.std.proofs.lemmas.Int.{ints}

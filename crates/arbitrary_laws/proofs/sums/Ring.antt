@@ -1,4 +1,4 @@
--- Sums, differences and products that wrap: what one takes back of another. The laws of a ring are those of the base.
+-- Sums, differences and products that wrap, and how one undoes another. `arbitrary_base` has the laws of a ring.
 use Rattle.std.specs.Prelude.{Bool, pos, ℕ, ℤ, ◌-ℤ◌, ◌≡◌, ◌≤◌}
 use Rattle.std.proofs.Common.{ap, arith, ◌∙◌}
 use Rattle.std.proofs.Math.IntN.{*ℤ_comm}

@@ -34,14 +34,14 @@ pub ruleset multiples = (Decides-int_eq, multiples-added, multiples-apart, multi
 -- small powers, a number by itself, and a number that is extended and cut again
 pub ruleset exact = (power-zero, power-one, power-twice, quotient-self, to_u128_bits-back, wrap-of_in_range, clamp-fits, power-of_one, power-of_zero)
 
--- bits beside sums and differences
+-- bits with sums and differences
 pub ruleset mixed = (Decides-int_eq, sum-of_or_and, sum-of_disjoint, sum-of_xor_and, difference-of_or_and, difference-of_and, sum-twice, bitwise_and-commutes, bitwise_or-commutes, wrapped_sum-commutes)
 
--- the complement beside sums and differences
+-- the complement with sums and differences
 pub ruleset complements = (Decides-int_eq, not-is_difference, negated-is_sum, not-of_before, sum-with_not, difference-of_or, difference-of_and, wrapped_sum-commutes, bitwise_not-twice, not-is_negated, negated-not, not-of_sum, not-of_difference, difference-of_nots, difference-by_not, sum-by_not, wrapped_difference-is_sum)
 
--- carries and borrows: sums and differences told by the bits that two numbers share, and those that one of them has
+-- carries and borrows: sums and differences from the bits that both numbers have, and those that one of them has
 pub ruleset carries = (Decides-int_eq, sum-with_carry, sum-less_xor, sum-less_or, sum-less_and, difference-of_parts, difference-with_borrow, difference-less_xor, or-is_sum, xor-is_sum, or-less_xor, sum-with_highest, difference-with_highest, sum-twice, wrapped_product-two, wrapped_product-commutes, bitwise_and-commutes, bitwise_or-commutes, bitwise_xor-commutes, wrapped_sum-commutes)
 
--- negation beside sums, differences and the complement
+-- negation with sums, differences and the complement
 pub ruleset negations = (Decides-int_eq, negated-is_difference, negated-twice, negated-sum, difference-turned, sum-of_difference, sum-to_difference, difference-of_sum, wrapped_difference-zero, wrapped_sum-commutes, not-is_difference, negated-is_sum, not-of_before, negated-not)

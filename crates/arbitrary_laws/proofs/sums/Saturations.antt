@@ -1,4 +1,5 @@
--- Sums and differences that clamp, one after another, where the type has no sign; and a number that tests compare with the ends of a range.
+-- Nested sums and differences that clamp, of unsigned types; and a number that tests compare with the ends of a
+-- range.
 -- For callers: `#![tactic(auto, using(arbitrary_laws::proofs::sums::Saturations::saturations))]`.
 use Rattle.std.specs.Prelude.{◌≡◌, ◌⊎◌, ℕ, ℤ, false, pos, ◌≤◌, ◌≤ℤ◌, ◌<ℤ◌, ◌+ℤ◌, ◌-ℤ◌}
 use Rattle.std.proofs.Common.{sym, ap, ◌∙◌, arith, inl, inr}

@@ -1,4 +1,4 @@
--- Numbers that are counted round, as serial numbers are: the difference that wraps, one way and the other.
+-- Serial numbers, which wrap: the difference that wraps, in both directions.
 -- For callers: `#![tactic(auto, using(arbitrary_laws::proofs::sums::SerialNumbers::serial_numbers))]`.
 use Rattle.std.specs.Prelude.{◌≡◌, ℕ, ℤ, Bool, true, false, pos, ◌≤◌, ◌^◌, ◌<ℤ◌, ◌+ℤ◌, ◌-ℤ◌}
 use Rattle.std.proofs.Common.{arith, ◌∙◌, subst, refl, sym}

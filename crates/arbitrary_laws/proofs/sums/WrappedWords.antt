@@ -1,6 +1,6 @@
--- Numbers of a primitive that wrap: std's sums and differences at their own width, of a converted number, and the low bits of a word that are
--- read with a sign. Each law goes from a call to what it is congruent to, so that the search opens no congruence.
--- For callers: `#![tactic(auto, using(arbitrary_laws::proofs::sums::WrappedWords::wrapped_words))]`.
+-- Numbers of a primitive that wrap: std's sums and differences at their own width, of a converted number, and
+-- the low bits of a word that are read with a sign. Each law rewrites a call to what it is congruent to, so that
+-- the search opens no congruence.
 use Rattle.std.specs.Prelude.{◌≡◌, ℕ, ℤ, suc, Bool, false, pos, ◌+ℤ◌, ◌-ℤ◌, ◌+◌, ◌-◌, ◌%◌, ◌^◌, ◌≤◌}
 use Rattle.std.specs.Int.Bits.{bit_and}
 use Rattle.std.proofs.Common.{arith, refl, ap, sym, subst, ◌∙◌}
