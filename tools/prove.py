@@ -1,8 +1,8 @@
 #!/usr/bin/env python3
 """prove.py CRATE [FUNCTION ..] [--write]
 
-Finds laws by which the check proves what it leaves open: in a whole crate, or in these functions, each named as the check names it, without the
-crate: `module::function` or `Type::call`. It prints what the attribute of each has to name: a public set of laws where one is enough, else a few
+Finds laws that prove what the check leaves open: in a whole crate, or in these functions, each named as the check names it, without the crate:
+`module::function` or `Type::call`. It prints what the attribute of each has to name: a set of laws of arbitrary_laws if one is enough, else a few
 laws, which become a `ruleset` of the crate's own proofs/Laws.antt.
 
 With `--write` it writes those attributes and that file, adds to crates.txt the libraries that have the laws, and checks again. It changes no
@@ -32,8 +32,10 @@ from wrong_bodies import KIT, PARTS, below, command, libraries
 LAWS = 'arbitrary_laws'
 PAGE = ROOT / 'docs/PROVING.md'
 STARTED = time.monotonic()
-# As many steps as the check gives the laws of an attribute, and how many laws a set may have that is not public.
-STEPS, MOST = 2000000, 80
+# As many steps as the check gives the laws of an attribute.
+STEPS = 2000000
+# What each round tries at a goal: the sets up to this rank, one at a time, and selections of this many of the best laws.
+ROUNDS = [(12, (8,)), (40, (24,)), (1000, (16, 48, 80))]
 # A check takes this much memory, in GB.
 MEMORY = 2.5
 CHECKED = re.compile(r'^checked \w+::(\S+), \d+ of \d+')
@@ -48,7 +50,9 @@ PLACE = re.compile(r'^-- (\S+\.rt):(\d+):\d+$', re.M)
 FALSE = re.compile(r'^note: `(\S+)` of proofs/(\S+)/Answers\.antt may be false: the known facts allow (.*?): help', re.M)
 # Words that the names of goals have whatever they are about.
 COMMON = {'requires', 'result', 'clause', 'overflow', 'then', 'else', 'in', '2', '3'}
-# What a check says of those answers: an attempt that failed, and a goal with what is known there.
+# What a check says of a goal without answers: the goal, and the names of what is known there.
+NOTE = re.compile(r'^note: `(\S+)` of proofs/(\S+)/Answers\.antt must prove: (.*)\n((?:  .*\n)*)', re.M)
+# What a check says of answers: an attempt that failed, and a goal with what is known there.
 FAILED = re.compile(r'^\./proofs/(\S+)/Answers\.antt:\d+:\d+: .*?`try-(\d+)`', re.M)
 HOLE = re.compile(r'^\./proofs/(\S+)/Answers\.antt:\d+:\d+: goal \? in `(\S+)`\n((?: .*\n)*)', re.M)
 USING = re.compile(r'(#!?\[tactic\(auto), using\([^)]*\)')
@@ -74,8 +78,8 @@ class Function:
         self.goals = {goal: (type_, rest) for goal, type_, rest in GOAL.findall(offer)}
         # by goal, values that break it whatever the laws
         self.broken = {}
-        # by goal: the words of it and of what is known there, what was tried, and what closed it, the best first
-        self.words = {goal: {} for goal in self.goals}
+        # by goal: what the check says of it, what was tried, and what closed it, the best first
+        self.shown = dict.fromkeys(self.goals, '')
         self.tried = {goal: set() for goal in self.goals}
         self.closed = {goal: [] for goal in self.goals}
 
@@ -83,7 +87,7 @@ class Function:
         return [goal for goal in self.goals if not self.closed[goal]]
 
     def answers(self, attempts):
-        """Its answers with each attempt, a goal and a list of laws, beside the open goals."""
+        """Its answers: each attempt, which is a goal and a list of laws, and then the open goals."""
         entries = {law: f'law-{number}' for number, law in enumerate(dict.fromkeys(law for _, laws in attempts for law in laws))}
         lines = [self.head, 'use Rattle.std.proofs.Common.{arith as the_arith}']
         lines += [f'use {module}.{{{name} as {here}}}' for (module, name), here in entries.items()]
@@ -98,10 +102,10 @@ class Function:
 
 
 class Copies:
-    """Copies of the crate, in each of which a check runs beside the others."""
+    """Copies of the crate, for checks at the same time."""
 
-    def __init__(self, crate, room, uses, index, jobs):
-        self.crate, self.uses, self.index, self.running = crate, uses, index, []
+    def __init__(self, crate, room, uses, jobs):
+        self.crate, self.uses, self.running = crate, uses, []
         free = int(re.search(r'MemAvailable: *(\d+)', Path('/proc/meminfo').read_text())[1]) / 2**20
         self.count = max(1, min(jobs or len(os.sched_getaffinity(0)), int(free / MEMORY)))
         self.rooms = [room / str(number) for number in range(self.count)]
@@ -114,9 +118,8 @@ class Copies:
 
     def check(self, room, functions, *flags):
         """Checks these functions in a copy, and returns what it says."""
-        words = command(self.crate, room, functions, self.uses)
-        if not (room / 'crate/src/lib.rt').is_file():
-            words = ['src/main.rt' if it == 'src/lib.rt' else it for it in words]
+        root = 'src/lib.rt' if (room / 'crate/src/lib.rt').is_file() else 'src/main.rt'
+        words = [root if it == 'src/lib.rt' else it for it in command(self.crate, room, functions, self.uses)]
         said, code = run([*words, '--progress', *flags], room / 'crate', self.running)
         if not ENDED.search(said):
             raise Stop(why(self.crate, said, code))
@@ -127,17 +130,18 @@ class Copies:
         return room / 'crate/proofs' / function.name.replace('::', '/') / 'Answers.antt'
 
     def tried(self, attempts):
-        """Tries these attempts, lists of a goal and laws by function, side by side. Notes what closes a goal, and the words of each."""
+        """Tries these attempts, lists of a goal and laws by function, side by side. Notes what closes a goal, and what the check says of each."""
         shares = [{} for _ in self.rooms]
         parts = math.ceil(self.count / max(1, len(attempts)))
         pieces = [(function, listed[part::parts]) for function, listed in attempts.items() for part in range(min(parts, len(listed) or 1))]
         for function, piece in sorted(pieces, key=lambda it: -len(it[1])):
-            share = min(shares, key=lambda it: sum(len(listed) + 3 for listed in it.values()))
+            # a function itself takes as long as some ten attempts
+            share = min(shares, key=lambda it: sum(len(listed) + 10 for listed in it.values()))
             share.setdefault(function, []).extend(piece)
 
         def work(room, share):
             if not share:
-                return {}
+                return
             for function, listed in share.items():
                 write({self.answers_of(room, function): function.answers(listed)})
             said = self.check(room, [function.name for function in share], '--allow-holes')
@@ -148,17 +152,12 @@ class Copies:
                 for number, (goal, laws) in enumerate(listed):
                     # where the goal is not shown the answers were not read
                     if (function.name, goal) in shown:
+                        function.shown[goal] = shown[function.name, goal].partition('⊢')[2]
                         function.tried[goal].add(frozenset(laws))
                         if (function.name, number) not in failed:
                             function.closed[goal].append(laws)
-            return shown
 
-        found = self.side_by_side(work, self.rooms, shares)
-        for function in attempts:
-            for goal in function.goals:
-                for shown in found:
-                    if (function.name, goal) in shown:
-                        function.words[goal] = strengths(shown[function.name, goal], self.index)
+        self.side_by_side(work, self.rooms, shares)
 
     def confirmed(self, solutions):
         """Those of these functions that the check proves with their attributes."""
@@ -174,7 +173,7 @@ class Copies:
         return {it: found for it, found in solutions.items() if it.name in proved}
 
     def side_by_side(self, work, *lists):
-        """What this work returns for each entry of the lists. Where one fails, or the run is interrupted, no check runs on."""
+        """What this work returns for each entry of the lists. If one fails, or at an interrupt, it ends the running checks."""
         with ThreadPoolExecutor(self.count) as pool:
             try:
                 return list(pool.map(work, *lists))
@@ -188,12 +187,12 @@ def strengths(shown, index):
     """The words of a goal and, with less strength, of what is known there: of the facts that are shown, and of what the calls before it ensure."""
     goal, _, known = shown.partition('names you can use')
     facts = ' '.join(re.findall(r'^ *c\.\S+ : (.*)$', known, re.M))
-    calls = {call for step in re.findall(r'\bc\.(\w+)', known) for call in index.ensured.get(step, ())}
-    return {**dict.fromkeys(words(facts) | calls, 0.8), **dict.fromkeys(words(goal.partition('⊢')[2]), 1.0)}
+    calls = {word for call in re.findall(r'\bc\.(\w+)', known) for word in index.ensured.get(call, ())}
+    return {**dict.fromkeys(words(facts) | calls, 0.8), **dict.fromkeys(words(goal), 1.0)}
 
 
 def run(words, folder, running):
-    """Runs a command, tells of each function that it has checked, and returns what it says and its status."""
+    """Runs a command, prints each function that it has checked, and returns its output and status."""
     with subprocess.Popen(words, cwd=folder, stdout=subprocess.PIPE, stderr=subprocess.STDOUT, text=True, errors='replace') as child:
         running.append(child)
         said = []
@@ -211,14 +210,12 @@ def run(words, folder, running):
 
 
 def why(crate, said, code):
-    """Why a check came to no end, in one line."""
+    """Why a check has no result, in one line."""
     if code < 0 or code in (137, 143):
         return f'the check of {crate} was killed: nothing is changed'
-    if found := UNKNOWN.search(said):
-        return found[1]
-    if found := ERROR.search(said):
-        return f'{crate} does not compile: {found[1]}'
-    return f'the check of {crate} came to no end: {(said.strip().splitlines() or ["it said nothing"])[-1]}'
+    unknown, error = UNKNOWN.search(said), ERROR.search(said)
+    last = (said.strip().splitlines() or ['it printed nothing'])[-1]
+    return unknown[1] if unknown else f'{crate} does not compile: {error[1]}' if error else f'the check of {crate} has no result: {last}'
 
 
 def verdicts(crate, said):
@@ -233,6 +230,9 @@ def offers(said):
     for goal, path, values in FALSE.findall(said):
         if (name := path.replace('/', '::')) in found:
             found[name].broken[goal] = values
+    for goal, path, text, known in NOTE.findall(said):
+        if (name := path.replace('/', '::')) in found:
+            found[name].shown[goal] = text + known
     return found
 
 
@@ -281,96 +281,77 @@ class Search:
 
     def __init__(self, copies, index, functions):
         self.copies, self.index, self.functions = copies, index, functions
-        self.public = [it for it in index.sets if it[0] == f'Rattle.{LAWS}.proofs.Sets' or it[1] == 'words']
 
-    def choices(self, stage, known):
-        """What to try at a goal with these words: in each round further sets, the public ones first, and more laws."""
-        ranked = [it for it in self.index.ranked_sets(known) if it in self.public or len(self.index.members(it)) <= MOST]
-        public, others = ([it for it in ranked if (it in self.public) is wanted] for wanted in (True, False))
-        sets, counts = [
-            (public[:3] + others[:5], (8, 24)),
-            (public[3:7] + others[5:16], (16, 48)),
-            (public[7:] + others[16:40], (32, 80)),
-        ][stage]
+    def choices(self, shown, last, counts):
+        """What to try at a goal of which the check says this: each of the best sets alone, and the best laws."""
+        known = strengths(shown, self.index)
         laws = self.index.ranked_laws(known, max(counts))
-        return [*([it] for it in sets), *(laws[:count] for count in counts)]
+        return [*([it] for it in self.index.ranked_sets(known)[:last]), *(laws[:count] for count in counts)]
 
     def close(self):
-        """Tries more and more laws until each goal is closed or all was tried."""
-        say(f'the goals of {len(self.functions)} functions')
-        self.copies.tried({it: [] for it in self.functions})
-        for stage in range(3):
-            attempts = {}
-            for it in self.functions:
-                listed = [(goal, laws) for goal in it.open_goals() for laws in self.choices(stage, it.words[goal])]
-                attempts[it] = [(goal, laws) for goal, laws in listed if frozenset(laws) not in it.tried[goal]]
-            attempts = {it: listed for it, listed in attempts.items() if listed}
-            if not attempts:
-                break
-            say(f'round {stage + 1}: {len(attempts)} functions, {sum(map(len, attempts.values()))} attempts')
-            self.copies.tried(attempts)
-            for it in attempts:
+        """Tries more and more laws until each goal is closed or all was tried. Returns the functions whose goals are all closed."""
+        # of many functions the check shows the goals of the first alone
+        if unseen := {it: [] for it in self.functions if not all(it.shown.values())}:
+            say(f'the goals of {len(unseen)} functions')
+            self.copies.tried(unseen)
+        for number, (last, counts) in enumerate(ROUNDS, 1):
+            wanted = {(it, goal): self.choices(it.shown[goal], last, counts) for it in self.functions for goal in it.open_goals()}
+            for it in self.try_all(wanted, f'round {number}'):
                 left = it.open_goals()
                 say(f'{it.name}: ' + (f'{len(left)} of {len(it.goals)} goals open' if left else 'all goals closed'))
         return [it for it in self.functions if not it.open_goals()]
 
-    def common(self, function):
-        """A public set that closes each goal of a function, if there is one."""
-        return next((it for it in self.public if all([it] in closed for closed in function.closed.values())), None)
-
-    def halve(self, functions):
-        """Takes away laws as long as the goals still close. Leaves first in `closed` the public set or the few laws that close each."""
-        left, fine = {}, set()
-        for it in functions:
-            for goal, closed in it.closed.items():
-                closed.sort(key=lambda laws: (laws[0] not in self.public, len(self.flat(laws))))
-                if not self.common(it) and closed[0][0] not in self.public:
-                    left[it, goal] = self.flat(closed[0])
-        while left:
-            pieces, spare = {}, {}
-            for key, laws in left.items():
-                size = 1 if key in fine else math.ceil(len(laws) / 16)
-                pieces[key] = [laws[start : start + size] for start in range(0, len(laws), size)]
-
-            def rest(key, gone):
-                return [law for law in left[key] if law not in {it for piece in gone for it in piece}]
-
-            self.try_all({key: [rest(key, [it]) for it in found] for key, found in pieces.items()})
-            for key, found in pieces.items():
-                spare[key] = [it for it in found if rest(key, [it]) in key[0].closed[key[1]]]
-            # without all of those, without all but one of them, and without each half
-            parts = {key: [it, *([other for other in it if other is not kept] for kept in it), it[::2], it[1::2]] for key, it in spare.items() if len(it) > 1}
-            self.try_all({key: [rest(key, part) for part in found] for key, found in parts.items()})
-            for key, laws in list(left.items()):
-                closed = key[0].closed[key[1]]
-                best = min((it for it in closed if set(it) < set(laws)), key=len, default=laws)
-                if len(best) == 1 or (len(pieces[key]) == len(laws) and len(best) <= len(laws) - len(spare[key]) + 1):
-                    closed.insert(0, best)
-                    del left[key]
-                elif not spare[key]:
-                    fine.add(key)
-                left.update({key: best} if key in left else {})
-
-    def try_all(self, wanted):
+    def try_all(self, wanted, what):
+        """Tries these lists of laws, by function and goal, as far as they were not. Returns the functions of which it tried any."""
         attempts = {}
         for (function, goal), choices in wanted.items():
-            attempts.setdefault(function, []).extend((goal, laws) for laws in choices if laws and laws not in function.closed[goal])
-        attempts = {it: listed for it, listed in attempts.items() if listed}
+            new = [(goal, laws) for laws in choices if laws and frozenset(laws) not in function.tried[goal]]
+            if new:
+                attempts.setdefault(function, []).extend(new)
         if attempts:
-            say(f'fewer laws: {len(attempts)} functions, {sum(map(len, attempts.values()))} attempts')
+            say(f'{what}: {len(attempts)} functions, {sum(map(len, attempts.values()))} attempts')
             self.copies.tried(attempts)
+        return list(attempts)
 
-    def flat(self, laws):
-        """These laws, with those of each set in its place."""
-        return list(dict.fromkeys(law for it in laws for law in (self.index.members(it) if it in self.index.sets else [it])))
+    def is_set(self, laws):
+        """Whether this is one set alone."""
+        return laws[0] in self.index.sets
 
-    def solution(self, function, whole=False):
-        """The public sets and the further laws for the attribute of a function; with `whole`, what first closed its goals, not halved."""
-        if common := self.common(function):
-            return [common], []
-        found = [closed[-1] if whole else closed[0] for closed in function.closed.values()]
-        named = list(dict.fromkeys(laws[0] for laws in found if laws[0] in self.public))
-        return named, list(dict.fromkeys(law for laws in found if laws[0] not in self.public for law in self.flat(laws)))
+    def lessen(self, functions):
+        """Where no set closes a goal, takes away laws as long as the others still close it: an eighth of them at a time, and in the end one."""
+        for _ in range(3):
+            left = {(it, goal): min(closed, key=len) for it in functions for goal, closed in it.closed.items() if not any(map(self.is_set, closed))}
+            sizes = {key: math.ceil(len(laws) / 8) for key, laws in left.items()}
+            groups = {key: [laws[start : start + sizes[key]] for start in range(0, len(laws), sizes[key])] for key, laws in left.items()}
+
+            def rest(key, gone):
+                return [law for law in left[key] if law not in {it for group in gone for it in group}]
+
+            self.try_all({key: [rest(key, [it]) for it in found] for key, found in groups.items()}, 'fewer laws')
+            spare = {key: [it for it in found if rest(key, [it]) in key[0].closed[key[1]]] for key, found in groups.items()}
+            # where each can go they may not all go
+            self.try_all({key: [rest(key, part) for part in (it, it[::2], it[1::2])] for key, it in spare.items()}, 'fewer laws')
+
+    def best(self, choices):
+        """The smallest set of these choices, or else the fewest laws."""
+        return min(choices, key=lambda laws: (not self.is_set(laws), len(self.index.members(laws[0]) if self.is_set(laws) else laws)))
+
+    def solution(self, function):
+        """The sets and the further laws for the attribute of a function: what closes all its goals, or else what closes each."""
+        first, *others = function.closed.values()
+        common = [laws for laws in first if all(laws in closed for closed in others)]
+        found = [self.best(common)] if common else list(map(self.best, [first, *others]))
+        named = list(dict.fromkeys(laws[0] for laws in found if self.is_set(laws)))
+        return named, list(dict.fromkeys(law for laws in found if not self.is_set(laws) for law in laws))
+
+    def again(self, functions):
+        """Tries each set at each goal of functions whose laws do not prove them together. Returns those that another choice may prove."""
+        for function in functions:
+            named, laws = self.solution(function)
+            for goal, closed in function.closed.items():
+                function.closed[goal] = [it for it in closed if it[0] not in named and it != laws]
+        self.try_all({(it, goal): [[name] for name in self.index.for_callers] for it in functions for goal in it.goals}, 'one set for all goals')
+        return [it for it in functions if all(it.closed.values())]
 
 
 def changes(folder, solutions):
@@ -432,12 +413,10 @@ def found_in(copies, index, functions):
     """By function, what closes its goals as the check confirms it: public sets, and further laws."""
     search = Search(copies, index, functions)
     closed = search.close()
-    search.halve(closed)
-    confirmed = {}
-    # where the few laws do not do in an attribute, those that first closed the goals may
-    for whole in (False, True):
-        left = {it: search.solution(it, whole) for it in closed if it not in confirmed}
-        confirmed.update(copies.confirmed(left))
+    search.lessen(closed)
+    confirmed = copies.confirmed({it: search.solution(it) for it in closed})
+    if left := search.again([it for it in closed if it not in confirmed]):
+        confirmed.update(copies.confirmed({it: search.solution(it) for it in left}))
     return confirmed
 
 
@@ -454,14 +433,16 @@ def bare(copies, names):
     for name in (name for name in names if name not in found):
         say(f'{name}: without laws {verdicts(copies.crate, said).get(name, "unknown")}')
     functions = [found[name] for name in names if name in found]
+    for room in copies.rooms[1:]:
+        shutil.copytree(copies.rooms[0] / 'kept', room / 'kept', dirs_exist_ok=True)
     for room in copies.rooms:
         write(changes(room / 'crate', {it: ([], []) for it in functions}))
     return functions
 
 
 def written(crate, folder, solutions, names):
-    """Writes the attributes and the laws, and the crates that have them to crates.txt where the crate's line lacks one, and checks again. Puts all
-    back where that comes to no end."""
+    """Writes the attributes and the laws, and to crates.txt the libraries that have them, and checks again. If that has no result, it restores all
+    files."""
     new = changes(folder, solutions)
     uses = libraries()[crate]
     needed = {entry[0].split('.')[1] for named, laws in solutions.values() for entry in [*named, *laws]} & set(libraries())
@@ -481,8 +462,7 @@ def written(crate, folder, solutions, names):
 
 
 def searched(crate, names, functions, jobs):
-    """The functions of these names, or those given, with open goals, and what proves them: in copies of the crate beside the libraries that have
-    the laws."""
+    """The functions of these names, or those given, with open goals, and what proves them, in copies of the crate that also use the laws."""
     uses = libraries()
     if LAWS not in uses[crate]:
         say(f'{LAWS}, which has the laws')
@@ -493,14 +473,14 @@ def searched(crate, names, functions, jobs):
     uses[crate] = list(dict.fromkeys([*uses[crate], *with_laws]))
     index = Index([ROOT / 'crates' / it for it in with_laws], KIT / 'rattle')
     with tempfile.TemporaryDirectory(prefix='prove-') as room:
-        copies = Copies(crate, Path(room), uses, index, jobs)
+        copies = Copies(crate, Path(room), uses, jobs)
         has_laws = any(USING.search(file.read_text()) for file in (copies.folder / 'src').rglob('*.rt'))
         functions = bare(copies, names) if has_laws else functions
         return functions, found_in(copies, index, functions)
 
 
 def prove(crate, names, is_writing, is_anew, jobs):
-    """Proves what it can, and tells what stays open. Returns whether anything does."""
+    """Proves what it can, and prints what stays open. Returns whether anything does."""
     uses, folder = libraries(), ROOT / 'crates' / crate
     for name, it in ((crate, folder / 'src'), (LAWS, ROOT / 'crates' / LAWS / 'src')):
         if name not in uses or not it.is_dir():
@@ -510,15 +490,13 @@ def prove(crate, names, is_writing, is_anew, jobs):
     say(f'{crate}: {len(unproved)} functions are open')
     broken = {name: it for name, it in functions.items() if it.broken}
     tried = [it for name, it in functions.items() if name not in broken]
+    solutions = {}
     if is_anew or tried:
         tried, solutions = searched(crate, names if is_anew else [it.name for it in tried], tried, jobs)
-    else:
-        solutions = {}
     functions = {**broken, **{it.name: it for it in tried}}
+    verdict.update((it.name, 'proved') for it in solutions)
     if is_writing and solutions:
         verdict = written(crate, folder, solutions, names)
-    else:
-        verdict.update((it.name, 'proved') for it in solutions)
     for function, (named, laws) in solutions.items():
         if verdict[function.name] == 'proved':
             print(f'proved: {function.name}: using {", ".join([*map(path, named), *(law for _, law in laws)])}')
