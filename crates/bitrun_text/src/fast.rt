@@ -2,23 +2,20 @@
 //! line with one space between its words nothing here makes a call, so no part of it is stored in
 //! memory. A result of `None` says nothing of the line: the caller reads its words.
 
-ghost use Rattle.std.specs.Prelude.{◌≡◌, ◌≤◌, ◌<◌, ◌+◌, ◌-◌, ◌^◌, [], true, length, take, drop, get_or, Some, IfSome};
+ghost use Rattle.std.specs.Prelude.{◌≡◌, ◌≤◌, ◌<◌, ◌+◌, ◌-◌, ◌*◌, ◌^◌, [], true, length, take, drop, get_or, Some, IfSome};
 ghost use Rattle.arbitrary_int.specs.Steps.{StepWithin};
 ghost use Rattle.bitrun_text.specs.Text.{is_blank, left_of, word_lines};
 ghost use Rattle.bitrun_text.specs.Numeral.{first_number};
 ghost use Rattle.bitrun_text.specs.Operation.{operation_named, step_with};
 ghost use Rattle.bitrun_text.specs.Fast.{BeginsWithNumber, EndsLine, NamesLine, Ends, words_at, later_at};
 
-use crate::numeral::{digits, one_digit};
+use crate::numeral::{LARGE, digits, one_digit};
 use crate::operation::{Operation, operation_named};
 use crate::text::is_blank;
 use arbitrary_int::{ByOp, OneOp, Step, TwoOp};
 
 /// A name of at most four letters, and the blank after it.
 const NAME: usize = 5;
-
-/// A digit more after a number below it fits in 64 bits.
-const LARGE: u64 = 1 << 60;
 
 /// The step on so many registers that the line at the place names, and the place after the line.
 #[inline(always)]
@@ -222,7 +219,7 @@ fn last_amount(text: &[u8], at: usize) -> Option<(u32, usize)>
 fn number(text: &[u8], at: usize, limit: u64) -> Option<(u64, usize)>
     requires blank { is_blank (get_or text.now at 0) ≡ true }
     requires within { at < length text.now }
-    requires limit { limit ≤ 2 ^ 60 }
+    requires limit { 10 * limit ≤ 2 ^ 64 }
     ensures number { IfSome result
         (λ p. BeginsWithNumber (drop at text.now) p.0 (drop p.1 text.now)) }
     ensures below { IfSome result (λ p. p.0 < limit) }

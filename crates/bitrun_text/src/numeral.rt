@@ -1,6 +1,6 @@
 //! The numbers that words write.
 
-ghost use Rattle.std.specs.Prelude.{◌≡◌, ◌≤◌, ◌<◌, ◌+◌, ◌-◌, ◌^◌, length, drop, pos, neg_ℤ, option_map, MatchOption, IfSome};
+ghost use Rattle.std.specs.Prelude.{◌≡◌, ◌≤◌, ◌<◌, ◌+◌, ◌-◌, ◌*◌, ◌^◌, None, length, drop, pos, neg_ℤ, option_map, MatchOption, IfSome};
 ghost use Rattle.std.specs.Bool.{then_some};
 ghost use Rattle.arbitrary_int.specs.Range.{in_range};
 ghost use Rattle.bitrun_text.specs.Numeral.{number_in, integer_in, number_below, value_named, IsFar};
@@ -8,27 +8,31 @@ ghost use Rattle.bitrun_text.specs.Fast.{Reads};
 
 use arbitrary_int::traits::{FixedWidth, Numbered};
 
+/// The digits of a part of a word, which write a number of 64 bits.
+const PART: usize = 18;
+
+/// `10 ^ 18`, a one before as many zeros.
+const SCALE: u128 = 1_000_000_000_000_000_000;
+
+/// A digit more after a number below it fits in 64 bits.
+pub const LARGE: u64 = u64::MAX / 10;
+
 /// The number that the word's digits write, if it is below the limit.
 pub fn number_below(word: &[u8], limit: u128) -> Option<u128>
-    requires { limit ≤ 2 ^ 124 }
+    requires { limit ≤ 2 ^ 120 }
     ensures value { result ≡ number_below limit word.now }
     ensures below { IfSome result (λ number. number < limit) }
 {
-    // As a rule these are all digits of the word.
-    let (first, end) = digits(word, 0, limit.min(1 << 60) as u64);
-    let mut number = u128::from(first);
-    let mut at = end;
-    while at < word.len() {
-        if !word[at].is_ascii_digit() {
-            return None;
-        }
-        number = 10 * number + u128::from(word[at] - b'0');
-        if number >= limit {
-            return None;
-        }
-        at += 1;
+    let length = word.len();
+    let (front, back) = word.split_at(length.saturating_sub(PART));
+    let (high, front_end) = digits(front, 0, LARGE);
+    let (low, back_end) = digits(back, 0, LARGE);
+    let end = front_end + back_end;
+    if end == 0 || end < length {
+        return None;
     }
-    if word.is_empty() { None } else { Some(number) }
+    let number = u128::from(high) * SCALE + u128::from(low);
+    if number < limit { Some(number) } else { None }
 }
 
 /// The number of the one digit at the place, where no digit follows it.
@@ -46,12 +50,13 @@ pub fn one_digit(text: &[u8], at: usize) -> Option<u64>
 }
 
 /// The number that the digits from the place on write, and the place after them. A digit with which
-/// the number is no longer below the limit is left.
+/// the number is no longer below the limit is left, as all that follows.
 #[inline(always)]
 pub fn digits(text: &[u8], start: usize, limit: u64) -> (u64, usize)
     requires start { start ≤ length text.now }
-    requires limit { limit ≤ 2 ^ 60 }
+    requires limit { 10 * limit ≤ 2 ^ 64 }
     ensures reads { Reads (drop start text.now) (result.1 - start) result.0 }
+    ensures stops { result.1 < length text.now → number_below limit (drop start text.now) ≡ None }
     ensures order { start ≤ result.1 }
     ensures room { result.1 ≤ length text.now }
     ensures below { start < result.1 → result.0 < limit }

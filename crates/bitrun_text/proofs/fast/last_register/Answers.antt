@@ -1,4 +1,4 @@
-use Rattle.std.proofs.Common.{◌<◌, drop, sym, arith}
+use Rattle.std.proofs.Common.{drop, arith}
 use Rattle.bitrun_text.proofs.Numbers.{last_taken, last_later}
 use Rattle.bitrun_text.proofs.fast.last_register.Goals as goal
 

@@ -1,4 +1,4 @@
-use Rattle.std.proofs.Common.{◌<◌, drop, sym, arith}
+use Rattle.std.proofs.Common.{drop, sym, arith}
 use Rattle.bitrun_text.proofs.FastLines.{blank_ends}
 use Rattle.bitrun_text.proofs.Numbers.{number_taken, number_later}
 use Rattle.bitrun_text.proofs.fast.next_register.Goals as goal

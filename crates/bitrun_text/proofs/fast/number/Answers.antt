@@ -1,4 +1,4 @@
-use Rattle.std.proofs.Common.{◌≡◌, ◌+◌, ◌<◌, ◌∙◌, arith}
+use Rattle.std.proofs.Common.{◌≡◌, ◌+◌, ◌∙◌, arith}
 use Rattle.bitrun_text.proofs.Numbers.{number_from}
 use Rattle.bitrun_text.proofs.FastLines.{blank_passed}
 use Rattle.bitrun_text.proofs.fast.number.Goals as goal

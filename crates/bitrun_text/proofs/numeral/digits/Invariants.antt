@@ -1,12 +1,12 @@
 -- What the loop over the digits keeps: those passed write the number. A round ends nearer to the end of the text.
-use Rattle.std.proofs.Common.{◌≤◌, ◌<◌, ◌-◌, ◌^◌, length, drop}
+use Rattle.std.proofs.Common.{◌≤◌, ◌<◌, ◌+◌, ◌-◌, ◌*◌, ◌^◌, length, drop}
 use Rattle.bitrun_text.specs.Fast.{Reads}
 use Rattle.bitrun_text.proofs.numeral.digits.Given as goal
 
 abbrev pub invariant-loop-at : goal.invariant-loop-at
 invariant-loop-at l = record {
   reads : Reads (drop l.start l.text) (l.at - l.start) l.number;
-  small : l.number < 2 ^ 60;
+  small : 10 * l.number + 10 ≤ 2 ^ 64;
   below : l.start < l.at → l.number < l.limit;
   order : l.start ≤ l.at;
   within : l.at ≤ length l.text;
