@@ -1,22 +1,40 @@
 -- An input has one output at most, and one bad line at most.
-use Rattle.std.proofs.Common.{◌≡◌, ℕ, List, [], ◌∷◌, length, filter, Some, Option, ℤ, refl, sym, ap₂, ◌∙◌, inl, inr, arith}
+use Rattle.std.proofs.Common.{◌≡◌, ℕ, ◌+◌, ◌-◌, ◌<◌, ◌≤◌, Bool, List, [], ◌∷◌, ◌++◌, length, take, drop, slice_get, filter, None, Some, IsSomeAnd, Option, ℤ, refl, sym, ap, ap₂, ◌∙◌, inl, inr, arith, append_assoc, take_all}
 use Rattle.std.specs.List.{AllZip}
 use Rattle.std.proofs.lemmas.Bool.{cases_order}
+use Rattle.std.proofs.lemmas.List.{take-take, take-append-drop}
 use Rattle.arbitrary_int.specs.declared.steps.Step.{Step}
-use Rattle.bitrun_text.specs.Text.{has_items}
+use Rattle.bitrun_text.specs.Text.{has_items, word_lines}
 use Rattle.bitrun_text.specs.Numeral.{value_named}
-use Rattle.bitrun_text.specs.Kind.{kind_named, type_row, type_of}
+use Rattle.bitrun_text.specs.Kind.{type_row, type_of}
 use Rattle.bitrun_text.specs.Operation.{step_named}
-use Rattle.bitrun_text.specs.Form.{Form, BadLine, IsValue, IsStep}
+use Rattle.bitrun_text.specs.Form.{Form, BeginsForm, BadLine, IsValue, IsStep}
 use Rattle.bitrun_service.specs.Output.{IsOutput}
 use Rattle.bitrun_text.specs.declared.kind.Kind.{Kind}
 
+-- fewer lines begin the form too
+fewer_begin : (lines : List (List (List ℕ))) (m n : ℕ) → m ≤ n → BeginsForm (take n lines) → BeginsForm (take m lines)
+unfolding BeginsForm
+fewer_begin lines m n less begins =
+    let cut = drop m (take n lines) in
+    let whole : take m lines ++ (cut ++ begins.0) ≡ take n lines ++ begins.0 =
+    rw (← append_assoc (take m lines) cut begins.0, ← take-take m n lines less) (ap (λ start. start ++ begins.0) (take-append-drop m (take n lines))) in
+    (cut ++ begins.0, begins.1, begins.2, begins.3, rw whole begins.4)
+
+no_later_one : (input : List ℕ) (m n : ℕ) → BadLine input m → BadLine input n → m < n → ⊥
+no_later_one input m n a b less =
+    let lines = word_lines input in
+    let missing = a.bad (fewer_begin lines m (n - 1) (omega arith) b.before) in
+    let whole : take n lines ≡ take (n - 1) lines = take_all n lines (omega (arith, missing.0)) ∙ sym (take_all (n - 1) lines (omega (arith, missing.0))) in
+    let after = b.bad (rw whole b.before) in
+    omega (arith, missing.0, after.0)
+
 pub one_bad_line : (input : List ℕ) (m n : ℕ) → BadLine input m → BadLine input n → m ≡ n
 one_bad_line input m n a b =
-    elim (cases_order a.before b.before) [
-      | inl same ↦ omega (arith, same, a.place, b.place)
-      | inr (inl less) ↦ absurd (a.bad (b.least a.before less))
-      | inr (inr more) ↦ absurd (b.bad (a.least b.before more))
+    elim (cases_order m n) [
+      | inl same ↦ same
+      | inr (inl less) ↦ absurd (no_later_one input m n a b less)
+      | inr (inr more) ↦ absurd (no_later_one input n m b a more)
     ]
 
 zip_once : {A B : Type 0} (R : A → B → Type 0) (once : (x : A) (y z : B) → R x y → R x z → y ≡ z) (xs : List A) (ys zs : List B) → AllZip R xs ys → AllZip R xs zs → ys ≡ zs
@@ -30,18 +48,18 @@ zip_once R once (x ∷ xs) (y ∷ ys) (z ∷ zs) h k = ap₂ (λ a b. a ∷ b) (
 same_some : {A : Type 0} (o : Option A) (x y : A) → o ≡ Some x → o ≡ Some y → x ≡ y
 same_some o x y e f = cc
 
-parts_same : {A : Type 0} (a b c d : A) (x y : List A) → a ∷ b ∷ x ≡ c ∷ d ∷ y → (a ≡ c) × (b ≡ d) × (x ≡ y)
-parts_same a b c d x y e = (cc, cc, cc)
+line_once : (s : Bool) (B : ℕ) (line : Option (List (List ℕ))) (xs ys : List ℤ) → IsSomeAnd line (λ words. AllZip (IsValue s B) words xs) → IsSomeAnd line (λ words. AllZip (IsValue s B) words ys) → xs ≡ ys
+line_once s B None xs ys h k = absurd h
+line_once s B (Some words) xs ys h k = zip_once (IsValue s B) (λ w x y. same_some (value_named s B w) x y) words xs ys h k
 
-one_form : (input : List ℕ) (k l : Kind) (xs ys : List ℤ) (ss ts : List Step) → Form input k xs ss → Form input l ys ts → (k ≡ l) × (xs ≡ ys) × (ss ≡ ts)
-one_form input k l xs ys ss ts f g =
-    let parts = parts_same f.first f.second g.first g.second f.later g.later (sym f.lines ∙ g.lines) in
-    let kinds : k ≡ l = same_some (kind_named f.first) k l f.names_kind (rw parts.0 g.names_kind) in
-    let registers : xs ≡ ys = zip_once (IsValue (type_row (type_of k)).1 (type_row (type_of k)).2) (λ w x y. same_some (value_named (type_row (type_of k)).1 (type_row (type_of k)).2 w) x y) f.second xs ys f.holds_registers (rw (kinds, parts.1) g.holds_registers) in
-    let steps : ss ≡ ts = zip_once (IsStep (length xs)) (λ w s t. same_some (step_named (length xs) w) s t) (filter has_items f.later) ss ts f.names_steps (rw (registers, parts.2) g.names_steps) in
+one_form : (lines : List (List (List ℕ))) (k l : Kind) (xs ys : List ℤ) (ss ts : List Step) → Form lines k xs ss → Form lines l ys ts → (k ≡ l) × (xs ≡ ys) × (ss ≡ ts)
+one_form lines k l xs ys ss ts f g =
+    let kinds : k ≡ l = (let e = f.names_kind in let h = g.names_kind in cc) in
+    let registers : xs ≡ ys = line_once (type_row (type_of k)).1 (type_row (type_of k)).2 (slice_get lines 1) xs ys f.holds_registers (rw kinds g.holds_registers) in
+    let steps : ss ≡ ts = zip_once (IsStep (length xs)) (λ w s t. same_some (step_named (length xs) w) s t) (filter has_items (drop 2 lines)) ss ts f.names_steps (rw registers g.names_steps) in
     (kinds, registers, steps)
 
 pub one_output : (input text other : List ℕ) → IsOutput input text → IsOutput input other → text ≡ other
 one_output input text other a b =
-    let same = one_form input a.kind b.kind a.registers b.registers a.steps b.steps a.form b.form in
+    let same = one_form (word_lines input) a.kind b.kind a.registers b.registers a.steps b.steps a.form b.form in
     a.written ∙ rw (same.0, same.1, same.2) (sym b.written)

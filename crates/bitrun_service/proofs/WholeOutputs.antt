@@ -1,10 +1,10 @@
--- The output of the lines is the output to the input, and each line of an input with an output has its form.
+-- The output of the lines is the output to the input, and an input with an output has no bad line.
 use Rattle.std.proofs.Common.{◌≡◌, ℕ, List, ◌∷◌, Some}
 use Rattle.bitrun_text.specs.Text.{word_lines}
 use Rattle.bitrun_text.specs.Kind.{kind_named, type_row, type_of}
-use Rattle.bitrun_text.specs.Form.{HasForm}
+use Rattle.bitrun_text.specs.Form.{BadLine}
 use Rattle.bitrun_text.specs.declared.kind.Kind.{Kind}
-use Rattle.bitrun_text.proofs.Forms.{no_first_line, first_line_bad, no_second_line, fault_of_lines, form_is_fine}
+use Rattle.bitrun_text.proofs.Forms.{no_first_line, first_line_bad, no_second_line, fault_of_lines, no_bad_line}
 use Rattle.bitrun_service.specs.Output.{IsOutput, IsOutputAt, text_for}
 
 pub output_of_lines : (input : List ℕ) (first : List (List ℕ)) (kind : Kind) → kind_named first ≡ Some kind
@@ -14,19 +14,15 @@ output_of_lines input first kind named second later lines text output = record {
   kind = kind;
   registers = output.registers;
   steps = output.steps;
-  form = record {
-    first = first;
-    second = second;
-    later = later;
-    lines = lines;
+  form = rw lines (record {
     names_kind = named;
     holds_registers = output.holds_registers;
     names_steps = output.names_steps;
-  };
+  });
   written = output.written;
 }
 
-pub output_is_fine : (input text : List ℕ) → IsOutput input text → (i : ℕ) → HasForm (word_lines input) i
-output_is_fine input text output = form_is_fine input output.kind output.registers output.steps output.form
+pub output_is_fine : (input text : List ℕ) → IsOutput input text → (line : ℕ) → BadLine input line → ⊥
+output_is_fine input text output = no_bad_line input output.kind output.registers output.steps output.form
 
 pub ruleset outputs = (no_first_line, first_line_bad, no_second_line, fault_of_lines, output_of_lines)

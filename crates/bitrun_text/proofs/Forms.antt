@@ -1,30 +1,20 @@
 -- The first line without its form, and that an input of the form has none.
-use Rattle.std.proofs.Common.{◌≡◌, ℕ, zero, suc, ◌+◌, ◌<◌, ◌≤◌, Bool, true, List, [], ◌∷◌, length, map, filter, slice_get, Option, Some, None, IsSome, IfSome, is_some, ℤ, refl, ap, ◌∙◌, inl, inr, arith}
-use Rattle.std.proofs.lemmas.List.{length-map}
-use Rattle.std.specs.List.{AllZip, slice_split, onto_first}
-use Rattle.std.proofs.lemmas.Bool.{cases_Bool}
-use Rattle.std.proofs.lemmas.List.Splits.{slice_split-cons_no, slice_split-cons_yes}
+use Rattle.std.proofs.Common.{◌≡◌, ℕ, zero, suc, ◌+◌, ◌-◌, ◌≤◌, Bool, List, [], ◌∷◌, ◌++◌, length, take, drop, map, filter, slice_get, codes, Option, Some, None, IsSome, IsSomeAnd, ℤ, refl, sym, ap, ◌∙◌, inl, inr, arith, lit≤, append-nil, length-drop}
+use Rattle.std.specs.List.{AllZip, position_or_len, after_first}
+use Rattle.std.proofs.lemmas.List.{length-map, take-append-drop}
+use Rattle.std.proofs.lemmas.Bool.{cases_lt}
 use Rattle.arbitrary_int.specs.declared.steps.Step.{Step}
-use Rattle.bitrun_text.specs.Text.{has_items, ends_line, without_empty_last, lines_of, words_of, word_lines}
+use Rattle.bitrun_text.specs.Text.{has_items, ends_line, word_lines}
 use Rattle.bitrun_text.specs.Numeral.{value_named}
-use Rattle.bitrun_text.specs.Kind.{kind_named, type_row, type_of}
+use Rattle.bitrun_text.specs.Kind.{kind_named, type_named, type_row, type_of}
 use Rattle.bitrun_text.specs.Operation.{step_named}
-use Rattle.bitrun_text.specs.Form.{Form, BadLine, HasForm, HasRegistersForm, HasStepForm, FirstBad, IsValue, IsStep, StepsFault, LinesFault, FormFault}
+use Rattle.bitrun_text.specs.Form.{Form, BeginsForm, BadLine, HasRegistersForm, HasStepForm, FirstBad, IsValue, IsStep, StepsFault, LinesFault, FormFault}
 use Rattle.bitrun_text.specs.declared.fault.Fault.{Fault}
 use Rattle.bitrun_text.specs.declared.fault.Fault.TheVariants as faults
 use Rattle.bitrun_text.specs.declared.kind.Kind.{Kind}
-
-module _ {X : Type 0} (P : X → Type 0) where
-  at_first : (xs : List X) (i : ℕ) → FirstBad P xs i → IfSome (slice_get xs i) P → ⊥
-  at_first [] i h = absurd h
-  at_first (x ∷ xs) zero h = h
-  at_first (x ∷ xs) (suc i) h = at_first xs i h.1
-
-  before_first_bad : (xs : List X) (i j : ℕ) → FirstBad P xs i → j < i → IfSome (slice_get xs j) P
-  before_first_bad [] i j h lt = tt
-  before_first_bad (x ∷ xs) zero j h lt = absurd (omega arith)
-  before_first_bad (x ∷ xs) (suc i) zero h lt = h.0
-  before_first_bad (x ∷ xs) (suc i) (suc j) h lt = before_first_bad xs i j h.1 (omega arith)
+use Rattle.bitrun_text.specs.declared.kind.Kind.TheVariants.{Run}
+use Rattle.bitrun_text.specs.declared.kind.RegisterType.TheVariants.{U1}
+use Rattle.bitrun_text.proofs.Lines.{no_line, left-line, left-later}
 
 some_from : {A : Type 0} (o : Option A) (x : A) → o ≡ Some x → IsSome o
 some_from o x e = rw e refl
@@ -40,17 +30,55 @@ as_long R [] (y ∷ ys) h = absurd h
 as_long R (x ∷ xs) [] h = absurd h
 as_long R (x ∷ xs) (y ∷ ys) h = ap suc (as_long R xs ys h.1)
 
+-- ---- what begins the form
+
+some_of : {A : Type 0} (o : Option A) → IsSome o → (x : A) × (o ≡ Some x)
+some_of None some = absurd cc
+some_of (Some x) some = (x, refl)
+
+values_of : (s : Bool) (B : ℕ) (words : List (List ℕ)) → HasRegistersForm s B words → (registers : List ℤ) × AllZip (IsValue s B) words registers
+values_of s B [] fine = ([], tt)
+values_of s B (word ∷ words) fine =
+    let value = some_of (value_named s B word) fine.0 in
+    let values = values_of s B words fine.1 in
+    (value.0 ∷ values.0, (value.1, values.1))
+
+-- the lines before the first bad one have their steps
+steps_of : (count : ℕ) (later : List (List (List ℕ))) (i : ℕ) → FirstBad (HasStepForm count) later i → (steps : List Step) × AllZip (IsStep count) (filter has_items (take i later)) steps
+steps_of count [] i bad = absurd bad
+steps_of count (line ∷ later) zero bad = ([], tt)
+steps_of count ([] ∷ later) (suc i) bad = steps_of count later i bad.1
+steps_of count ((word ∷ words) ∷ later) (suc i) bad =
+    let step = some_of (step_named count (word ∷ words)) bad.0 in
+    let steps = steps_of count later i bad.1 in
+    (step.0 ∷ steps.0, (step.1, steps.1))
+
+-- with the bad one they haven't, whatever follows
+no_steps : (count : ℕ) (later more : List (List (List ℕ))) (i : ℕ) (steps : List Step) → FirstBad (HasStepForm count) later i
+    → AllZip (IsStep count) (filter has_items (take (suc i) later ++ more)) steps → ⊥
+no_steps count [] more i steps bad named = bad
+no_steps count ([] ∷ later) more zero steps bad named = bad tt
+no_steps count ([] ∷ later) more (suc i) steps bad named = no_steps count later more i steps bad.1 named
+no_steps count ((word ∷ words) ∷ later) more i [] bad named = named
+no_steps count ((word ∷ words) ∷ later) more zero (step ∷ steps) bad named = bad (some_from (step_named count (word ∷ words)) step named.0)
+no_steps count ((word ∷ words) ∷ later) more (suc i) (step ∷ steps) bad named = no_steps count later more i steps bad.1 named.1
+
+none_begins : BeginsForm []
+unfolding BeginsForm kind_named type_named
+none_begins = ((codes "run" ∷ codes "u1" ∷ []) ∷ [] ∷ [], Run U1, [], [], record { names_kind = refl; holds_registers = tt; names_steps = tt })
+
+first_begins : (first : List (List ℕ)) (kind : Kind) → kind_named first ≡ Some kind → BeginsForm (first ∷ [])
+unfolding BeginsForm
+first_begins first kind named = ([] ∷ [], kind, [], [], record { names_kind = named; holds_registers = tt; names_steps = tt })
+
 -- ---- a bad line
 
-line_bad : (input : List ℕ) (lines : List (List (List ℕ))) (before : ℕ) → word_lines input ≡ lines
-    → (HasForm lines before → ⊥) → ((i : ℕ) → i < before → HasForm lines i) → BadLine input (suc before)
-line_bad input lines before e bad least = record { before = before; place = refl; bad = rw e bad; least = rw e least }
-
 pub no_first_line : (input : List ℕ) → word_lines input ≡ [] → BadLine input 1
-no_first_line input e = line_bad input [] 0 e (λ h. h) (λ i lt. absurd (omega arith))
+no_first_line input lines = record { before = none_begins; bad = λ begins. (rw lines refl, lit≤ tt) }
 
 pub first_line_bad : (input : List ℕ) (first : List (List ℕ)) (later : List (List (List ℕ))) → word_lines input ≡ first ∷ later → kind_named first ≡ None → BadLine input 1
-first_line_bad input first later e none = line_bad input (first ∷ later) 0 e (λ some. absurd (let k : is_some (kind_named first) ≡ true = some in let h = rw none at k in cc)) (λ i lt. absurd (omega arith))
+unfolding BeginsForm
+first_line_bad input first later lines none = record { before = none_begins; bad = rw lines (λ begins. absurd (let named = begins.4.names_kind in cc)) }
 
 -- where the second line is good, a fault of the later lines is one of the lines from the second on
 pub fault_of_steps : {T : Type 0} (number : T → ℤ) (s : Bool) (B : ℕ) (second : List (List ℕ)) (later : List (List (List ℕ))) (registers : List T) (fault : Fault)
@@ -65,34 +93,40 @@ fault_of_steps number s B second later registers faults.Write holds h = absurd h
 
 module _ (input : List ℕ) (first : List (List ℕ)) (kind : Kind) (named : kind_named first ≡ Some kind) where
   pub no_second_line : word_lines input ≡ first ∷ [] → BadLine input 2
-  no_second_line e = line_bad input (first ∷ []) 1 e (λ h. h) least
-    where
-      least : (i : ℕ) → i < 1 → HasForm (first ∷ []) i
-      least zero lt = some_from (kind_named first) kind named
-      least (suc i) lt = absurd (omega arith)
+  no_second_line lines = record { before = rw lines (first_begins first kind named); bad = λ begins. (rw lines refl, lit≤ tt) }
 
   module _ (second : List (List ℕ)) (later : List (List (List ℕ))) (lines : word_lines input ≡ first ∷ second ∷ later) where
-    -- the second line is bad
+    second_values : (other : Kind) (registers : List ℤ) → kind_named first ≡ Some other
+        → AllZip (IsValue (type_row (type_of other)).1 (type_row (type_of other)).2) second registers → AllZip (IsValue (type_row (type_of kind)).1 (type_row (type_of kind)).2) second registers
+    second_values other registers also values = let same : other ≡ kind = cc in rw same at values
+
     second_line_bad : (HasRegistersForm (type_row (type_of kind)).1 (type_row (type_of kind)).2 second → ⊥) → BadLine input 2
-    second_line_bad bad = line_bad input (first ∷ second ∷ later) 1 lines other least
-      where
-        other : HasForm (first ∷ second ∷ later) 1 → ⊥
-        other h = let same : h.0 ≡ kind = (let e = h.1 in cc) in bad (let fine = h.2 in rw same at fine)
+    unfolding BeginsForm
+    second_line_bad bad = record {
+      before = rw lines (first_begins first kind named);
+      bad = rw lines (λ begins. absurd (bad (values_are (type_row (type_of kind)).1 (type_row (type_of kind)).2 second begins.2 (second_values begins.1 begins.2 begins.4.names_kind begins.4.holds_registers))));
+    }
 
-        least : (i : ℕ) → i < 1 → HasForm (first ∷ second ∷ later) i
-        least zero lt = some_from (kind_named first) kind named
-        least (suc i) lt = absurd (omega arith)
-
-    -- a later line is bad
     later_line_bad : HasRegistersForm (type_row (type_of kind)).1 (type_row (type_of kind)).2 second → (i : ℕ) → FirstBad (HasStepForm (length second)) later i → BadLine input (i + 3)
+    unfolding BeginsForm
     later_line_bad fine i bad =
+        let s = (type_row (type_of kind)).1 in
+        let B = (type_row (type_of kind)).2 in
         let place : i + 3 ≡ suc (suc (suc i)) = omega arith in
-        rw place (line_bad input (first ∷ second ∷ later) (suc (suc i)) lines (at_first (HasStepForm (length second)) later i bad) least)
-      where
-        least : (j : ℕ) → j < suc (suc i) → HasForm (first ∷ second ∷ later) j
-        least zero lt = some_from (kind_named first) kind named
-        least (suc zero) lt = (kind, named, fine)
-        least (suc (suc j)) lt = before_first_bad (HasStepForm (length second)) later i j bad (omega arith)
+        let previous : i + 3 - 1 ≡ suc (suc i) = omega arith in
+        let values = values_of s B second fine in
+        let steps = steps_of (length second) later i bad in
+        let form : Form (first ∷ second ∷ (take i later ++ [])) kind values.0 steps.0 = record {
+          names_kind = named;
+          holds_registers = values.1;
+          names_steps = rw (append-nil (take i later), sym (as_long (IsValue s B) second values.0 values.1)) steps.1;
+        } in
+        record {
+          before = rw (previous, lines) (([], kind, values.0, steps.0, form));
+          bad = rw (place, lines) (λ begins. absurd (
+              let count = as_long (IsValue s B) second begins.2 (second_values begins.1 begins.2 begins.4.names_kind begins.4.holds_registers) in
+              no_steps (length second) later begins.0 i begins.3 bad (rw count begins.4.names_steps)));
+        }
 
     -- a fault of the lines from the second on is one of the input
     pub fault_of_lines : (fault : Fault) → LinesFault (type_row (type_of kind)).1 (type_row (type_of kind)).2 second later fault → FormFault input fault
@@ -105,42 +139,31 @@ module _ (input : List ℕ) (first : List (List ℕ)) (kind : Kind) (named : kin
 
 -- ---- an input of the form has no bad line
 
-steps_fine : (count : ℕ) (later : List (List (List ℕ))) (steps : List Step) (i : ℕ) → AllZip (IsStep count) (filter has_items later) steps → IfSome (slice_get later i) (HasStepForm count)
-steps_fine count [] steps i h = tt
-steps_fine count ([] ∷ later) steps zero h = tt
-steps_fine count ([] ∷ later) steps (suc i) h = steps_fine count later steps i h
-steps_fine count ((word ∷ words) ∷ later) [] i h = absurd h
-steps_fine count ((word ∷ words) ∷ later) (step ∷ steps) zero h = some_from (step_named count (word ∷ words)) step h.0
-steps_fine count ((word ∷ words) ∷ later) (step ∷ steps) (suc i) h = steps_fine count later steps i h.1
+two_lines : (P : List (List ℕ) → Type 0) (lines : List (List (List ℕ))) → IsSomeAnd (slice_get lines 1) P → 2 ≤ length lines
+two_lines P [] some = absurd some
+two_lines P (first ∷ []) some = absurd some
+two_lines P (first ∷ second ∷ later) some = omega arith
 
-pub form_is_fine : (input : List ℕ) (kind : Kind) (registers : List ℤ) (steps : List Step) → Form input kind registers steps → (i : ℕ) → HasForm (word_lines input) i
-form_is_fine input kind registers steps form i = rw form.lines (fine i)
-  where
-    fine : (i : ℕ) → HasForm (form.first ∷ form.second ∷ form.later) i
-    fine zero = some_from (kind_named form.first) kind form.names_kind
-    fine (suc zero) = (kind, form.names_kind, values_are (type_row (type_of kind)).1 (type_row (type_of kind)).2 form.second registers form.holds_registers)
-    fine (suc (suc i)) = rw (as_long (IsValue (type_row (type_of kind)).1 (type_row (type_of kind)).2) form.second registers form.holds_registers) (steps_fine (length registers) form.later steps i form.names_steps)
+pub no_bad_line : (input : List ℕ) (kind : Kind) (registers : List ℤ) (steps : List Step) → Form (word_lines input) kind registers steps → (line : ℕ) → BadLine input line → ⊥
+unfolding BeginsForm
+no_bad_line input kind registers steps form line bad =
+    let lines = word_lines input in
+    let missing = bad.bad (drop line lines, kind, registers, steps, rw (take-append-drop line lines) form) in
+    let long : 2 ≤ length lines = two_lines (λ words. AllZip (IsValue (type_row (type_of kind)).1 (type_row (type_of kind)).2) words registers) lines form.holds_registers in
+    omega (arith, missing.0, missing.1, long)
 
 -- ---- there are no more lines than bytes
 
-lines_from : (parts : List (List ℕ)) (byte : ℕ) → length (without_empty_last (onto_first byte parts)) ≤ suc (length (without_empty_last parts))
-lines_from [] byte = omega arith
-lines_from ([] ∷ []) byte = omega arith
-lines_from ((b ∷ bs) ∷ []) byte = omega arith
-lines_from (part ∷ next ∷ parts) byte = omega arith
-
-lines_after : (parts : List (List ℕ)) → length (without_empty_last ([] ∷ parts)) ≤ suc (length (without_empty_last parts))
-lines_after [] = omega arith
-lines_after (part ∷ parts) = omega arith
-
-length-lines : (text : List ℕ) → length (without_empty_last (slice_split ends_line text)) ≤ length text
-length-lines [] = omega arith
-length-lines (byte ∷ bytes) =
-    elim (cases_Bool (ends_line byte)) [
-      | inl passed ↦ rw (slice_split-cons_yes ends_line byte bytes passed) (omega (arith, lines_after (slice_split ends_line bytes), length-lines bytes))
-      | inr failed ↦ rw (slice_split-cons_no ends_line byte bytes failed) (omega (arith, lines_from (slice_split ends_line bytes) byte, length-lines bytes))
+lines_within : (n : ℕ) (text : List ℕ) → length text ≤ n → length (word_lines text) ≤ n
+lines_within zero text short = rw (no_line text (omega (arith, short))) (omega arith)
+lines_within (suc n) text short =
+    elim (cases_lt 0 (length text)) [
+      | inl some ↦
+          let after = after_first ends_line text in
+          let rest = lines_within n after (omega (arith, short, length-drop (position_or_len ends_line text + 1) text)) in
+          omega (arith, rest, ap length (left-line text some), ap length (left-later text))
+      | inr none ↦ rw (no_line text (omega (arith, none))) (omega arith)
     ]
 
 pub length-word_lines : (text : List ℕ) → length (word_lines text) ≤ length text
-unfolding lines_of
-length-word_lines text = rw (length-map (without_empty_last (slice_split ends_line text)) words_of) (length-lines text)
+length-word_lines text = lines_within (length text) text (omega arith)

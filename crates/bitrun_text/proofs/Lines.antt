@@ -1,11 +1,14 @@
 -- The first word and the first line of a text, and what remains.
-use Rattle.std.proofs.Common.{◌≡◌, ℕ, suc, ◌<◌, ◌≤◌, Bool, true, false, cond, not, List, [], ◌∷◌, length, drop, map, filter, position, ltb, ltb-true, ltb-false, eqb, eqb-true, false-eqb, Some, None, refl, sym, ap, ◌∙◌, inl, inr, arith, one-add, suc-add, drop_of_length-le, take_all}
+use Rattle.std.proofs.Common.{◌≡◌, ℕ, suc, ◌+◌, ◌-◌, ◌<◌, Bool, true, false, cond, not, List, [], ◌∷◌, ◌++◌, length, take, drop, get_or, map, filter, position, unwrap_or, eqb, eqb-true, false-eqb, refl, sym, ap, ◌∙◌, inl, inr, arith, one-add, suc-add, append-nil, drop_of_length-le, take_all}
 use Rattle.std.specs.List.{slice_split, onto_first, position_or_len, before_first, after_first}
-use Rattle.std.proofs.lemmas.Bool.{cases_Bool, cases_lt, ne_eqb}
+use Rattle.std.specs.Str.Lines.{lines_of_parts, strip_carriage_return}
+use Rattle.std.proofs.lemmas.Bool.{cases_Bool, cases_lt, cases_eq, ne_eqb, lt-ltb, le-ltb}
 use Rattle.std.proofs.lemmas.Bool.Decides.{nat_tests}
-use Rattle.std.proofs.lemmas.List.Splits.{slice_split-cons_no, slice_split-cons_yes, slice_split_first}
-use Rattle.std.proofs.lemmas.List.{nil_from_length}
-use Rattle.bitrun_text.specs.Text.{ends_line, is_blank, is_solid, ends_word, has_items, without_empty_last, lines_of, words_of, word_lines, Left, left_of}
+use Rattle.std.proofs.lemmas.List.Elements.{filter-append}
+use Rattle.std.proofs.lemmas.List.Sums.{prefix_len-le-length, fails_before_first}
+use Rattle.std.proofs.lemmas.List.Splits.{slice_split-cons_no, slice_split-cons_yes, slice_split_first, slice_split_none}
+use Rattle.std.proofs.lemmas.List.{nil_from_length, take_more, get_or_past}
+use Rattle.bitrun_text.specs.Text.{ends_line, is_blank, is_solid, ends_word, has_items, words_of, word_lines, Left, left_of}
 
 -- ---- a part that ends before the first item that passes
 
@@ -25,21 +28,16 @@ module _ {X : Type 0} (p : X → Bool) (x : X) (xs : List X) where
   after-no : p x ≡ false → after_first p (x ∷ xs) ≡ after_first p xs
   after-no failed = rw (position-no failed, suc-add) refl
 
-module _ {X : Type 0} (p : X → Bool) (xs : List X) where
-  -- `position` tells the same place
-  pub position-some : (i : ℕ) → position p xs ≡ Some i → (position_or_len p xs ≡ i) × (i < length xs)
-  position-some i e = found (ltb (position_or_len p xs) (length xs)) (position_or_len p xs) i (ltb-true _ _) e
-    where
-      found : (b : Bool) (m i : ℕ) → (b ≡ true → m < length xs) → cond b (Some m) None ≡ Some i → (m ≡ i) × (i < length xs)
-      found true m i h e = let same : m ≡ i = cc in (same, omega (arith, h refl, same))
-      found false m i h e = absurd cc
+-- `position` finds the same place
+pub place_found : {X : Type 0} (p : X → Bool) (xs : List X) → unwrap_or (position p xs) (length xs) ≡ position_or_len p xs
+place_found p xs =
+    let place = position_or_len p xs in
+    elim (cases_lt place (length xs)) [
+      | inl within ↦ rw (lt-ltb place (length xs) within) refl
+      | inr none ↦ rw (le-ltb place (length xs) none) (omega (arith, none, prefix_len-le-length (λ x. not (p x)) xs))
+    ]
 
-  pub position-none : position p xs ≡ None → length xs ≤ position_or_len p xs
-  position-none e = ltb-false _ _ (unfound (ltb (position_or_len p xs) (length xs)) (position_or_len p xs) e)
-    where
-      unfound : (b : Bool) (m : ℕ) → cond b (Some m) None ≡ None → b ≡ false
-      unfound true m e = absurd cc
-      unfound false m e = refl
+pub ruleset places = (place_found, prefix_len-le-length)
 
 -- ---- bytes
 
@@ -197,51 +195,65 @@ module _ (text solid word rest : List ℕ) (skipped : solid ≡ drop (position_o
 
 -- ---- lines
 
--- where no item passes there is one part
-split_whole : {X : Type 0} (p : X → Bool) (xs : List X) → length xs ≤ position_or_len p xs → slice_split p xs ≡ xs ∷ []
-split_whole p [] all = refl
-split_whole p (x ∷ xs) all =
+-- there is a part
+parts_there : {X : Type 0} (p : X → Bool) (xs : List X) → (part : List X) × (parts : List (List X)) × (slice_split p xs ≡ part ∷ parts)
+parts_there p [] = ([], [], refl)
+parts_there p (x ∷ xs) =
+    let others = parts_there p xs in
     elim (cases_Bool (p x)) [
-      | inl passed ↦ absurd (let h = rw (position-yes p x xs passed) at all in omega (arith, h))
-      | inr failed ↦
-          let more : length xs ≤ position_or_len p xs = (let h = rw (position-no p x xs failed) at all in omega (arith, h)) in
-          slice_split-cons_no p x xs failed ∙ ap (onto_first x) (split_whole p xs more)
+      | inl passed ↦ ([], slice_split p xs, slice_split-cons_yes p x xs passed)
+      | inr failed ↦ (x ∷ others.0, others.1, slice_split-cons_no p x xs failed ∙ ap (onto_first x) others.2)
     ]
 
-parts_there : (text : List ℕ) → (part : List ℕ) × (parts : List (List ℕ)) × (slice_split ends_line text ≡ part ∷ parts)
-parts_there [] = ([], [], refl)
-parts_there (byte ∷ bytes) =
-    let others = parts_there bytes in
-    elim (cases_Bool (ends_line byte)) [
-      | inl passed ↦ ([], slice_split ends_line bytes, slice_split-cons_yes ends_line byte bytes passed)
-      | inr failed ↦ (byte ∷ others.0, others.1, slice_split-cons_no ends_line byte bytes failed ∙ ap (onto_first byte) others.2)
+-- a last item that passes begins an empty part
+split_last : {X : Type 0} (p : X → Bool) (xs : List X) (last : X) → p last ≡ true → slice_split p (xs ++ last ∷ []) ≡ slice_split p xs ++ [] ∷ []
+split_last p [] last ends = rw ends refl
+split_last p (x ∷ xs) last ends =
+    elim (cases_Bool (p x)) [
+      | inl passed ↦ rw (passed, split_last p xs last ends) refl
+      | inr failed ↦ rw (failed, split_last p xs last ends, (parts_there p xs).2) refl
     ]
 
-first_kept : (line : List ℕ) (parts : List (List ℕ)) → ((part : List ℕ) × (others : List (List ℕ)) × (parts ≡ part ∷ others)) → without_empty_last (line ∷ parts) ≡ line ∷ without_empty_last parts
-first_kept [] parts there = rw there.2 refl
-first_kept (byte ∷ bytes) parts there = rw there.2 refl
+-- a line has the same words without the CR at its end
+words-stripped : (line : List ℕ) → words_of (strip_carriage_return line) ≡ words_of line
+unfolding words_of
+words-stripped line =
+    let end = length line - 1 in
+    elim (cases_eq (get_or line end 0) 13) [
+      | inl cr ↦
+          let within : end < length line = elim (cases_lt end (length line)) [
+            | inl within ↦ within
+            | inr none ↦ absurd (let zero = get_or_past line end 0 none in omega (arith, cr, zero))
+          ] in
+          let last : end + 1 ≡ length line = omega (arith, within) in
+          let whole : line ≡ take end line ++ 13 ∷ [] = sym (take_all (end + 1) line (omega (arith, last))) ∙ take_more line end 0 within ∙ ap (λ (byte : ℕ). take end line ++ byte ∷ []) cr in
+          let words = ap (filter has_items) (ap (slice_split is_blank) whole ∙ split_last is_blank (take end line) 13 refl)
+          ∙ filter-append has_items (slice_split is_blank (take end line)) ([] ∷ []) ∙ append-nil _ in
+          rw cr (sym words)
+      | inr other ↦ rw (ne_eqb (get_or line end 0) 13 other) refl
+    ]
 
-lines-first : (text : List ℕ) → 0 < length text → lines_of text ≡ before_first ends_line text ∷ lines_of (after_first ends_line text)
-unfolding lines_of
-lines-first [] some = absurd (omega arith)
-lines-first (byte ∷ bytes) some =
+pub left-line : (text : List ℕ) → 0 < length text → word_lines text ≡ (left_of text).words ∷ (left_of text).later
+unfolding left_of word_lines
+left-line [] some = absurd (omega arith)
+left-line (byte ∷ bytes) some =
     let text = byte ∷ bytes in
-    let end = position_or_len ends_line text in
-    elim (cases_lt end (length text)) [
-      | inl within ↦ ap without_empty_last (slice_split_first ends_line text 0 within) ∙ first_kept (before_first ends_line text) (slice_split ends_line (after_first ends_line text)) (parts_there (after_first ends_line text))
+    let words = λ (parts : List (List ℕ)). map words_of (lines_of_parts parts) in
+    elim (cases_lt (position_or_len ends_line text) (length text)) [
+      | inl within ↦
+          let line = before_first ends_line text in
+          let after = after_first ends_line text in
+          let next = parts_there ends_line after in
+          ap words (slice_split_first ends_line text 0 within) ∙ rw (next.2, words-stripped line) refl
       | inr all ↦
-          let line : before_first ends_line text ≡ text = take_all end text all in
+          let line : before_first ends_line text ≡ text = take_all (position_or_len ends_line text) text all in
           let none : after_first ends_line text ≡ [] = drop_of_length-le text (omega (arith, all)) in
-          rw (line, none) (ap without_empty_last (split_whole ends_line text all))
+          ap words (slice_split_none ends_line text (λ k d lt. fails_before_first ends_line text k d (omega (arith, lt, all)))) ∙ rw (line, none, ne_eqb (length text) 0 (omega arith)) refl
     ]
 
 pub no_line : (text : List ℕ) → length text ≡ 0 → word_lines text ≡ []
-unfolding lines_of
+unfolding word_lines
 no_line text none = rw (nil_from_length text none) refl
-
-pub left-line : (text : List ℕ) → 0 < length text → word_lines text ≡ (left_of text).words ∷ (left_of text).later
-unfolding left_of
-left-line text some = ap (map words_of) (lines-first text some)
 
 pub left-later : (text : List ℕ) → (left_of text).later ≡ word_lines (after_first ends_line text)
 unfolding left_of

@@ -1,5 +1,5 @@
 -- Which inputs are of the form, and which line of another is the first that isn't.
-use Rattle.std.specs.Prelude.{◌≡◌, ℕ, zero, suc, ◌+◌, ◌-◌, ◌<◌, ◌≤◌, ◌⊎◌, Bool, List, [], ◌∷◌, ◌++◌, length, filter, Some, IsSome, IfSome, ℤ, slice_get, All}
+use Rattle.std.specs.Prelude.{◌≡◌, ℕ, zero, suc, ◌+◌, ◌-◌, ◌≤◌, ◌⊎◌, Bool, List, [], ◌∷◌, ◌++◌, length, take, drop, filter, Some, IsSome, IsSomeAnd, option_and_then, ℤ, slice_get, All}
 use Rattle.std.specs.List.{AllZip, AllByRecursion}
 use Rattle.arbitrary_int.specs.declared.steps.Step.{Step}
 use Rattle.arbitrary_int.specs.Steps.{StepWithin}
@@ -13,14 +13,22 @@ use Rattle.bitrun_text.specs.declared.kind.Kind.{Kind}
 
 -- the lines are one that names the type, one whose words are numerals of the registers, each in range, and one
 -- for each step, where lines without words are left out
-pub record Form (input : List ℕ) (kind : Kind) (registers : List ℤ) (steps : List Step) : Type 0 where
-  pub first : List (List ℕ)
-  pub second : List (List ℕ)
-  pub later : List (List (List ℕ))
-  pub lines : word_lines input ≡ first ∷ second ∷ later
-  pub names_kind : kind_named first ≡ Some kind
-  pub holds_registers : AllZip (λ word x. value_named (type_row (type_of kind)).1 (type_row (type_of kind)).2 word ≡ Some x) second registers
-  pub names_steps : AllZip (λ words step. step_named (length registers) words ≡ Some step) (filter has_items later) steps
+pub record Form (lines : List (List (List ℕ))) (kind : Kind) (registers : List ℤ) (steps : List Step) : Type 0 where
+  pub names_kind : option_and_then kind_named (slice_get lines 0) ≡ Some kind
+  pub holds_registers : IsSomeAnd (slice_get lines 1) (λ words. AllZip (λ word x. value_named (type_row (type_of kind)).1 (type_row (type_of kind)).2 word ≡ Some x) words registers)
+  pub names_steps : AllZip (λ words step. step_named (length registers) words ≡ Some step) (filter has_items (drop 2 lines)) steps
+
+-- with some lines after them these lines are of the form
+unfoldable pub BeginsForm : List (List (List ℕ)) → Type 0
+BeginsForm lines = (more : List (List (List ℕ))) × (kind : Kind) × (registers : List ℤ) × (steps : List Step) × Form (lines ++ more) kind registers steps
+
+-- the first bad line, counted from 1: the lines before it begin the form, and with it they don't; or it is missing, and is the first
+-- or the second
+pub record BadLine (input : List ℕ) (line : ℕ) : Type 0 where
+  pub before : BeginsForm (take (line - 1) (word_lines input))
+  pub bad : BeginsForm (take line (word_lines input)) → (line ≡ length (word_lines input) + 1) × (line ≤ 2)
+
+-- ---- what the parts of the reader say
 
 -- the second line
 abbrev pub HasRegistersForm : Bool → ℕ → List (List ℕ) → Type 0
@@ -30,24 +38,6 @@ HasRegistersForm s B words = AllByRecursion (λ word. IsSome (value_named s B wo
 abbrev pub HasStepForm : ℕ → List (List ℕ) → Type 0
 HasStepForm count [] = Unit {0}
 HasStepForm count (word ∷ words) = IsSome (step_named count (word ∷ words))
-
--- the line with i lines before it is there where it must be, and has its form; the words of the second line count the
--- registers, whatever they are
-abbrev pub HasForm : List (List (List ℕ)) → ℕ → Type 0
-HasForm [] i = ⊥
-HasForm (first ∷ lines) zero = IsSome (kind_named first)
-HasForm (first ∷ []) (suc i) = ⊥
-HasForm (first ∷ second ∷ later) (suc zero) = (kind : Kind) × (kind_named first ≡ Some kind) × HasRegistersForm (type_row (type_of kind)).1 (type_row (type_of kind)).2 second
-HasForm (first ∷ second ∷ later) (suc (suc i)) = IfSome (slice_get later i) (HasStepForm (length second))
-
--- the least line, counted from 1, that is missing or hasn't its form
-pub record BadLine (input : List ℕ) (line : ℕ) : Type 0 where
-  pub before : ℕ
-  pub place : line ≡ suc before
-  pub bad : HasForm (word_lines input) before → ⊥
-  pub least : (i : ℕ) → i < before → HasForm (word_lines input) i
-
--- ---- what the parts of the reader say
 
 -- the word is a numeral of x, and a type of the sign s and the width B has x
 abbrev pub IsValue : Bool → ℕ → List ℕ → ℤ → Type 0

@@ -1,38 +1,29 @@
 -- The lines and the words of a text.
 use Rattle.std.specs.Prelude.{ℕ, ◌||◌, Bool, true, false, List, [], ◌∷◌, map, filter, not, ◌==◌}
 use Rattle.std.specs.List.{slice_split, before_first, after_first}
+use Rattle.std.specs.Str.Lines.{lines}
 
 abbrev pub has_items : {X : Type 0} → List X → Bool
 has_items [] = false
 has_items (x ∷ xs) = true
 
--- an LF
-abbrev pub ends_line : ℕ → Bool
-ends_line byte = byte == 10
-
 -- a space, a tab or a CR
 abbrev pub is_blank : ℕ → Bool
 is_blank byte = byte == 32 || (byte == 9 || byte == 13)
-
-abbrev pub without_empty_last : List (List ℕ) → List (List ℕ)
-without_empty_last [] = []
-without_empty_last ([] ∷ []) = []
-without_empty_last ((byte ∷ bytes) ∷ []) = (byte ∷ bytes) ∷ []
-without_empty_last (part ∷ next ∷ parts) = part ∷ without_empty_last (next ∷ parts)
-
--- what stands between the LFs; a last LF starts no further line
-unfoldable pub lines_of : List ℕ → List (List ℕ)
-lines_of text = without_empty_last (slice_split ends_line text)
 
 -- what stands between the blanks, if anything does
 unfoldable pub words_of : List ℕ → List (List ℕ)
 words_of line = filter has_items (slice_split is_blank line)
 
--- the words of each line
-abbrev pub word_lines : List ℕ → List (List (List ℕ))
-word_lines text = map words_of (lines_of text)
+-- the words of each line; an LF ends a line, and a CR that `lines` leaves out is a blank
+unfoldable pub word_lines : List ℕ → List (List (List ℕ))
+word_lines text = map words_of (lines text)
 
 -- ---- the rest of a text
+
+-- an LF
+abbrev pub ends_line : ℕ → Bool
+ends_line byte = byte == 10
 
 abbrev pub is_solid : ℕ → Bool
 is_solid byte = not (is_blank byte)

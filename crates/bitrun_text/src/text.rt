@@ -82,39 +82,32 @@ impl<'a> Cursor<'a> {
 }
 
 /// What follows the blanks that the text begins with.
+#[tactic(auto, using(crate::proofs::Lines::places))]
 fn without_blanks(text: &[u8]) -> &[u8]
     ensures { result.now ≡ drop (position_or_len is_solid text.now) text.now }
 {
-    match word_start(text) {
-        Some(start) => {
-            let (_, rest) = text.split_at(start);
-            rest
-        }
-        None => b"",
-    }
+    let (_, rest) = text.split_at(word_start(text).unwrap_or(text.len()));
+    rest
 }
 
 /// The word that the text begins with, which may be empty, and what follows it.
+#[tactic(auto, using(crate::proofs::Lines::places))]
 fn split_word(text: &[u8]) -> (&[u8], &[u8])
     ensures word { result.0.now ≡ before_first ends_word text.now }
     ensures rest { result.1.now ≡ drop (position_or_len ends_word text.now) text.now }
 {
-    match word_end(text) {
-        Some(end) => text.split_at(end),
-        None => (text, b""),
-    }
+    text.split_at(word_end(text).unwrap_or(text.len()))
 }
 
 /// What follows the first line.
+#[tactic(auto, using(crate::proofs::Lines::places))]
 pub fn after_line(text: &[u8]) -> &[u8]
     ensures { result.now ≡ after_first ends_line text.now }
 {
-    match line_end(text) {
-        Some(end) => {
-            let (_, rest) = text.split_at(end + 1);
-            rest
-        }
-        None => b"",
+    let (_, rest) = text.split_at(line_end(text).unwrap_or(text.len()));
+    match rest {
+        [_, after @ ..] => after,
+        [] => b"",
     }
 }
 

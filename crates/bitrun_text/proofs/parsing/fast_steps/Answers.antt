@@ -1,4 +1,4 @@
-use Rattle.std.proofs.Common.{◌≡◌, ◌+◌, ◌-◌, ◌<◌, [], ◌∷◌, ◌++◌, length, drop, ap, arith, length-drop}
+use Rattle.std.proofs.Common.{◌<◌, length, drop, ap, arith, length-drop}
 use Rattle.bitrun_text.proofs.StepLines.{step_passed, one_line}
 use Rattle.bitrun_text.proofs.parsing.fast_steps.Goals as goal
 
