@@ -1,13 +1,13 @@
-//! Makes a call, or runs a small program, many times, so that what it costs can be counted.
+//! Makes a call, or runs a small program, many times, so that callgrind can count its instructions.
 //!
 //! It reads a line, and prints some of the last results:
-//! - `loop TYPE CALL LIMIT PASSES`: the call in a loop over arrays of 1,024 values. The types are `u7`, `i7`, `u14`, `i14`, `u120`
-//!   and `i120`. The call is a method's name, or `nothing`. Amounts of shifts, exponents and sources of bits are below the limit,
-//!   which is at least 1.
+//! - `loop TYPE CALL LIMIT PASSES`: the call in a loop over arrays of 1,024 values. The types are `u7`, `i7`,
+//!   `u14`, `i14`, `u120` and `i120`. The call is the name of a method, or `nothing`. Amounts of shifts,
+//!   exponents and sources of bits are below the limit, which is at least 1.
 //! - `program NAME PASSES`: a program of `programs`.
 //! - `steps TYPE COUNT PASSES CHECKS`: a list of `COUNT` steps in memory.
-//! - `moved TYPE CALL LIMIT ROUNDS PLACES`: each call in a function of its own, on numbers in their storage. The operands are moved
-//!   so many places toward 0 first, so that sums and products are in range.
+//! - `moved TYPE CALL LIMIT ROUNDS PLACES`: each call in a function of its own, on numbers in their storage. The
+//!   operands are first shifted right by this number of places, so that sums and products are in range.
 //! - `ends TYPE CALL LIMIT ROUNDS`: the same on operands next to the ends of the range.
 #![tactic(auto)]
 

@@ -1,5 +1,5 @@
-//! The loop around a call, and the operands that it is made on. The calls are in `fixed`, each a `Call`, and `single` takes its
-//! operands from here. `tools/instructions.py` subtracts what `Nothing` costs.
+//! The loop around a call, and its operands. `fixed` has the calls, each a `Call`, and `single` uses the same
+//! operands. `tools/instructions.py` subtracts the cost of `Nothing`.
 
 ghost use Rattle.std.specs.Prelude.{◌≤◌};
 

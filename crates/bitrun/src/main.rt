@@ -1,4 +1,4 @@
-//! Runs a list of steps that comes as text on standard input, and writes the output. `bitrun_service` says what the text is.
+//! Runs a list of steps that it reads as text from standard input, and writes the output. `bitrun_service` describes the text.
 #![tactic(auto)]
 
 #[cfg(test)]

@@ -1,5 +1,4 @@
-//! Tests of what `main` calls, on whole texts: what is printed and with which status, also where memory gives out
-//! (`outputs`), and readers and writers that give out (`streams`). A new step has its runs in `outputs`. `bitrun_service`
-//! has what is proved.
+//! Tests of what `main` calls, on whole texts: the output and the status, also where memory is refused (`outputs`), and readers and writers
+//! that fail (`streams`). Add the runs of a new step to `outputs`. `bitrun_service` states what is proved.
 mod outputs;
 mod streams;

@@ -1,4 +1,4 @@
--- Numbers with a space between.
+-- Numbers separated by spaces.
 use Rattle.std.proofs.Common.{◌≡◌, List, [], ◌∷◌, ◌++◌, map, ℤ, ap, sym, append-nil}
 use Rattle.std.specs.List.{join_with_byte, flat_map}
 use Rattle.std.specs.Fmt.{signed_decimal}

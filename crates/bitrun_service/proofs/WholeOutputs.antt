@@ -1,4 +1,4 @@
--- The output of the lines is the output to the input, and an input with an output has no bad line.
+-- The output of the lines is the output of the input, and each line of an input with an output has its form.
 use Rattle.std.proofs.Common.{◌≡◌, ℕ, List, ◌∷◌, Some}
 use Rattle.bitrun_text.specs.Text.{word_lines}
 use Rattle.bitrun_text.specs.Kind.{kind_named, type_row, type_of}

@@ -1,4 +1,4 @@
--- What the loop over a reader says.
+-- What the loop over a reader returns.
 use Rattle.std.specs.Prelude.{ℕ, ◌<◌, Bool, List, length, Option, IfSome, IsTrue, ⊤}
 use Rattle.bitrun_text.specs.declared.fault.Fault.{Fault}
 use Rattle.bitrun_text.specs.declared.fault.Fault.TheVariants.{Line, TooLong, Memory, Read, Write}

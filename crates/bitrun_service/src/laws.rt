@@ -1,5 +1,6 @@
-//! What follows of the definitions in `specs` alone: an input has one output and one bad line at most, so "the output" in the
-//! contract of `serve` means one text. Nothing here runs; a new definition of the output has to leave these proved.
+//! What follows from the definitions in `specs` alone. An input has at most one output and at most one first bad
+//! line, so "the output" in the contract of `serve` means one text. Nothing here runs. After a change to the
+//! definition of the output, these laws must still be proved.
 
 ghost use Rattle.std.specs.Prelude.{◌≡◌, ℕ, List};
 ghost use Rattle.bitrun_text.specs.Form.{BadLine};

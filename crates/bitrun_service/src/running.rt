@@ -1,4 +1,4 @@
-//! A run of the steps, and the text of what it leaves.
+//! Runs the steps, and returns the text of the registers that they leave.
 
 ghost use Rattle.std.specs.Prelude.{◌≡◌, ◌≤◌, length, map, IfOk, All};
 ghost use Rattle.arbitrary_int.specs.Steps.{StepWithin};

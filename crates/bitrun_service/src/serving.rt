@@ -1,4 +1,4 @@
-//! The bytes in, and the output out.
+//! Reads the input, and writes the output.
 
 ghost use Rattle.arbitrary_int.specs.Watched.{inner_of, has_failed};
 ghost use Rattle.bitrun_service.specs.Serving.{Serves};

@@ -1,5 +1,5 @@
-//! The whole input in, and the whole output out, for `serving`; `output` beside this file makes one of the other. Only
-//! here is a reader or a writer called. An input has at most 65,536 bytes, and no failed call is tried again.
+//! Reads the whole input, and writes the whole output, for `serving`. `output` computes the output. Only this module calls a reader or a
+//! writer. An input has at most 65,536 bytes, and no call is repeated after a failure.
 
 ghost use Rattle.std.specs.Prelude.{◌≡◌, ◌≤◌, vec_len, IfOk, IfErr, OnOk, OnErr, IfSome, IsTrue};
 ghost use Rattle.std.specs.Io.KnownBytes.{Appends, IsAtEnd};

@@ -1,4 +1,4 @@
--- The first line without its form, and that an input of the form has none.
+-- The first line that does not have its form. An input of the form has no such line.
 use Rattle.std.proofs.Common.{◌≡◌, ℕ, zero, suc, ◌+◌, ◌-◌, ◌≤◌, Bool, List, [], ◌∷◌, ◌++◌, length, take, drop, map, filter, slice_get, codes, Option, Some, None, IsSome, IsSomeAnd, ℤ, refl, sym, ap, ◌∙◌, inl, inr, arith, lit≤, append-nil, length-drop}
 use Rattle.std.specs.List.{AllZip, position_or_len, after_first}
 use Rattle.std.proofs.lemmas.List.{length-map, take-append-drop}

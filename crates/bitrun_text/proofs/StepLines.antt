@@ -1,4 +1,4 @@
--- One more of the lines after the second.
+-- One more line of a step.
 use Rattle.std.proofs.Common.{◌≡◌, ◌<◌, ◌+◌, ◌-◌, ℕ, suc, List, [], ◌∷◌, ◌++◌, length, filter, Some, None, is_some, true, sym, refl, ap, ◌∙◌, arith, append_assoc}
 use Rattle.std.specs.List.{AllZip, after_first}
 use Rattle.std.proofs.lemmas.List.Elements.{All-push}

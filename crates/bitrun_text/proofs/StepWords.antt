@@ -1,4 +1,4 @@
--- The numbers of a step, taken off its words one by one.
+-- The numbers of a step, read from its words one by one.
 use Rattle.std.proofs.Common.{◌≡◌, ℕ, ◌^◌, ◌==◌, false, List, [], ◌∷◌, length, Option, Some, None, option_map, option_and_then, refl, arith}
 use Rattle.std.specs.Option.{option_zip}
 use Rattle.std.proofs.lemmas.Bool.{ne_eqb}

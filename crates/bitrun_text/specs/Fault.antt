@@ -1,4 +1,4 @@
--- What a fault prints, and the status that it ends with.
+-- The text and the status of a fault.
 use Rattle.std.specs.Prelude.{ℕ, List, ◌++◌, codes, decimal}
 use Rattle.bitrun_text.specs.declared.fault.Fault.{Fault}
 use Rattle.bitrun_text.specs.declared.fault.Fault.TheVariants.{Line, TooLong, Memory, Read, Write}

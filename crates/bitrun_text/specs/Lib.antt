@@ -1,4 +1,4 @@
--- What the text of a program of `bitrun` means, a file for each part of it.
+-- The meaning of a text for `bitrun`, with one file for each part of the text.
 pub mod Fault
 pub mod Text
 pub mod Numeral

@@ -1,6 +1,5 @@
-//! Lines of steps as they are written as a rule: the name comes first, and an LF ends the line. For a
-//! line with one space between its words nothing here makes a call, so no part of it is stored in
-//! memory. A result of `None` says nothing of the line: the caller reads its words.
+//! Steps in the usual form: the line begins with the name and ends with an LF. A line with one space between its words needs no call, so
+//! all of it stays in processor registers. If a function returns `None`, the caller reads the words of the line.
 
 ghost use Rattle.std.specs.Prelude.{◌≡◌, ◌≤◌, ◌<◌, ◌+◌, ◌-◌, ◌*◌, ◌^◌, [], true, length, take, drop, get_or, Some, IfSome};
 ghost use Rattle.arbitrary_int.specs.Steps.{StepWithin};

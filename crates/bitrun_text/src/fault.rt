@@ -1,4 +1,4 @@
-//! What can go wrong.
+//! The faults that `bitrun` reports.
 
 ghost use Rattle.std.specs.Prelude.{◌≡◌, Some};
 ghost use Rattle.bitrun_text.specs.Fault.{fault_row};

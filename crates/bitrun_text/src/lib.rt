@@ -1,8 +1,8 @@
-//! Registers and steps, read from text.
+//! Reads registers and steps from text.
 //!
-//! The first line is `run` and the type of the registers, or `wide` and a pair of types; the second
-//! line holds the numbers of the registers, and each later line that isn't blank is a step. A
-//! `Cursor` goes over the text once. Where the text isn't of this form its first bad line is told.
+//! The first line is `run` and the type of the registers, or `wide` and a pair of types. The second line has the
+//! numbers of the registers, and each later line that is not blank is a step. A `Cursor` reads the text once. If
+//! the text does not have this form, the first bad line is reported.
 #![tactic(auto)]
 
 mod fast;

@@ -1,4 +1,4 @@
-//! The registers and the steps from their lines.
+//! Reads the registers and the steps from their lines.
 
 ghost use Rattle.std.specs.Prelude.{◌≡◌, ◌≤◌, ◌+◌, ◌-◌, ℕ, List, length, drop, map, filter, IfOk, IfErr, MatchOption, All};
 ghost use Rattle.arbitrary_int.specs.Steps.{StepWithin};

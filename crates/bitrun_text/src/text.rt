@@ -1,4 +1,4 @@
-//! The lines and the words of a text, in one pass.
+//! Reads the lines and the words of a text in one pass.
 
 ghost use Rattle.std.specs.Prelude.{◌≡◌, ◌==◌, [], ◌∷◌, drop, length, position, MatchOption, if◌then◌else◌};
 ghost use Rattle.std.specs.List.{position_or_len, before_first, after_first};

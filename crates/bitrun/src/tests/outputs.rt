@@ -1,4 +1,4 @@
-//! What is printed for an input, and the status.
+//! The output and the status for an input.
 use arbitrary_int::Watched;
 use bitrun_service::serving::{serve, serve_in};
 use bitrun_text::fault::Fault;

@@ -1,4 +1,4 @@
-//! Readers and writers that take a byte a call, and give out.
+//! Readers and writers that accept or yield one byte for each call, and that fail.
 use arbitrary_int::Watched;
 use bitrun_service::serving::serve;
 use bitrun_text::fault::Fault;

@@ -1,5 +1,4 @@
--- For `write_signed` in src/decimal.rt: the digits leave room for the minus sign, which is put before them. The lengths of digits are laws of
--- Decimals.antt.
+-- For `write_signed` in src/decimal.rt: the digits leave room for the minus sign before them. Decimals.antt has the lengths.
 use Rattle.std.proofs.Common.{◌≡◌, ◌+◌, ◌-◌, ◌∙◌, ap, arith, to_z-of_z, unsigned_abs}
 use Rattle.std.proofs.lemmas.List.{drop-set}
 use Rattle.bitrun_service.proofs.Decimals.{length-decimal, minus_first}

@@ -1,4 +1,4 @@
--- What the loop over the empty lines keeps: no step is read of those passed, and each is one byte. A round ends nearer to the end of the text.
+-- The loop over the empty lines: those already passed have no step, and each is one byte. Each iteration ends nearer to the end.
 use Rattle.std.proofs.Common.{◌≡◌, ◌≤◌, ◌+◌, ◌-◌, ℕ, List, length, drop}
 use Rattle.arbitrary_int.specs.declared.steps.Step.{Step}
 use Rattle.bitrun_text.specs.Text.{word_lines}
