@@ -29,22 +29,20 @@ STORAGES = sum(file.read_text().count('impl Storage for') for file in (ROOT / 'c
 # The definitions to believe, as tools/believed.py writes them.
 BELIEVED = (ROOT / 'docs/ARCHITECTURE.md').read_text()
 COUNTED = ['no', 'one', 'two', 'three', 'four', 'five', 'six', 'seven', 'eight', 'nine', 'ten', 'eleven', 'twelve']
-# The times that tools/measured.txt has of this text, and the processors of the machine. prove.sh has the most jobs.
+# The time that tools/measured.txt has of the README's crate, and the most jobs of prove.sh.
 MEASURED = (ROOT / 'tools/measured.txt').read_text()
-TIMES = dict(re.findall(r'^\| (.*?) \| .* \| (\S+) \|$', MEASURED, re.M))
-PROCESSORS = re.search(r'machine with (\d+) processors', MEASURED)[1]
+MINUTES = re.search(r'with nothing proved: processor minutes \| (\d+)', MEASURED)[1]
 JOBS = re.search(r'-le \d+ \] \|\| jobs=(\d+)', (ROOT / 'prove.sh').read_text())[1]
 # The input of `bitrun` whose output the gate compares, and the lines of that output.
 INPUT, OUTPUT = ((ROOT / 'crates/bitrun' / name).read_text() for name in ('stdin', 'stdout'))
 # What the prose says with a figure, and the figure.
 FIGURES = [
     (r"printf '(.*)' \| \./bitrun\.sh", INPUT.replace('\n', '\\n')), (r'\./bitrun\.sh +# (`.*`)\n', ', '.join(f'`{line}`' for line in OUTPUT.splitlines())),
-    (r'in about (\S+) minutes; then', TIMES['`./prove.sh mine`, the crate of the README: minutes']),
-    (r'wrong bodies, in about (\S+) minutes', TIMES['`./test.sh`: minutes']),
+    (r'about (\d+) processor minutes', MINUTES),
     (r'(\d+,\d+) bytes', f'{LIMIT:,}'), (r'(\d+,\d+) reads', f'{LIMIT + 1:,}'), (r'the (\w+) primitive integers', COUNTED[STORAGES]),
     (r'sentences of at most (\d+) words', str(SENTENCE)),
     (r'on lines of at most (\d+) columns', str(names.COLUMNS)), (r'module of at most (\d+) lines', str(names.LINES)),
-    (r'imperative and has at most (\d+) columns', str(names.SUBJECT)), (r'machine with (\d+) processors', PROCESSORS), (r'with at most (\d+) jobs', JOBS),
+    (r'imperative and has at most (\d+) columns', str(names.SUBJECT)), (r'with at most (\d+) jobs', JOBS),
     (r'(\d+) lines of \[definitions', re.search(r'(\d+) lines must be believed', BELIEVED)[1]),
     (r'(\d+) more for `bitrun`', re.search(r'(\d+) more for the program', BELIEVED)[1]),
     (r'(rattle-kit-\S+ logic \w+)', subprocess.check_output(['rt', 'version'], text=True).strip()),
