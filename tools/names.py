@@ -69,7 +69,7 @@ def main():
         if count > LINES and 'out' not in file.parts and str(file.relative_to(CRATES)) not in LONG:
             wrong.append(f'{file}: {count} lines')
     wrong += [line for file in sorted(CRATES.glob('*/src/**/*.rt')) for line in too_long(file)]
-    subject = subprocess.check_output(['git', 'log', '-1', '--format=%s'], cwd=CRATES, text=True).strip()
+    subject = subprocess.check_output(['git', 'log', '-1', '--no-merges', '--format=%s'], cwd=CRATES, text=True).strip()
     if len(subject) > SUBJECT:
         wrong.append(f'the subject of the last commit has {len(subject)} columns: {subject}')
     print('\n'.join(line.replace(f'{CRATES.parent}/', '') for line in wrong) or 'names: as they should be')
