@@ -44,13 +44,13 @@ minutes() {
     awk -v name="$1" '$1 == name { found = $2 } END { print found ? found : 1 }' tools/minutes.txt
 }
 
-logs="$(mktemp -d)"
+log="$(mktemp)"
 end() {
     local status=$?
     trap - EXIT INT TERM
     # shellcheck disable=SC2046
     kill $(jobs -p) 2> /dev/null || true
-    rm -rf "$logs"
+    rm -f "$log"
     exit "$status"
 }
 trap end EXIT
@@ -60,65 +60,29 @@ crates=()
 for name in $(order "$crate"); do
     case " ${crates[*]-} " in *" $name "*) ;; *) crates+=("$name") ;; esac
 done
+left=0
+for name in "${crates[@]}"; do left=$((left + $(minutes "$name"))); done
 echo "prove.sh: ${#crates[@]} crates, $jobs jobs, $free_memory GB of memory free"
 
-declare -A state
-running() {
-    local name count=0
-    for name in "${crates[@]}"; do [ "${state[$name]-}" != running ] || count=$((count + 1)); done
-    echo "$count"
-}
-
-is_ready() {
-    local name
-    [ -z "${state[$1]-}" ] || return 1
-    for name in $(uses "$1"); do [ "${state[$name]-}" = proved ] || return 1; done
-}
-
-begin() {
-    state[$1]=running
-    (
-        cd "crates/$1"
-        if rt check --jobs "$2" > "$logs/$1" 2>&1; then echo 0 > "$logs/$1.status"; else echo 1 > "$logs/$1.status"; fi
-    ) &
-}
-
-# What is running, and the minutes that are left by the measured ones and by how fast this run has been.
-progress() {
-    local name left=0 now
-    for name in "${crates[@]}"; do
-        [ "${state[$name]-}" = proved ] || left=$(awk -v a="$left" -v b="$(minutes "$name")" 'BEGIN { print a + b }')
-    done
-    for name in "${crates[@]}"; do
-        [ "${state[$name]-}" = running ] || continue
-        now=$(grep -ohE '[0-9]+ of [0-9]+$' "$logs/$name" 2> /dev/null | tail -n 1 || true)
-        printf 'prove.sh: %4d s  %s %s; up to %.0f minutes left\n' "$SECONDS" "$name" "${now:-begins}" "$left"
-    done
-}
-
-last=0
-while [ "${state[$crate]-}" != proved ]; do
-    ready=()
-    for name in "${crates[@]}"; do if is_ready "$name"; then ready+=("$name"); fi; done
-    if [ ${#ready[@]} -gt 0 ] && [ "$(running)" -eq 0 ]; then
-        # Crates that do not use each other share the jobs; the first to end leaves its own idle, so each gets more than its part.
-        share=$((jobs > ${#ready[@]} ? jobs - ${#ready[@]} + 1 : 1))
-        for name in "${ready[@]}"; do begin "$name" "$share"; done
-    fi
-    sleep 0.3
-    for name in "${crates[@]}"; do
-        if [ "${state[$name]-}" != running ] || [ ! -f "$logs/$name.status" ]; then continue; fi
-        if [ "$(cat "$logs/$name.status")" = 0 ]; then
-            state[$name]=proved
-            printf 'prove.sh: %4d s  %s is proved\n' "$SECONDS" "$name"
-        else
-            tail -n 30 "$logs/$name" >&2
-            stop "$name is not proved: its messages are above"
-        fi
-    done
-    if [ $((SECONDS - last)) -ge 20 ]; then
+# One crate at a time, since rt locks the libraries below a crate while it proves it. `rt lib` proves and builds a library in one run.
+for name in "${crates[@]}"; do
+    verb=lib
+    [ "$name" != "$crate" ] || verb=check
+    (cd "crates/$name" && exec rt "$verb" --jobs "$jobs" --progress) > "$log" 2>&1 &
+    check=$!
+    last=$SECONDS
+    while kill -0 "$check" 2> /dev/null; do
+        sleep 0.3
+        [ $((SECONDS - last)) -ge 20 ] || continue
         last=$SECONDS
-        progress
+        now=$(grep -oE '[0-9]+ of [0-9]+( functions checked)?$' "$log" | tail -n 1 || true)
+        printf 'prove.sh: %4d s  %s %s; up to %d minutes left\n' "$SECONDS" "$name" "${now:-begins}" "$left"
+    done
+    if ! wait "$check"; then
+        tail -n 30 "$log" >&2
+        stop "$name is not proved: its messages are above"
     fi
+    printf 'prove.sh: %4d s  %s is proved\n' "$SECONDS" "$name"
+    left=$((left - $(minutes "$name")))
 done
-grep -h '^logic=' "$logs/$crate"
+grep '^logic=' "$log"

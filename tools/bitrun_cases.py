@@ -15,10 +15,11 @@ from pathlib import Path
 
 ROOT = Path(__file__).resolve().parent.parent
 
-# A check refuses a broken source. A run says what it read, waits until the file `hold` is gone, and refuses a broken source.
+# A check and a build of a library refuse a broken source. A run says what it read, waits until the file `hold` is gone, and refuses a
+# broken source.
 STAND_IN = r'''#!/usr/bin/env bash
 set -eu
-if [ "$1" = check ]; then
+if [ "$1" = check ] || [ "$1" = lib ]; then
     echo "checked a function, 1 of 2"
     while [ -e ../../hold_check ]; do sleep 0.02; done
     if grep -qs broken src/*.rt; then
@@ -86,6 +87,8 @@ class Clone:
         (self.root / 'crates/bitrun/src').mkdir(parents=True)
         for script in ('bitrun.sh', 'prove.sh'):
             shutil.copy(ROOT / script, self.root)
+        (self.root / 'tools').mkdir()
+        shutil.copy(ROOT / 'tools/minutes.txt', self.root / 'tools')
         (self.root / 'crates/bitrun_text/src').mkdir(parents=True)
         (self.root / 'crates.txt').write_text('bitrun_text:\nbitrun: bitrun_text\n')
         self.source = self.root / 'crates/bitrun/src/main.rt'
