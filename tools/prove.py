@@ -304,7 +304,7 @@ class Search:
         named = list(dict.fromkeys(laws[0] for laws in found if self.is_set(laws)))
         return named, list(dict.fromkeys(law for laws in found if not self.is_set(laws) for law in laws))
 
-    def again(self, functions):
+    def by_one_set(self, functions):
         """Tries each set at each goal of functions whose laws do not prove them together. Returns those that another choice may prove."""
         for function in functions:
             named, laws = self.solution(function)
@@ -312,6 +312,16 @@ class Search:
                 function.closed[goal] = [it for it in closed if it[0] not in named and it != laws]
         self.try_all({(it, goal): [[name] for name in self.index.for_callers] for it in functions for goal in it.goals}, 'one set for all goals')
         return [it for it in functions if all(it.closed.values())]
+
+    def by_few_laws(self, functions):
+        """Tries the best laws and no set at each goal of functions that no set proves. Returns those that they may prove, with as few as do."""
+        counts = sorted(count for _, found in ROUNDS for count in found)
+        for function in functions:
+            function.closed = {goal: [it for it in closed if not self.is_set(it)] for goal, closed in function.closed.items()}
+        self.try_all({(it, goal): self.choices(it.shown[goal], 0, counts) for it in functions for goal in it.open_goals()}, 'laws alone')
+        found = [it for it in functions if all(it.closed.values())]
+        self.lessen(found)
+        return found
 
 
 def likeness(here, there):
@@ -349,8 +359,10 @@ def found_in(copies, index, functions):
     closed = search.close()
     search.lessen(closed)
     confirmed = copies.confirmed({it: search.solution(it) for it in closed})
-    if left := search.again([it for it in closed if it not in confirmed]):
-        confirmed.update(copies.confirmed({it: search.solution(it) for it in left}))
+    # laws that close a goal can keep the search from another goal of the function
+    for others in (search.by_one_set, search.by_few_laws):
+        if left := [it for it in closed if it not in confirmed]:
+            confirmed.update(copies.confirmed({it: search.solution(it) for it in others(left)}))
     return confirmed
 
 
