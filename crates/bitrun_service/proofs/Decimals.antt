@@ -1,5 +1,5 @@
 -- The digits of a number, the last ones first.
-use Rattle.std.proofs.Common.{◌≡◌, ℕ, ◌+◌, ◌*◌, ◌/◌, ◌%◌, ◌^◌, ◌<◌, ◌≤◌, [], ◌∷◌, ◌++◌, length, ℤ, pos, negsuc, true, false, true≢false, int_le, unsigned_abs, refl, sym, ap, ◌∙◌, arith, add-one, mul_assoc, length-append}
+use Rattle.std.proofs.Common.{◌≡◌, ℕ, ◌+◌, ◌*◌, ◌/◌, ◌%◌, ◌^◌, ◌<◌, ◌≤◌, [], ◌∷◌, ◌++◌, length, ℤ, pos, negsuc, false, true≢false, int_le, unsigned_abs, refl, sym, ap, ◌∙◌, arith, add-one, mul_assoc, length-append}
 use lib.Dec.{leb-zero}
 use Rattle.std.specs.Fmt.{decimal, signed_decimal}
 use Rattle.std.proofs.lemmas.Fmt.{decimal_digit, decimal_step_wide, length-decimal-le_wide}

@@ -1,5 +1,5 @@
 -- An input has at most one output, and at most one first bad line.
-use Rattle.std.proofs.Common.{◌≡◌, ℕ, ◌+◌, ◌-◌, ◌<◌, ◌≤◌, Bool, List, [], ◌∷◌, ◌++◌, length, take, drop, slice_get, filter, None, Some, IsSomeAnd, Option, ℤ, refl, sym, ap, ap₂, ◌∙◌, inl, inr, arith, append_assoc, take_all}
+use Rattle.std.proofs.Common.{◌≡◌, ℕ, ◌-◌, ◌<◌, ◌≤◌, Bool, List, [], ◌∷◌, ◌++◌, length, take, drop, slice_get, filter, None, Some, IsSomeAnd, Option, ℤ, refl, sym, ap, ap₂, ◌∙◌, inl, inr, arith, append_assoc, take_all}
 use Rattle.std.specs.List.{AllZip}
 use Rattle.std.proofs.lemmas.Bool.{cases_order}
 use Rattle.std.proofs.lemmas.List.{take-take, take-append-drop}

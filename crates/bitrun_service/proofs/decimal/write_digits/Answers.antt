@@ -1,4 +1,4 @@
-use Rattle.std.proofs.Common.{◌≡◌, ◌+◌, ◌-◌, ◌%◌, ◌++◌, arith, append_assoc, refl}
+use Rattle.std.proofs.Common.{◌≡◌, ◌+◌, ◌-◌, ◌%◌, arith, append_assoc, refl}
 use Rattle.std.proofs.lemmas.List.{drop-set, length-set}
 use Rattle.bitrun_service.proofs.Decimals.{last_digit, first_digit}
 use Rattle.bitrun_service.proofs.decimal.write_digits.Goals as goal
