@@ -104,7 +104,7 @@ fn wide_output_at<'a, W: FixedWidth, N: FixedWidth, A: Allocator>(
 }
 
 /// The registers that the second line holds, and the steps that the later ones name.
-fn registers_and_steps<'a, R: FixedWidth, A: Allocator>(
+fn registers_and_steps<'a, R: Numbered, A: Allocator>(
     alloc: &'a A,
     lines: &mut Cursor,
 ) -> Result<(Vec<R, &'a A>, Vec<Step, &'a A>), Fault>

@@ -6,12 +6,12 @@ ghost use Rattle.std.specs.Fmt.{signed_decimal};
 ghost use Rattle.bitrun_service.specs.Output.{after_space, cause_text, ending_text, output_text};
 
 use crate::decimal::push_decimal;
-use arbitrary_int::traits::{FixedWidth, Numbered};
+use arbitrary_int::traits::Numbered;
 use arbitrary_int::{Stop, Why};
 use std::alloc::{AllocError, Allocator};
 
 /// Appends the wide and the narrow registers in decimal, and how the run ended.
-pub(crate) fn push_wide_output<W: FixedWidth, N: FixedWidth, B: Allocator>(
+pub(crate) fn push_wide_output<W: Numbered, N: Numbered, B: Allocator>(
     text: &mut Vec<u8, B>,
     wide: &[W],
     narrow: &[N],
@@ -30,7 +30,7 @@ pub(crate) fn push_wide_output<W: FixedWidth, N: FixedWidth, B: Allocator>(
 }
 
 /// Appends the registers in decimal, and how the run ended.
-pub(crate) fn push_output<R: FixedWidth, B: Allocator>(
+pub(crate) fn push_output<R: Numbered, B: Allocator>(
     text: &mut Vec<u8, B>,
     registers: &[R],
     ending: Result<(), Stop>,
@@ -44,7 +44,7 @@ pub(crate) fn push_output<R: FixedWidth, B: Allocator>(
 }
 
 /// Appends the numbers with a space between.
-fn push_registers<R: FixedWidth, B: Allocator>(
+fn push_registers<R: Numbered, B: Allocator>(
     text: &mut Vec<u8, B>,
     registers: &[R],
 ) -> Result<(), AllocError>
@@ -64,7 +64,7 @@ fn push_registers<R: FixedWidth, B: Allocator>(
 }
 
 /// Appends the numbers, each after a space.
-fn push_others<R: FixedWidth, B: Allocator>(
+fn push_others<R: Numbered, B: Allocator>(
     text: &mut Vec<u8, B>,
     others: &[R],
 ) -> Result<(), AllocError>
@@ -79,7 +79,7 @@ fn push_others<R: FixedWidth, B: Allocator>(
     Ok(())
 }
 
-fn push_register<R: FixedWidth, B: Allocator>(
+fn push_register<R: Numbered, B: Allocator>(
     text: &mut Vec<u8, B>,
     register: R,
 ) -> Result<(), AllocError>
@@ -90,7 +90,7 @@ fn push_register<R: FixedWidth, B: Allocator>(
 }
 
 /// The number of a register, with the fact that it is a number of its type.
-fn number_of<R: FixedWidth>(register: R) -> i128
+fn number_of<R: Numbered>(register: R) -> i128
     requires { R.BITS ≤ 120 }
     ensures number { result ≡ R.number register }
     ensures small { unsigned_abs result < 2 ^ 120 }

@@ -6,7 +6,7 @@ ghost use Rattle.arbitrary_int.specs.Range.{in_range};
 ghost use Rattle.bitrun_text.specs.Numeral.{number_in, integer_in, number_below, value_named, IsFar};
 ghost use Rattle.bitrun_text.specs.Fast.{Reads};
 
-use arbitrary_int::traits::{FixedWidth, Numbered};
+use arbitrary_int::traits::Numbered;
 
 /// The digits of a part of a word, which write a number of 64 bits.
 const PART: usize = 18;
@@ -75,7 +75,7 @@ pub fn digits(text: &[u8], start: usize, limit: u64) -> (u64, usize)
 }
 
 /// The value that the word is a numeral of, if the type has it.
-pub fn value_named<R: FixedWidth>(word: &[u8]) -> Option<R>
+pub fn value_named<R: Numbered>(word: &[u8]) -> Option<R>
     requires width { R.valid }
     requires narrow { R.BITS ≤ 120 }
     ensures { option_map R.number result ≡ value_named R.IS_SIGNED R.BITS word.now }
@@ -117,7 +117,7 @@ pub fn below_zero(size: u128) -> i128
 }
 
 /// The number as a value, if the type has it: that is where masking leaves the number as it is.
-pub fn value_of<R: FixedWidth>(number: i128) -> Option<R>
+pub fn value_of<R: Numbered>(number: i128) -> Option<R>
     requires width { R.valid }
     requires narrow { R.BITS ≤ 120 }
     ensures { option_map R.number result ≡ then_some (in_range R.IS_SIGNED R.BITS number) number }

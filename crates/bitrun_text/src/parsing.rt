@@ -12,12 +12,12 @@ use crate::numeral::value_named;
 use crate::operation::step_named;
 use crate::text::{Cursor, after_line};
 use arbitrary_int::Step;
-use arbitrary_int::traits::FixedWidth;
+use arbitrary_int::traits::Numbered;
 use std::alloc::{AllocError, Allocator};
 
 /// The registers that the words of a line are numerals of, or nothing where one isn't a numeral in
 /// range.
-pub fn registers<'a, R: FixedWidth, A: Allocator>(
+pub fn registers<'a, R: Numbered, A: Allocator>(
     alloc: &'a A,
     line: &mut Cursor,
 ) -> Result<Option<Vec<R, &'a A>>, AllocError>
