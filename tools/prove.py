@@ -149,10 +149,10 @@ class Copies:
             shown = {(path.replace('/', '::'), goal): text for path, goal, text in HOLE.findall(said)}
             for function, listed in share.items():
                 self.answers_of(room, function).unlink()
+                function.shown.update((goal, shown[function.name, goal].partition('⊢')[2]) for goal in function.goals if (function.name, goal) in shown)
                 for number, (goal, laws) in enumerate(listed):
                     # where the goal is not shown the answers were not read
                     if (function.name, goal) in shown:
-                        function.shown[goal] = shown[function.name, goal].partition('⊢')[2]
                         function.tried[goal].add(frozenset(laws))
                         if (function.name, number) not in failed:
                             function.closed[goal].append(laws)
