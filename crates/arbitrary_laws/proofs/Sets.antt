@@ -52,7 +52,7 @@ use Rattle.arbitrary_laws.proofs.masks.FlagTests.{clear-by_flag, flags-compared,
 use Rattle.arbitrary_laws.proofs.masks.MaskTests.{and-highest, and-minus_one, and_not-none, or-equal_xor, or-none, or-unchanged, within-at_most, xor-equal_or, xor-none, xor-unchanged}
 use Rattle.arbitrary_laws.proofs.masks.MaskedResults.{difference-masked_left, difference-masked_right, left-masked_away, or-past, product-masked_left, product-masked_right, sum-masked_left, sum-masked_right, sum-past_left, sum-past_right, xor-past}
 use Rattle.arbitrary_laws.proofs.masks.NumberUnderMask.{and-below, and-by_complement, and-by_negative, and-digits, and-digits_signed, and-multiple, and-multiple_by_negative, and-of_cleared, and-of_set, and-run, or-by_and, xor-by_and}
-use Rattle.arbitrary_laws.proofs.masks.VariableMasks.{and-highest_moved, and-low, and-minus_one_moved, and-not_low, left-of_low, low-again, low-exact, low-joined, low-of_left, low-turned, low-wrapped, not-of_highest, not-of_minus_one, part-at_most, parts-exact, parts-in_range, parts-wrapped, rest-in_range, right-again, right-of_highest, right-of_low, right-of_masked, right-of_masked_signed, without-low}
+use Rattle.arbitrary_laws.proofs.masks.VariableMasks.{and-highest_moved, and-low, and-minus_one_moved, and-not_low, left-of_low, low-again, low-exact, low-joined, low-of_left, low-turned, low-wrapped, not-of_highest, not-of_minus_one, parts-exact, parts-in_range, parts-wrapped, rest-in_range, rest-rounds, right-again, right-of_highest, right-of_low, right-of_masked, right-of_masked_signed, without-low}
 use Rattle.arbitrary_laws.proofs.masks.WrittenMask.{and-none, and-of_cleared_by_negative, or-by_mask, xor-by_mask}
 use Rattle.arbitrary_laws.proofs.numbers.Conversions.{congruent-by_remainder, difference-left, difference-right, product-left, product-right, signed_primitive, sum-left, sum-right, word_sum-right}
 use Rattle.arbitrary_laws.proofs.numbers.QuotientAndCube.{negated-is_difference, power-thrice, power-twice, quotient-times}
@@ -130,7 +130,7 @@ pub ruleset bits = (Decides-int_eq, bitwise_and-commutes, bitwise_and-associates
 pub ruleset masks = (Decides-int_eq, and-digits, and-digits_signed, and-run, and-congruent, and-multiple, and-multiple_by_negative, and-within, and-below, and-by_complement, and-by_negative, or-by_and, xor-by_and, and-of_cleared, and-of_set, own_bits-in_range, and-none, or-by_mask, xor-by_mask, and-of_cleared_by_negative, and-written, or-written, xor-written, or-of_written_parts, xor-of_written_parts, and-of_written_or, bitwise_and-highest, bitwise_and-zero, bitwise_and-minus_one, bitwise_or-zero, bitwise_xor-zero, sum-masked_left, sum-masked_right, difference-masked_left, difference-masked_right, product-masked_left, product-masked_right, left-masked_away, sum-past_left, sum-past_right, or-past, xor-past, bitwise_or-commutes, bitwise_xor-commutes, flags-compared, set-by_flag, clear-by_flag, set-by_shift, clear-by_shift, bit-or, bit-and, bit-xor, bit-not, bit-written, set-unless_clear, left-of_one, and-one_bit, low-of_right, low-of_right_set, low-of_right_cleared, low-of_right_other_set, low-of_right_other_cleared, masked-of_other_set, masked-of_other_cleared, low-of_right_not, low-of_turned, same_bit-set, other_bit-set, gone-cleared, other_bit-cleared, same_bit-turned, other_bit-turned, set-by_mask, clear-by_mask, bit-set, bit-cleared, bit-turned, other-set, other-cleared, other-turned, one_bit-some, xor-unchanged, one_bits-compared, one_bits-ordered, one-turned, upper-by_mask, parts-joined, low-of_sum, low-of_difference, low-of_product, and-distributes_xor, and-distributes_or, bitwise_and-associates, bitwise_and-commutes, or-of_parts, sum-of_parts, choice-is_xor, and-or_of_not, or-and_of_not, xor-is_or, and_not-is_xor, or-is_xor, majority-is_xor)
 
 -- shifts and rotations, also by an amount that varies, and the masks that they make
-pub ruleset shifts = (Decides-int_eq, rotated_right-none, rotated_right-twice, rotated_right-round, rotated_right-zero, rotated_right-highest, rotated_right-minus_one, rotated_right-not_zero, rotated_right-and, rotated_right-or, rotated_right-xor, rotated_right-not, right_rotations-exchanged, left_rotations-exchanged, rotations-exchanged, left-undoes_right, right-undoes_left, reversed-rotated_left, reversed-rotated_right, right_rotations-equal, popcount-of_right, not-of_highest, not-of_minus_one, bitwise_not-zero, bitwise_not-zero_signed, right-of_highest, low-exact, and-not_low, low-joined, low-turned, without-low, low-again, low-wrapped, parts-wrapped, right-again, and-highest_moved, and-minus_one_moved, right-of_masked, right-of_masked_signed, right-of_low, left-of_low, low-of_left, bitwise_or-commutes, bitwise_xor-commutes, lt-tested, le-tested, left-of_one, and-low, rest-in_range, parts-in_range, parts-exact, part-at_most, shifted_left-negated, shifted_left-exchanged, shifted_right-exchanged, product-of_shifted, product-shifted, wrapped_product-one, wrapped_product-commutes, set-beside_cleared, turned-beside_cleared, low-of_turned_right, reversed_left-converted, left-truncated, shifted_right-is_shr, shifted_left-none, shifted_left-zero, shifted_left-twice, shifted_left-past, shifted_left-sum, shifted_left-difference, shifted_left-and, shifted_left-or, shifted_left-xor, sum-twice, shifted_right-none, shifted_right-zero, shifted_right-twice, shifted_right-and, shifted_right-or, shifted_right-xor, right_left-mask, right_left-mask_signed, right_left-mask_not, left_right-mask, left_right-mask_not, shifted_right-not, right_left-numeral, right_left-numeral_signed, left_right-numeral, left_right-wraps, wrap-of_in_range, bitwise_xor-zero, bitwise_xor-undoes, bitwise_xor-chain, bitwise_xor-exchanged, shifted_right-past, folded-twice, folded-away, folds-exchanged, rotated_left-none, rotated_left-twice, rotated_left-round, rotated_left-zero, rotated_left-highest, rotated_left-minus_one, rotated_left-not_zero, rotated_left-and, rotated_left-or, rotated_left-xor, rotated_left-not, rotated_right-as_left, reversed-zero, reversed-highest, reversed-minus_one, reversed-not_zero, reversed-and, reversed-or, reversed-xor, reversed-not, reversed-twice, reversed-shifted_left, reversed-shifted_right, rotated_left-as_shifts, rotated_left-as_xor, rotated_left-as_sum, reversed-one, reversed-one_bit, wrapped_sum-commutes, rotated_left-number, rotated_right-number, and-digits, right-as_left_round)
+pub ruleset shifts = (Decides-int_eq, rotated_right-none, rotated_right-twice, rotated_right-round, rotated_right-zero, rotated_right-highest, rotated_right-minus_one, rotated_right-not_zero, rotated_right-and, rotated_right-or, rotated_right-xor, rotated_right-not, right_rotations-exchanged, left_rotations-exchanged, rotations-exchanged, left-undoes_right, right-undoes_left, reversed-rotated_left, reversed-rotated_right, right_rotations-equal, popcount-of_right, not-of_highest, not-of_minus_one, bitwise_not-zero, bitwise_not-zero_signed, right-of_highest, low-exact, and-not_low, low-joined, low-turned, without-low, low-again, low-wrapped, parts-wrapped, right-again, and-highest_moved, and-minus_one_moved, right-of_masked, right-of_masked_signed, right-of_low, left-of_low, low-of_left, bitwise_or-commutes, bitwise_xor-commutes, lt-tested, le-tested, left-of_one, and-low, rest-in_range, parts-in_range, parts-exact, rest-rounds, shifted_left-negated, shifted_left-exchanged, shifted_right-exchanged, product-of_shifted, product-shifted, wrapped_product-one, wrapped_product-commutes, set-beside_cleared, turned-beside_cleared, low-of_turned_right, reversed_left-converted, left-truncated, shifted_right-is_shr, shifted_left-none, shifted_left-zero, shifted_left-twice, shifted_left-past, shifted_left-sum, shifted_left-difference, shifted_left-and, shifted_left-or, shifted_left-xor, sum-twice, shifted_right-none, shifted_right-zero, shifted_right-twice, shifted_right-and, shifted_right-or, shifted_right-xor, right_left-mask, right_left-mask_signed, right_left-mask_not, left_right-mask, left_right-mask_not, shifted_right-not, right_left-numeral, right_left-numeral_signed, left_right-numeral, left_right-wraps, wrap-of_in_range, bitwise_xor-zero, bitwise_xor-undoes, bitwise_xor-chain, bitwise_xor-exchanged, shifted_right-past, folded-twice, folded-away, folds-exchanged, rotated_left-none, rotated_left-twice, rotated_left-round, rotated_left-zero, rotated_left-highest, rotated_left-minus_one, rotated_left-not_zero, rotated_left-and, rotated_left-or, rotated_left-xor, rotated_left-not, rotated_right-as_left, reversed-zero, reversed-highest, reversed-minus_one, reversed-not_zero, reversed-and, reversed-or, reversed-xor, reversed-not, reversed-twice, reversed-shifted_left, reversed-shifted_right, rotated_left-as_shifts, rotated_left-as_xor, rotated_left-as_sum, reversed-one, reversed-one_bit, wrapped_sum-commutes, rotated_left-number, rotated_right-number, and-digits, right-as_left_round)
 
 -- the sign of a number: as a mask and in bits, overflows, and a number with its sign turned over
 pub ruleset signs = (Decides-int_eq, sign-spread, and-with_all, and-with_none, or-with_all, or-with_none, xor-with_all, xor-with_none, xor-of_sum, difference-of_xor, absolute-by_double, bitwise_xor-undoes, bitwise_xor-commutes, bitwise_and-commutes, bitwise_or-commutes, le-tested, lt-tested, ge-tested, gt-tested, ge-by_lt, and-negative, or-negative, xor-negative, not-sign, below-by_bits, below-by_overflow, most-by_bits, not_zero-by_sign, positive-by_sign, differ-by_sign, like-overflow_flag, sum-overflow_told, difference-overflow_told, like-overflow_told, sum-overflow_ends, difference-overflow_ends, sum-overflow_flag, difference-overflow_flag, xor-sign_told, xor-by_sign, and-by_sign, or-by_sign, and-by_complement, turned-number, turned-order, highest-turned_order, highest-turned_order_back, coded-by_sign)

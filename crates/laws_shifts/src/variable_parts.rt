@@ -2,7 +2,8 @@
 //! differences, and in order.
 #![tactic(auto, using(arbitrary_laws::proofs::masks::VariableMasks::variable_parts))]
 
-ghost use Rattle.std.specs.Prelude.{◌<◌, IsTrue};
+ghost use Rattle.std.specs.Int.{int_rem_euclid};
+ghost use Rattle.std.specs.Prelude.{◌≡◌, ◌<◌, ◌^◌, ◌+ℤ◌, ◌≤ℤ◌, ◌<ℤ◌, pos, IsTrue};
 
 use arbitrary_int::prelude::*;
 
@@ -47,4 +48,23 @@ pub fn ones_moved_down(x: u63, k: u32) -> bool
     ensures { IsTrue result }
 {
     x & (u63::max_value() >> (63 - k)) == x - ((x >> k) << k)
+}
+
+/// The greatest multiple of a power of two that is at most the address.
+pub fn aligned_down(address: u24, log: u8) -> u24
+    requires { log < 24 }
+    ensures multiple { int_rem_euclid result (pos (2 ^ log)) ≡ pos 0 }
+    ensures at_most { result ≤ℤ address }
+    ensures near { address <ℤ (result +ℤ pos (2 ^ log)) }
+{
+    address & !((u24::new(1) << log) - u24::new(1))
+}
+
+pub fn aligned_down_by_shifts(address: i24, log: u8) -> i24
+    requires { log < 24 }
+    ensures multiple { int_rem_euclid result (pos (2 ^ log)) ≡ pos 0 }
+    ensures at_most { result ≤ℤ address }
+    ensures near { address <ℤ (result +ℤ pos (2 ^ log)) }
+{
+    (address >> log) << log
 }

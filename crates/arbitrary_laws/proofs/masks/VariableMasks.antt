@@ -3,18 +3,19 @@
 -- one, `low s B k` below, so that a law of the mask is stated once.
 -- For callers: `#![tactic(auto, using(arbitrary_laws::proofs::masks::VariableMasks::variable_masks))]`, and
 -- `variable_parts` for exact sums, differences and the order.
-use Rattle.std.specs.Int.{int_shr}
-use Rattle.std.specs.Prelude.{Bool, false, neg_ℤ, negsuc, pos, true, ℕ, ℤ, ◌*ℤ◌, ◌+ℤ◌, ◌+◌, ◌-ℤ◌, ◌-◌, ◌/◌, ◌<ℤ◌, ◌<◌, ◌^◌, ◌≡◌, ◌≤ℤ◌, ◌≤◌}
+use Rattle.std.specs.Int.{int_rem_euclid, int_shr}
+use Rattle.std.specs.Prelude.{Bool, false, neg_ℤ, negsuc, pos, true, ℕ, ℤ, ◌*ℤ◌, ◌*◌, ◌+ℤ◌, ◌+◌, ◌-ℤ◌, ◌-◌, ◌/◌, ◌<ℤ◌, ◌<◌, ◌^◌, ◌≡◌, ◌≤ℤ◌, ◌≤◌}
 use Rattle.std.proofs.Common.{ap, ap₂, arith, refl, subst, sym, ◌∙◌}
-use Rattle.std.proofs.Math.Nat.{div-eq_of_lt-le, pow-le-pow_right}
+use Rattle.std.proofs.Math.Nat.{div-eq_of_lt-le, mul-mod_left, pow-le-pow_right}
 use Rattle.std.proofs.lemmas.Bool.Decides.{Decides-int_eq}
-use Rattle.std.proofs.lemmas.Int.{ints}
+use Rattle.std.proofs.lemmas.Int.{int_rem_euclid_is, ints}
 use Rattle.std.proofs.lemmas.Nat.{pow_below, pow_pos}
 use Rattle.arbitrary_base.specs.Operation.{bitwise_and, bitwise_not, bitwise_or, bitwise_xor, shifted_left, shifted_right, wrapped_difference, wrapped_sum}
 use Rattle.arbitrary_base.specs.Range.{InRange, hi}
 use Rattle.arbitrary_base.specs.Residue.{Congruent, wrap}
 use Rattle.arbitrary_base.proofs.bit_lists.StdBitwise.{not-signed, not-unsigned}
-use Rattle.arbitrary_base.proofs.modular.Congruence.{Congruent-mul_left, Congruent-refl, Congruent-trans, pow_split}
+use Rattle.arbitrary_base.proofs.integers.Ring.{add-mul_z}
+use Rattle.arbitrary_base.proofs.modular.Congruence.{Congruent-mul_left, Congruent-narrower, Congruent-refl, Congruent-trans, pow_split}
 use Rattle.arbitrary_base.proofs.modular.Residue.{wrap-of_in_range}
 use Rattle.arbitrary_base.proofs.operations.BitsAndSums.{and-in_range}
 use Rattle.arbitrary_base.proofs.operations.Bitwise.{bitwise_or-commutes, bitwise_xor-commutes}
@@ -117,6 +118,21 @@ low-exact B k g = let p = pow_pos k in let e = left-of_one B k g in let d = low-
 pub left-in_range : (s : Bool) (B : ℕ) (x : ℤ) (k : ℕ) → 1 ≤ B → k ≤ B → InRange s B (shifted_left s B x k)
 left-in_range s B x k h g = subst (InRange s B) (sym (shifted_left-is_product s B x k h g)) (product-in_range s B x (pos (2 ^ k)) h)
 
+-- a multiple leaves no remainder, nor does what is congruent to one by a greater power
+multiple-leaves_none : (m : ℤ) (n : ℕ) → 0 < n → int_rem_euclid (m *ℤ pos n) (pos n) ≡ pos 0
+multiple-leaves_none (pos a) n p =
+    let e : pos a *ℤ pos n +ℤ pos (0 * n) ≡ pos (a * n) = grind (arith, ints) in
+    int_rem_euclid_is (pos a *ℤ pos n) (pos n) n 0 (a * n) p refl e ∙ ap pos (mul-mod_left a n)
+multiple-leaves_none (negsuc a) n p =
+    let e : negsuc a *ℤ pos n +ℤ pos ((a + 1) * n) ≡ pos (0 * n) = grind (arith, ints) in
+    int_rem_euclid_is (negsuc a *ℤ pos n) (pos n) n (a + 1) (0 * n) p refl e ∙ ap pos (mul-mod_left 0 n)
+
+moved-leaves_none : (B k : ℕ) (q y : ℤ) → k ≤ B → Congruent B y (q *ℤ pos (2 ^ k)) → int_rem_euclid y (pos (2 ^ k)) ≡ pos 0
+moved-leaves_none B k q y h c =
+    let n = Congruent-narrower k B y _ h c in
+    let t : y ≡ q *ℤ pos (2 ^ k) +ℤ n.times *ℤ pos (2 ^ k) = let a = n.apart in omega (arith, ints) in
+    ap (λ (z : ℤ). int_rem_euclid z (pos (2 ^ k))) (t ∙ sym (add-mul_z q n.times (pos (2 ^ k)))) ∙ multiple-leaves_none (q +ℤ n.times) (2 ^ k) (pow_pos k)
+
 -- ---- what it leaves and clears
 
 module _ (s : Bool) (B : ℕ) (x : ℤ) (k : ℕ) (place : k < B) (range : InRange s B x) where
@@ -165,8 +181,14 @@ module _ (s : Bool) (B : ℕ) (x : ℤ) (k : ℕ) (place : k < B) (range : InRan
       × (x -ℤ bitwise_and s B x (wrapped_difference s B (shifted_left s B (pos 1) k) (pos 1)) ≡ shifted_left s B (shifted_right s B x k) k)
   parts-exact = let a = and-low.0 in (refl, omega (arith, ints), omega (arith, ints))
 
-  pub part-at_most : (shifted_left s B (shifted_right s B x k) k ≡ shifted_left s B (shifted_right s B x k) k) × (shifted_left s B (shifted_right s B x k) k ≤ℤ x)
-  part-at_most = let a = and-low in (refl, omega (arith, ints))
+  -- the rest is the greatest multiple of 2^k that is at most x
+  pub rest-rounds : (shifted_left s B (shifted_right s B x k) k ≡ shifted_left s B (shifted_right s B x k) k)
+      × (shifted_left s B (shifted_right s B x k) k ≤ℤ x) × (x <ℤ (shifted_left s B (shifted_right s B x k) k +ℤ pos (2 ^ k)))
+      × (int_rem_euclid (shifted_left s B (shifted_right s B x k) k) (pos (2 ^ k)) ≡ pos 0)
+  rest-rounds =
+      let a = and-low in
+      let c = shl-congruent s B k (shifted_right s B x k) _ (omega arith) place (left-is s B (shifted_right s B x k) k) in
+      (refl, omega (arith, ints), omega (arith, ints), moved-leaves_none B k _ _ (omega arith) c)
 
   pub low-joined : bitwise_or s B (shifted_left s B (shifted_right s B x k) k) (bitwise_and s B x (wrapped_difference s B (shifted_left s B (pos 1) k) (pos 1))) ≡ x
   low-joined =
@@ -267,4 +289,4 @@ low-of_left s B x j k g m =
 pub ruleset variable_masks = (Decides-int_eq, not-of_highest, not-of_minus_one, bitwise_not-zero, bitwise_not-zero_signed, right-of_highest, low-exact, and-not_low, low-joined, low-turned, without-low, low-again, low-wrapped, parts-wrapped, right-again, and-highest_moved, and-minus_one_moved, right-of_masked, right-of_masked_signed, right-of_low, left-of_low, low-of_left, bitwise_or-commutes, bitwise_xor-commutes)
 
 -- these beside exact sums and differences, and in order. Without `ints`: beside a number with a sign its search comes to its limit
-pub ruleset variable_parts = (Decides-int_eq, lt-tested, le-tested, not-of_highest, not-of_minus_one, right-of_highest, low-exact, left-of_one, and-low, rest-in_range, parts-in_range, parts-exact, part-at_most)
+pub ruleset variable_parts = (Decides-int_eq, lt-tested, le-tested, not-of_highest, not-of_minus_one, right-of_highest, low-exact, and-not_low, left-of_one, and-low, rest-in_range, parts-in_range, parts-exact, rest-rounds)
