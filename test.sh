@@ -33,7 +33,8 @@ python3 tools/wrong_bodies.py --some 8 facts_generic laws_bits laws_generic laws
 python3 tools/wrong_bodies.py --some 4 arbitrary_base arbitrary_traits arbitrary_core arbitrary_constants arbitrary_calls arbitrary_int \
     bit_fields bitrun_text bitrun_service
 # prove.py must find laws again for functions whose attributes it does not read
-python3 tools/prove.py --anew --jobs 1 laws_shifts reversals::rev_and rotations::rotl_and shifts::shl_and right_rotations::and_turned
+python3 tools/prove.py --anew --jobs 1 laws_shifts reversals::rev_and rotations::rotl_and shifts::shl_and right_rotations::and_turned \
+    moved_bits::complement_moved back_rotations::left_is_right_by_the_rest
 times > "$spent"
 awk -F '[ms ]+' -v wall="$SECONDS" '{ sum += 60 * ($1 + $3) + $2 + $4 }
     END { printf "processor seconds %.0f, wall %.0f min\n", sum, wall / 60 }' "$spent"
