@@ -29,17 +29,19 @@ STORAGES = sum(file.read_text().count('impl Storage for') for file in (ROOT / 'c
 # The definitions to believe, as tools/believed.py writes them.
 BELIEVED = (ROOT / 'docs/ARCHITECTURE.md').read_text()
 COUNTED = ['no', 'one', 'two', 'three', 'four', 'five', 'six', 'seven', 'eight', 'nine', 'ten', 'eleven', 'twelve']
-# The time that tools/measured.txt has of the README's crate, and the most jobs of prove.sh.
+# The times that tools/measured.txt has of the README's commands and of generic contracts, and the most jobs of prove.sh.
 MEASURED = (ROOT / 'tools/measured.txt').read_text()
 MINUTES, PROCESSOR_MINUTES = re.search(r'with nothing proved \| (\d+) \| (\d+)', MEASURED).groups()
 MORE_MINUTES = re.search(r'bitrun\.sh` after that \| (\d+)', MEASURED)[1]
+GENERIC = re.findall(r'` types? \| (\d\.\d) \|', MEASURED)
 JOBS = re.search(r'-le \d+ \] \|\| jobs=(\d+)', (ROOT / 'prove.sh').read_text())[1]
 # The input of `bitrun` whose output the gate compares, and the lines of that output.
 INPUT, OUTPUT = ((ROOT / 'crates/bitrun' / name).read_text() for name in ('stdin', 'stdout'))
 # What the prose says with a figure, and the figure.
 FIGURES = [
     (r"printf '(.*)' \| \./bitrun\.sh", INPUT.replace('\n', '\\n')), (r'\./bitrun\.sh +# (`.*`)\n', ', '.join(f'`{line}`' for line in OUTPUT.splitlines())),
-    (r'about (\d+) minutes', MINUTES), (r'(\d+) processor minutes', PROCESSOR_MINUTES), (r'in (\d+) more minutes', MORE_MINUTES),
+    (r'about (\d+) minutes', MINUTES), (r'(\d+) processor minutes', PROCESSOR_MINUTES), (r'in (\d+) more\s+minutes', MORE_MINUTES),
+    (r'type takes (\d\.\d) seconds', GENERIC[0]), (r'over two (\d\.\d)', GENERIC[1]), (r'two `Integer` types (\d\.\d)', GENERIC[2]),
     (r'(\d+,\d+) bytes', f'{LIMIT:,}'), (r'(\d+,\d+) reads', f'{LIMIT + 1:,}'), (r'the (\w+) primitive integers', COUNTED[STORAGES]),
     (r'sentences of at most (\d+) words', str(SENTENCE)),
     (r'on lines of at most (\d+) columns', str(names.COLUMNS)), (r'module of at most (\d+) lines', str(names.LINES)),

@@ -258,7 +258,7 @@ class Search:
             wanted = {(it, goal): self.choices(it.shown[goal], last, counts) for it in self.functions for goal in it.open_goals()}
             for it in self.try_all(wanted, f'round {number}'):
                 left = it.open_goals()
-                say(f'{it.name}: ' + (f'{len(left)} of {len(it.goals)} goals open' if left else f'closed by {self.found(it)}'))
+                say(f'{it.name}: ' + (f'{len(left)} of {len(it.goals)} goals open' if left else f'closed by {self.by_which(it)}'))
         return [it for it in self.functions if not it.open_goals()]
 
     def try_all(self, wanted, what):
@@ -304,7 +304,7 @@ class Search:
         named = list(dict.fromkeys(laws[0] for laws in found if self.is_set(laws)))
         return named, list(dict.fromkeys(law for laws in found if not self.is_set(laws) for law in laws))
 
-    def found(self, function):
+    def by_which(self, function):
         """In words, the sets and how many further laws close all goals of a function."""
         named, laws = self.solution(function)
         return ' and '.join([*map(path, named), *([f'{len(laws)} laws'] if laws else [])])

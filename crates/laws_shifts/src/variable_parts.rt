@@ -1,5 +1,5 @@
 //! Laws about the k lowest bits of a number and the bits above them, where k is variable: as exact sums and
-//! differences, and in order.
+//! differences, in order, and as multiples of `2 ^ k`.
 #![tactic(auto, using(arbitrary_laws::proofs::masks::VariableMasks::variable_parts))]
 
 ghost use Rattle.std.specs.Int.{int_rem_euclid};
@@ -60,6 +60,7 @@ pub fn aligned_down(address: u24, log: u8) -> u24
     address & !((u24::new(1) << log) - u24::new(1))
 }
 
+/// The same of a signed number, by shifts.
 pub fn aligned_down_by_shifts(address: i24, log: u8) -> i24
     requires { log < 24 }
     ensures multiple { int_rem_euclid result (pos (2 ^ log)) ≡ pos 0 }
