@@ -1,6 +1,7 @@
 //! The calls of integers of fixed width, for `UInt` and `Int`.
 #![tactic(auto)]
 
+pub mod bitwise;
 pub mod calls;
 pub mod extraction;
 pub mod fixed_width;

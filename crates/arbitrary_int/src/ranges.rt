@@ -6,19 +6,20 @@ ghost use Rattle.std.specs.Iterator.Runs.{EachRunFrom};
 ghost use Rattle.arbitrary_int.specs.Ranges.{values_left, numbers, CountsUp};
 
 use crate::stepping::{after, before};
-use arbitrary_calls::fixed_width::FixedWidth;
+use arbitrary_calls::calls::sums::SumCalls;
+use arbitrary_traits::integer::Integer;
 use std::cmp::Ordering;
 
 /// The values that are values_left, each in turn.
 #[derive(Clone, Drop)]
-pub struct ValueRange<V: FixedWidth> {
+pub struct ValueRange<V: Integer + SumCalls> {
     start: V,
     end: V,
     done: bool,
 }
 
 /// The values from `start` to `end`, none where `start` is greater.
-pub fn range_inclusive<V: FixedWidth>(start: V, end: V) -> ValueRange<V>
+pub fn range_inclusive<V: Integer + SumCalls>(start: V, end: V) -> ValueRange<V>
     ensures values { let number = V.number in
         values_left result.done (number result.start) (number result.end)
         ≡ numbers (number start) (number end) }
@@ -37,7 +38,7 @@ pub fn range_inclusive<V: FixedWidth>(start: V, end: V) -> ValueRange<V>
     }
 }
 
-impl<V: FixedWidth> Iterator for ValueRange<V> {
+impl<V: Integer + SumCalls> Iterator for ValueRange<V> {
     type Item = V;
 
     ghost can_next = { λ _. ⊤ };
@@ -68,7 +69,7 @@ impl<V: FixedWidth> Iterator for ValueRange<V> {
     }
 }
 
-impl<V: FixedWidth> DoubleEndedIterator for ValueRange<V> {
+impl<V: Integer + SumCalls> DoubleEndedIterator for ValueRange<V> {
     ghost can_next_back = { λ _. ⊤ };
 
     ghost next_back_gives = { let number = V.number in

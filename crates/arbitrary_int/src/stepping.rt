@@ -10,7 +10,7 @@ ghost use Rattle.arbitrary_int.specs.Ranges.{StepsBetween};
 
 use arbitrary_base::storage::Storage;
 use arbitrary_calls::calls::sums::SumCalls;
-use arbitrary_calls::fixed_width::FixedWidth;
+use arbitrary_traits::integer::Integer;
 
 /// The next value. The limit shows that there is one.
 #[tactic(auto, using(crate::proofs::SteppingLemmas::in_up))]
@@ -66,7 +66,7 @@ fn distance<V: SumCalls>(start: V, end: V) -> u128
 }
 
 /// Values a number of steps apart: `UInt` and `Int`, at every width.
-pub trait Stepping: FixedWidth {
+pub trait Stepping: Integer + SumCalls {
     /// How many steps it is from `start` up to `end`: twice the number, `(usize::MAX, None)` where a `usize` has
     /// not so many, and `(0, None)` where `start` is greater.
     final fn steps_between(start: &Self, end: &Self) -> (usize, Option<usize>)
@@ -114,4 +114,4 @@ pub trait Stepping: FixedWidth {
     }
 }
 
-impl<V: FixedWidth> Stepping for V {}
+impl<V: Integer + SumCalls> Stepping for V {}

@@ -6,11 +6,14 @@ ghost use Rattle.arbitrary_base.specs.Range.{InRange};
 ghost use Rattle.std.specs.Iterator.{IsFinite};
 ghost use Rattle.arbitrary_int.specs.Totals.{TotalOrNone};
 
-use arbitrary_calls::fixed_width::FixedWidth;
+use arbitrary_calls::calls::products::ProductCalls;
+use arbitrary_calls::calls::sums::SumCalls;
+use arbitrary_traits::integer::Integer;
+use arbitrary_traits::numbered::Numbered;
 
 /// The sum of the items, from 0 and from the left, and `None` exactly where a partial sum is out of range, also
 /// where later items would bring it back. The iterator ends, and the width is valid.
-pub fn try_sum<V: FixedWidth, I: Iterator<Item = V> + Drop>(iter: I) -> Option<V>
+pub fn try_sum<V: Integer + SumCalls, I: Iterator<Item = V> + Drop>(iter: I) -> Option<V>
     requires width { V.valid }
     requires can { I.can_next iter }
     requires ends { IsFinite (I.remaining iter) }
@@ -29,7 +32,7 @@ pub fn try_sum<V: FixedWidth, I: Iterator<Item = V> + Drop>(iter: I) -> Option<V
 
 /// The number 1, and `None` where the type has none: the signed type of one bit.
 #[tactic(auto, using(crate::proofs::TotalSteps::one_laws))]
-fn one<V: FixedWidth>() -> Option<V>
+fn one<V: Numbered>() -> Option<V>
     requires { V.valid }
     ensures { SomeIff (option_map V.number result) (InRange V.IS_SIGNED V.BITS (pos 1)) (pos 1) }
 {
@@ -46,7 +49,7 @@ fn one<V: FixedWidth>() -> Option<V>
 
 /// The product of the items, from 1 and from the left, and `None` exactly where 1 or a partial product is out of
 /// range: always on the signed type of one bit, which has no 1. The iterator ends, and the width is valid.
-pub fn try_product<V: FixedWidth, I: Iterator<Item = V> + Drop>(iter: I) -> Option<V>
+pub fn try_product<V: ProductCalls, I: Iterator<Item = V> + Drop>(iter: I) -> Option<V>
     requires width { V.valid }
     requires can { I.can_next iter }
     requires ends { IsFinite (I.remaining iter) }

@@ -9,7 +9,7 @@ ghost use Rattle.arbitrary_int.specs.Runs.{RunOf};
 
 use crate::runs::run;
 use crate::steps::{Step, Stop};
-use arbitrary_calls::fixed_width::FixedWidth;
+use arbitrary_calls::bitwise::BitwiseOperators;
 use arbitrary_traits::numbered::Numbered;
 
 /// The low bits of `wide`, at the type of `narrow`.
@@ -41,7 +41,7 @@ fn narrow_all<W: Numbered, N: Numbered>(wide: &[W], narrow: &mut [N])
 /// than the wide one, there is no stop, and the narrow registers are what masking first and running narrow
 /// gives. The two signs and storages may be any. The precondition is that each register number is below the
 /// number of wide registers (test it by `well_formed`), and that there are as many narrow ones.
-pub fn run_wide<W: FixedWidth, N: FixedWidth>(
+pub fn run_wide<W: BitwiseOperators, N: Numbered>(
     steps: &[Step],
     wide: &mut [W],
     narrow: &mut [N],

@@ -26,7 +26,7 @@ pub fn patterns(bits: u32) -> [u128; COUNT] {
 }
 
 /// The width of the type.
-pub fn width<V: FixedWidth>(_sample: V) -> u32 {
+pub fn width<V: Numbered>(_sample: V) -> u32 {
     u32::try_from(V::BITS).unwrap_or(0)
 }
 

@@ -121,7 +121,7 @@ fn calls(lasts: usize, count: usize) -> usize {
 }
 
 /// What is read where the stream lasts for so many of the value's bytes.
-fn is_read<V: FixedWidth>(rt: &impl Abort, value: V, lasts: usize, fault: Option<ErrorKind>)
+fn is_read<V: Integer>(rt: &impl Abort, value: V, lasts: usize, fault: Option<ErrorKind>)
     requires { V.valid }
 {
     let mut bytes = [0; 16];
@@ -139,7 +139,7 @@ fn is_read<V: FixedWidth>(rt: &impl Abort, value: V, lasts: usize, fault: Option
 }
 
 /// What is written where the stream lasts for so many of the value's bytes.
-fn is_written<V: FixedWidth>(rt: &impl Abort, value: V, lasts: usize, fault: Option<ErrorKind>)
+fn is_written<V: Integer>(rt: &impl Abort, value: V, lasts: usize, fault: Option<ErrorKind>)
     requires { V.valid }
 {
     let mut bytes = [0; 16];
@@ -166,7 +166,7 @@ fn is_written<V: FixedWidth>(rt: &impl Abort, value: V, lasts: usize, fault: Opt
 }
 
 /// Reads the value from its bytes, and writes it, where the stream ends or fails after each number of bytes up to all.
-fn goes_through_streams<V: FixedWidth>(rt: &impl Abort, value: V, bytes: &[u8])
+fn goes_through_streams<V: Integer>(rt: &impl Abort, value: V, bytes: &[u8])
     requires { V.valid }
 {
     let mut all = [0; 16];
@@ -200,11 +200,7 @@ fn values_a_byte_at_a_time(rt: HostRuntime) {
 }
 
 /// One value read from a stream of which one call has failed by then.
-fn reads<V: FixedWidth>(
-    rt: &impl Abort,
-    reader: &mut Watched<Stumbling>,
-    wanted: Result<V, ErrorKind>,
-)
+fn reads<V: Integer>(rt: &impl Abort, reader: &mut Watched<Stumbling>, wanted: Result<V, ErrorKind>)
     requires { V.valid }
 {
     let read = V::deserialize_reader(reader).map_err(|error| error.kind());
@@ -213,7 +209,7 @@ fn reads<V: FixedWidth>(
 }
 
 /// One value written to a stream of which one call has failed by then.
-fn writes<V: FixedWidth>(
+fn writes<V: Integer>(
     rt: &impl Abort,
     writer: &mut Watched<Stumbling>,
     value: V,
@@ -225,7 +221,7 @@ fn writes<V: FixedWidth>(
 }
 
 /// After a fault the same stream is read and written as if there had been none. The flag and the count stay.
-fn goes_on_after_a_fault<V: FixedWidth>(rt: &impl Abort, value: V)
+fn goes_on_after_a_fault<V: Integer>(rt: &impl Abort, value: V)
     requires { V.valid }
 {
     let mut bytes = [0; 16];
