@@ -349,10 +349,11 @@ def link(goal, source):
     return found
 
 
-def first_check(crate, names):
+def first_check(crate, names, jobs):
     """Checks the crate as it is. Returns what it says of each function, and the functions with open goals that were asked for."""
     say(f'the check of {crate}')
-    said, code = run(['rt', 'check', *(word for name in names for word in ('--only', name))], ROOT / 'crates' / crate, [])
+    words = ['rt', 'check', *(['--jobs', str(jobs)] if jobs else []), *(word for name in names for word in ('--only', name))]
+    said, code = run(words, ROOT / 'crates' / crate, [])
     if not ENDED.search(said):
         raise Stop(why(crate, said, code))
     return verdicts(crate, said), {name: it for name, it in offers(said).items() if not names or name in names}
@@ -391,7 +392,7 @@ def bare(copies, names):
     return functions
 
 
-def written(crate, folder, solutions, names):
+def written(crate, folder, solutions, names, jobs):
     """Writes the attributes and the laws, and to crates.txt the libraries that have them, and checks again. If that has no result, it restores all
     files."""
     new = changes(folder, solutions)
@@ -405,7 +406,7 @@ def written(crate, folder, solutions, names):
     try:
         write(new)
         say(f'wrote {", ".join(str(it.relative_to(ROOT)) for it in new)}')
-        return first_check(crate, names)[0]
+        return first_check(crate, names, jobs)[0]
     except BaseException:
         for file, text in old.items():
             file.unlink() if text is None else file.write_text(text)
@@ -436,7 +437,7 @@ def prove(crate, names, is_writing, is_anew, jobs):
     for name, it in ((crate, folder / 'src'), (LAWS, ROOT / 'crates' / LAWS / 'src')):
         if name not in uses or not it.is_dir():
             raise Stop(f'{name} is missing: crates.txt has no line for it, or crates has no such folder')
-    verdict, functions = (dict.fromkeys(names, 'open'), {}) if is_anew else first_check(crate, names)
+    verdict, functions = (dict.fromkeys(names, 'open'), {}) if is_anew else first_check(crate, names, jobs)
     unproved = [name for name, said in verdict.items() if said != 'proved' and (not names or name in names)]
     say(f'{crate}: {len(unproved)} functions are open')
     broken = {name: it for name, it in functions.items() if it.broken}
@@ -447,7 +448,7 @@ def prove(crate, names, is_writing, is_anew, jobs):
     functions = {**broken, **{it.name: it for it in tried}}
     verdict.update((it.name, 'proved') for it in solutions)
     if is_writing and solutions:
-        verdict = written(crate, folder, solutions, names)
+        verdict = written(crate, folder, solutions, names, jobs)
     for function, (named, laws) in solutions.items():
         if verdict[function.name] == 'proved':
             print(f'proved: {function.name}: using {", ".join([*map(path, named), *(law for _, law in laws)])}')
