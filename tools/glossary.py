@@ -10,27 +10,29 @@ from pathlib import Path
 
 ROOT = Path(__file__).resolve().parent.parent
 RETIRED = ROOT / 'tools/retired_words.txt'
+# How a comment begins, by the suffix of the file.
+COMMENTS = {'.rt': r'//', '.antt': r'(?<!\S)--(?!\S)'}
 
 
 def retired():
-    """The names and the phrases that are retired, and the phrases that are so on pages alone."""
-    names, phrases, on_pages = [], [], []
+    """The names and the phrases that are retired, and the phrases that are so in prose alone."""
+    names, phrases, in_prose = [], [], []
     other = phrases
     for line in RETIRED.read_text().splitlines():
-        if line == '[pages]':
-            other = on_pages
+        if line == '[prose]':
+            other = in_prose
         elif not line.startswith('#'):
             for word in line.split(':')[0].split(','):
                 (names if '`' in word else other).append(word.strip().strip('`'))
-    return names, phrases, on_pages
+    return names, phrases, in_prose
 
 
 def pattern(phrases):
     return re.compile(r'(?<![A-Za-z])(' + '|'.join(phrases) + r')(?![A-Za-z])', re.I)
 
 
-def page_faults(phrases):
-    """Where a page has one of the phrases, but in code and in links. What is generated has the words of its sources."""
+def prose_faults(phrases):
+    """Where a page or a comment has one of the phrases, but in code and in links. What is generated has the words of its sources."""
     phrase = pattern(phrases)
     for page in [*sorted(ROOT.glob('*.md')), *sorted((ROOT / 'docs').glob('*.md'))]:
         if page.name == 'API.md':
@@ -40,6 +42,11 @@ def page_faults(phrases):
             line = '' if line.startswith('    ') else re.sub(r'`[^`]*`|\]\([^)]*\)', ' ', line)
             for found in phrase.finditer(line):
                 yield f'{page.relative_to(ROOT)}:{number}: not plain English: {found[1]}'
+    for file in sorted(it for part in ['src', 'specs', 'proofs'] for it in (ROOT / 'crates').glob(f'*/{part}/**/*') if it.suffix in COMMENTS):
+        for number, line in enumerate(file.read_text().splitlines(), 1):
+            if place := re.search(COMMENTS[file.suffix], line):
+                for found in phrase.finditer(re.sub(r'`[^`]*`', ' ', line[place.start():])):
+                    yield f'{file.relative_to(ROOT)}:{number}: not plain English: {found[1]}'
 
 
 def files():
@@ -65,21 +72,20 @@ def unknown(sources):
 
 def code(file, line):
     """The parts of a line that are code: on a page and in a comment those in backticks."""
-    begins = {'.rt': r'//', '.antt': r'(?<!\S)--(?!\S)'}.get(file.suffix, '')
-    place = re.search(begins, line)
+    place = re.search(COMMENTS.get(file.suffix, ''), line)
     if not place:
         return line
     return line[:place.start()] + ' ' + ' '.join(line[place.start():].split('`')[1::2])
 
 
 def main():
-    names, phrases, on_pages = retired()
-    if not names or not phrases or not on_pages:
+    names, phrases, in_prose = retired()
+    if not names or not phrases or not in_prose:
         sys.exit(f'{RETIRED}: no names, or no phrases')
     name = re.compile(r'(?<![\w-])(' + '|'.join(map(re.escape, names)) + r')(?![\w-])')
     phrase = pattern(phrases)
     texts = list(files())
-    wrong = [*page_faults(on_pages), *unknown(''.join(text for file, text in texts if file.suffix != '.md'))]
+    wrong = [*prose_faults(in_prose), *unknown(''.join(text for file, text in texts if file.suffix != '.md'))]
     for file, text in texts:
         path = file.relative_to(ROOT)
         for part in path.parts:

@@ -105,7 +105,7 @@ pub in_range-tells : (s : Bool) (B : ℕ) (x : ℤ) → IsTrue (in_range s B x) 
 unfolding in_range
 in_range-tells s B x = ((λ t. record { low = grind (arith, ints); high = grind (arith, ints) }), (λ f. let l = f.low in let h = f.high in grind (arith, ints)))
 
--- a flag that tells a number out of range is the negated test
+-- the flag of a number out of range is the negated test
 pub out-of_range_tested : (b s : Bool) (B : ℕ) (x : ℤ) → IsTrue b ↔ ¬ (InRange s B x) → b ≡ not (in_range s B x)
 out-of_range_tested b s B x t = let f = in_range-tells s B x in grind (arith, t, f)
 

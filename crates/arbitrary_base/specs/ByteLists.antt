@@ -12,7 +12,7 @@ abbrev pub bytes_number : List ℕ → ℕ
 bytes_number [] = 0
 bytes_number (b ∷ bs) = b + 256 * bytes_number bs
 
--- what stands for x in a stream: its residue, in as few bytes as hold each number of the type
+-- the bytes of x in a stream: its residue, in as few bytes as have room for each number of the type
 unfoldable pub BorshBytes : ℕ → ℤ → List ℕ
 BorshBytes B x = bytes (div_ceil B 8) (pos (residue B x))
 

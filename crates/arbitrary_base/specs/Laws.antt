@@ -149,7 +149,7 @@ LeftShiftsKeepLowBits = (s t : Bool) (A B k : ℕ) (x : ℤ) → A ≤ B → k <
 abbrev pub ByteReversalUndoesItself : Type 0
 ByteReversalUndoesItself = (l : List ℕ) → reverse (reverse l) ≡ l
 
--- what the bytes of a number tell is that number
+-- the bytes of a number have that number
 abbrev pub ValueOfBytes : Type 0
 ValueOfBytes = (s : Bool) (n : ℕ) (x : ℤ) → 1 ≤ n → InRange s (8 * n) x → wrap s (8 * n) (pos (bytes_number (bytes n x))) ≡ x
 

@@ -38,7 +38,7 @@ shifted_left s B x k = val s (shl (bits B x) k)
 unfoldable pub shifted_right : Bool → ℕ → ℤ → ℕ → ℤ
 shifted_right s B x k = val s (shr (bits B x) k (fill s (bits B x)))
 
--- the lowest bit stands first, so the number goes left where its list goes right
+-- the lowest bit comes first, so the number turns left if its list turns right
 unfoldable pub rotated_left : Bool → ℕ → ℤ → ℕ → ℤ
 rotated_left s B x k = val s (slice_rotate_right (bits B x) k)
 

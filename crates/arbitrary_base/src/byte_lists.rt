@@ -3,7 +3,7 @@
 ghost use Rattle.std.specs.Prelude.{◌≡◌, ◌≤◌, ◌<◌, ◌*◌, ◌^◌, ℕ, pos, length, take};
 ghost use Rattle.arbitrary_base.specs.ByteLists.{bytes, bytes_number};
 
-/// The 16 bytes of a pattern. Its lowest bytes stand at the front.
+/// The 16 bytes of a pattern. The lowest byte comes first.
 #[tactic(auto, using(crate::proofs::bytes::NumberOfBytes::front_bytes))]
 pub fn all_bytes(pattern: u128) -> [u8; 16]
     ensures { (n : ℕ) → n ≤ 16 → take n result ≡ bytes n (pos pattern) }

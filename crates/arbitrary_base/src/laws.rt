@@ -11,8 +11,8 @@ pub fn wrap_laws()
     ensures keeps { WrapKeeps }
 {}
 
-/// `in_range` tells whether a number is in range; `clamp` keeps those that are, and takes the others to
-/// the end of the range that is nearest.
+/// `in_range` tests whether a number is in range. `clamp` keeps a number in range, and moves any other to
+/// the nearest end of the range.
 #[tactic(auto, using(crate::proofs::LawProof::range_rules))]
 pub fn range_laws()
     ensures test { TestTellsRange }
@@ -39,7 +39,7 @@ pub fn checked_laws()
     ensures quotients { CheckedQuotientTellsOverflow }
 {}
 
-/// A number in range and its bits tell each other; rotations and reversals undo each other; the counts
+/// A number in range and its bits determine each other; rotations and reversals undo each other; the counts
 /// fit the list; a part of a part is a part, and what is extracted from a word is a field of it.
 #[tactic(auto, using(crate::proofs::LawProof::bit_list_rules))]
 pub fn bit_list_laws()
@@ -70,7 +70,7 @@ pub fn low_bit_laws()
     ensures left_shifts { LeftShiftsKeepLowBits }
 {}
 
-/// Reversing bytes twice leaves them. A number in range and its bytes tell each other, those of a stream too,
+/// Reversing bytes twice leaves them. A number in range and its bytes determine each other, also in a stream,
 /// and these are canonical.
 #[tactic(auto, using(crate::proofs::bytes::NumberOfBytes::byte_rules))]
 pub fn byte_laws()
@@ -87,7 +87,7 @@ pub fn total_laws()
     ensures { TotalIsTheLastPartial }
 {}
 
-/// A number in range and its pattern, which is its residue, tell each other, and have the same bits.
+/// A number in range and its pattern, which is its residue, determine each other, and have the same bits.
 #[tactic(auto, using(crate::proofs::modular::RoundTrip::pattern_rules))]
 pub fn pattern_laws()
     ensures number { NumberOfPattern }

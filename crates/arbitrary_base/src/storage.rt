@@ -30,7 +30,7 @@ pub trait Storage: Sealed + Copy + Ord + Hash + Display + Debug + Drop {
 
     ghost SIGNED: { Bool };
 
-    // The number that a value stands for, and the value of a number.
+    // The number of a value, and the value of a number.
     ghost number: { Self → ℤ };
 
     ghost of_number: { ℤ → Self };

@@ -34,7 +34,7 @@ pub trait FixedWidth: Integer + FixedWidthCalls {
         → Self.number r ≡ bitwise_not Self.IS_SIGNED Self.BITS (Self.number a) };
 
     // The operators that may overflow, with no premise of what they give: each value is in range, so one may be made where its result is in
-    // range if the operands are. A sum and a difference tell that their operands are.
+    // range if the operands are. A sum and a difference state that their operands are.
     ghost may_add: { (a b : Self) → let number = Self.number in
         let in_range = InRange Self.IS_SIGNED Self.BITS in
         (in_range (number a) → in_range (number b) → in_range (number a +ℤ number b))
@@ -86,7 +86,7 @@ pub trait FixedWidth: Integer + FixedWidthCalls {
         × (Self.eq a b ≡ true → a ≡ b) × (a ≡ b → Self.eq a b ≡ true) };
 
     // Whether a value is the number that its bits have, as each in range is; and the value of that number. The range is one that a call
-    // tells: with the type's own sign and width in its place the search would open the range of each number in sight, by its sign.
+    // states: with the type's own sign and width in its place the search would open the range of each number in sight, by its sign.
     ghost fits: { (a : Self) → Bool };
 
     ghost fits_law: { (a : Self) (s : Bool) (n : ℕ) → Self.valid → InRange s n (Self.number a)

@@ -8,7 +8,7 @@ ghost use Rattle.std.specs.List.{fold};
 pub mod signed;
 pub mod unsigned;
 
-/// A number to which another is added, and by which it is multiplied.
+/// A number with a sum and a product.
 pub(crate) trait Total: Sized {
     ghost sum: { Self → Self → Self };
 

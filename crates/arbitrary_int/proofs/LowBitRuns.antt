@@ -110,7 +110,7 @@ no-steps (step ∷ steps) w = absurd (none step (All-head (StepWithin 0) step st
     none (One op to src) w = omega (arith, w.0)
     none (By op to src amount) w = omega (arith, w.0)
 
--- the same, of any list of steps that the registers have room for: where there are none, nothing tells that the width is valid
+-- the same, of any list of steps that the registers have room for: where there are none, nothing states that the width is valid
 pub low-wide : (s t : Bool) (A B : ℕ) (steps : List Step) (regs : List ℤ) → All (StepWithin (length regs)) steps → (0 < length regs → 1 ≤ A) → A ≤ B → All (IsLowBit A) steps
     → LowRun s A (RunOf t B steps regs) (RunOf s A steps (map (wrap s A) regs))
 low-wide s t A B steps [] w h g l = rw (no-steps steps w) (record { wide_ends = refl; narrow_is = refl })

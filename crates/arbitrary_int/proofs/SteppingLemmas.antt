@@ -117,7 +117,7 @@ numbers-one a b e = numbers-first a b (a +ℤ pos 1) (omega (arith, ints)) refl 
 pub numbers-one_back : (a b : ℤ) → a ≡ b → numbers a b ≡ b ∷ []
 numbers-one_back a b e = numbers-one a b e ∙ ap (λ (z : ℤ). z ∷ []) e
 
--- what stands at a place of a row's front
+-- what is at a place of a row's front
 module _ {A : Type 0} (number : A → ℤ) where
   moved : (a : ℤ) (n k : ℕ) (o : Option A) → IfSome o (λ x. (number x ≡ a +ℤ pos 1 +ℤ pos k) × (k < n)) → IfSome o (λ x. (number x ≡ a +ℤ pos (suc k)) × (suc k < suc n))
   moved a n k None h = tt

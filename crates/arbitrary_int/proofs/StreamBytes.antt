@@ -8,7 +8,7 @@ use Rattle.arbitrary_base.proofs.modular.ExactOrCongruent.{wrapped-congruent}
 use Rattle.arbitrary_base.proofs.modular.Residue.{wrap-of_in_range}
 use Rattle.arbitrary_base.proofs.storages.Primitive.{unsigned-in_range}
 
--- the number that is read from canonical bytes: the one that they tell, and with a sign one that is congruent to it
+-- the number that is read from canonical bytes: their number, and with a sign one that is congruent to it
 pub number-of_pattern : (s : Bool) (B p : ℕ) (l : List ℕ) (x : ℤ) → 1 ≤ B → p ≡ bytes_number l → bytes_number l < 2 ^ B → x ≡ wrap s B (pos p)
     → (s ≡ false → x ≡ pos (bytes_number l)) × (s ≡ true → Congruent B x (pos (bytes_number l)))
 number-of_pattern s B p l x w e h f =

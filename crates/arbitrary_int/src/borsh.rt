@@ -38,7 +38,7 @@ pub trait BorshSerialize {
             OnErr result (AppendsBeginning before after (bytes_of self.now)) }
         ensures failed { OnErr result (Failure writer.old writer.new) };
 
-    /// Puts the bytes of the value at the front of `out`, and tells how many they are. The rest of `out` stays
+    /// Puts the bytes of the value at the front of `out`, and returns how many they are. The rest of `out` stays
     /// as it was.
     fn to_borsh_bytes(&self, out: &mut [u8; 16]) -> usize
         ensures count { result ≡ length (bytes_of self.now) }
@@ -60,7 +60,7 @@ pub trait BorshDeserialize: Sized {
 
     ghost read_bytes: { Self → List ℕ };
 
-    // What a list of bytes tells of the value that has them.
+    // What is known of a value from its list of bytes.
     ghost tells: { List ℕ → Self → Type 0 };
 
     /// Reads exactly the bytes of one value, and never asks for a further one. An error is the reader's own,

@@ -10,7 +10,7 @@ use arbitrary_calls::calls::sums::SumCalls;
 use arbitrary_traits::integer::Integer;
 use std::cmp::Ordering;
 
-/// The values that are values_left, each in turn.
+/// An iterator over the values of a range that are left.
 #[derive(Clone, Drop)]
 pub struct ValueRange<V: Integer + SumCalls> {
     start: V,
@@ -29,7 +29,7 @@ pub fn range_inclusive<V: Integer + SumCalls>(start: V, end: V) -> ValueRange<V>
     ensures bound { let number = V.number in
         length (values_left result.done (number result.start) (number result.end)) ≤ 2 ^ V.BITS }
 {
-    // a call tells the range of each end, for `bound`
+    // the calls state the range of each end, for `bound`
     let _known = (start.to_u128_bits(), end.to_u128_bits());
     ValueRange {
         start,

@@ -67,8 +67,8 @@ fn distance<V: SumCalls>(start: V, end: V) -> u128
 
 /// Values a number of steps apart: `UInt` and `Int`, at every width.
 pub trait Stepping: Integer + SumCalls {
-    /// How many steps it is from `start` up to `end`: twice the number, `(usize::MAX, None)` where a `usize` has
-    /// not so many, and `(0, None)` where `start` is greater.
+    /// How many steps it is from `start` up to `end`: the number twice, `(usize::MAX, None)` if it does not fit a
+    /// `usize`, and `(0, None)` if `start` is greater.
     final fn steps_between(start: &Self, end: &Self) -> (usize, Option<usize>)
         ensures { StepsBetween (Self.number end.now -ℤ Self.number start.now) result }
     {

@@ -146,7 +146,7 @@ pub ruleset numbers = (wrap-of_in_range, wrap-congruent, wrap-wrap, clamp-fits, 
 pub ruleset words = (written_masks, apart_parts, multiples, lowest_by_zeros)
 
 -- the same for a `UInt` whose lowest field is written and whose rest stays, and for pages of a `UInt` that are compared: fewer laws of parts, and
--- those by which the search knows the range of a number. Beside all laws of `words` these take it to its limits
+-- the range of a number. With all laws of `words` these take the search to its limits
 pub ruleset uint_words = (and_runs, and_none, differing, or_apart, joined_apart, apart_joined, masked_within, moved_within, within_apart, within_above, below_within, moved_above, below_moved, within_around, into_within, val-bits_in_range, ints)
 
 -- carry, overflow and borrow by one bit of a primitive or a `UInt`

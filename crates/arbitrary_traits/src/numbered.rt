@@ -26,7 +26,7 @@ pub trait Numbered: Copy + Sealed {
     // Whether the storage can keep numbers of this width.
     ghost valid: { Type 0 };
 
-    // The number that a value stands for.
+    // The number of a value.
     ghost number: { Self → ℤ };
 
     /// The number's 128 bits: its residue modulo `2 ^ 128`.
@@ -56,8 +56,8 @@ pub trait Numbered: Copy + Sealed {
 
     // Here and in `as_` to `as_isize` premises on signs and widths bring the equation, or the congruence
     // where the number may change. `congruent` is for each equal `y`, so that no search opens it unasked. `congruent_to` is for
-    // what the number is congruent to at its own width; in `as_u8` to `as_isize` only where it has no sign, or comparing a byte of
-    // a signed number stays open.
+    // what the number is congruent to at its own width. In `as_u8` to `as_isize` it requires an unsigned type, or the search would
+    // not compare a byte of a signed number.
     /// The type's number that is congruent to that of `value` modulo `2 ^ BITS`: high bits are
     /// dropped, and the sign is extended. The width is valid.
     #[tactic(auto, using(crate::proofs::Conversion::conversions))]

@@ -5,9 +5,9 @@ ghost use Rattle.std.specs.Prelude.{◌≡◌, ◌^◌, ◌≤ℤ◌, ◌<ℤ◌
 use crate::primitives::Primitive;
 use arbitrary_base::storage::Sealed;
 
-/// A primitive integer that tells by how many places to shift.
+/// A primitive integer that is the amount of a shift.
 pub trait ShiftAmount: Sealed + Copy {
-    // The number that a value stands for.
+    // The number of a value.
     ghost amount: { Self → ℤ };
 
     /// The amount, which is from 0 to `2 ^ 64 - 1`.

@@ -72,7 +72,7 @@ impl<V: Numbered> Operands<V> {
 }
 
 impl<V: FixedWidthCalls> Operands<V> {
-    /// The same values, moved so many places toward 0.
+    /// The same values, shifted toward 0 by `places`.
     pub fn moved(&mut self, places: u32) {
         for i in 0..1024 {
             self.left[i] = self.left[i].wrapping_shr(places);

@@ -26,7 +26,7 @@ pub trait Checked<V> {
     fn result(x: V, y: V) -> Option<V>;
 }
 
-/// A call that tells an overflow.
+/// A call that also returns whether it overflowed.
 pub trait Flagged<V> {
     /// Its result.
     fn result(x: V, y: V) -> (V, bool);
@@ -183,7 +183,7 @@ fn counted_ones<V: FixedWidthCalls>(x: V::Representation) -> u32
     V::from_storage(x).count_ones()
 }
 
-/// A type whose values stand in words of 32 bits.
+/// A type whose values are stored in words of 32 bits.
 pub trait Word: FixedWidthCalls {
     /// The value of the bits of the word from that place on.
     fn taken(word: u32, place: usize) -> Self

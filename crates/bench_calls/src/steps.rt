@@ -65,7 +65,7 @@ fn many(alloc: Global, count: u32) -> io::Result<Vec<Step>> {
     Ok(steps)
 }
 
-/// `passes` runs of the list. It tells whether none stopped.
+/// Runs the list `passes` times, and returns whether no run stopped.
 fn repeated<R: BitwiseOperators>(steps: &[Step], registers: &mut [R; 16], passes: u32) -> bool
     requires { All (StepWithin 16) steps.now }
 {

@@ -18,7 +18,7 @@ fn main(rt: HostRuntime) -> ExitCode {
         Ok(()) => ExitCode::SUCCESS,
         Err(fault) => {
             if fault != Fault::Write {
-                // The status tells the fault even where its text can't be written.
+                // The status reports the fault even if its text cannot be written.
                 let _ = println!(rt; "{fault}");
             }
             ExitCode::from(fault.status())

@@ -8,14 +8,14 @@ use Rattle.bitrun_text.specs.declared.fault.Fault.{Fault}
 use Rattle.bitrun_text.specs.declared.fault.Fault.TheVariants.{Line, TooLong, Read, Write}
 
 -- `held` is the input, all that the reader held before, and `left` what it holds afterwards; `before` and `after` are
--- what the writer took; the flags tell afterwards whether a call failed. An input with an output has no bad line, by
--- `laws::every_line_is_fine`
+-- what the writer took; the flags are whether a call failed. An input with an output has no bad line, as
+-- `laws::every_line_is_fine` states
 pub record Serves (held left : Option (List ℕ)) (reader_failed : Bool) (before after : Option (List ℕ)) (writer_failed : Bool) (result : Result ⊤ Fault) : Type 0 where
   -- what is written is the output, and nothing else
   pub outputs : OnOk result (IfSome held (λ input. (text : List ℕ) × IsOutput input text × Appends before after text))
   pub all_read : OnOk result (IsAtEnd left)
   pub short : OnOk result (IfSome held (λ input. length input ≤ 65536))
-  -- each fault comes where it is due, and nothing is written before it, a writer's fault aside
+  -- when each fault is returned; nothing is written before a fault, except before a writer's fault
   pub bad_line : (k : ℕ) → IsErrOf result (Line k) → IfSome held (λ input. BadLine input k × length input ≤ 65536) × IsAtEnd left
   pub too_long : IsErrOf result TooLong → IfSome held (λ input. 65536 < length input)
   pub read_failed : IsErrOf result Read → IsTrue reader_failed

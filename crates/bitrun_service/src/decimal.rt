@@ -8,7 +8,7 @@ use std::alloc::{AllocError, Allocator};
 /// The longest text: a minus sign and 39 digits.
 const LONGEST: usize = 40;
 
-/// `10 ^ 18`: a number of at most 120 bits, divided by it, has 64.
+/// `10 ^ 18`. A number of at most 120 bits, divided by this, has 64 bits.
 const EIGHTEEN_DIGITS: u128 = 1_000_000_000_000_000_000;
 
 /// Appends the number.
@@ -21,7 +21,7 @@ pub fn push_decimal<B: Allocator>(text: &mut Vec<u8, B>, number: i128) -> Result
     text.extend_from_slice(&buffer[start..])
 }
 
-/// Writes the text at the end of the buffer, and tells where it starts.
+/// Writes the text at the end of the buffer, and returns where it starts.
 fn write_signed(number: i128, buffer: &mut [u8; LONGEST]) -> usize
     requires { unsigned_abs number < 2 ^ 120 }
     ensures within { result ≤ 40 }
@@ -35,7 +35,7 @@ fn write_signed(number: i128, buffer: &mut [u8; LONGEST]) -> usize
     start - 1
 }
 
-/// Writes the digits at the end of the buffer, and tells where they start.
+/// Writes the digits at the end of the buffer, and returns where they start.
 fn write_decimal(number: u128, buffer: &mut [u8; LONGEST]) -> usize
     requires { number < 2 ^ 120 }
     ensures start { result + length (decimal number) ≡ 40 }
@@ -48,7 +48,7 @@ fn write_decimal(number: u128, buffer: &mut [u8; LONGEST]) -> usize
     write_digits((number / EIGHTEEN_DIGITS) as u64, buffer, LONGEST - 18)
 }
 
-/// Writes the digits so that they end at the place, and tells where they start.
+/// Writes the digits so that they end at the place, and returns where they start.
 fn write_digits(number: u64, buffer: &mut [u8; LONGEST], end: usize) -> usize
     requires { (length (decimal number) ≤ end) × (end ≤ 40) }
     ensures start { result + length (decimal number) ≡ end }

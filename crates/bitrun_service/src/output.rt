@@ -84,7 +84,7 @@ fn output_at<'a, R: BitwiseOperators, A: Allocator>(
     Ok(run_text(alloc, steps.as_slice(), registers.as_mut_slice())?)
 }
 
-/// The output of the lines from the second on, with registers of the type `W`, whose low bits `N` tells.
+/// The output of the lines from the second on, with registers of the type `W`, and their low bits at the type `N`.
 fn wide_output_at<'a, W: BitwiseOperators, N: Integer, A: Allocator>(
     alloc: &'a A,
     lines: &mut Cursor,

@@ -13,8 +13,8 @@ use std::io::{Read, Write};
 /// Reads all of the input, and writes the output to it.
 ///
 /// The input is read whole, by at most 65,537 calls of `read`, and the output is made whole before
-/// its first byte is written. No call of the reader or the writer is tried again. What is said of
-/// the input holds of a reader that tells its bytes, and gives an empty read only at its end.
+/// its first byte is written. No call of the reader or the writer is tried again. The clauses about
+/// the input apply to a reader whose bytes are known, and which returns 0 bytes only at its end.
 pub fn serve<R: Read, W: Write>(
     alloc: Global,
     reader: &mut Watched<R>,

@@ -70,7 +70,7 @@ word_left name rest whole some ends =
     let follows : drop (position_or_len ends_word (name ++ rest)) (name ++ rest) ≡ rest = rw size (drop-append_seam name rest) in
     left-word (name ++ rest) (omega (arith, some, ap length word)) ∙ rw (word, follows) refl
 
--- after the name a blank stands, and the words from there on are operands of the step
+-- after the name comes a blank, and the words from there on are operands of the step
 pub line_named : (count : ℕ) (text rest : List ℕ) (size : ℕ) (operation : Operation) (step : Step) → Ends (drop size text)
     → operation_named (take size text) ≡ Some operation → step_with count operation (left_of (drop size text)).words ≡ Some step
     → word_lines rest ≡ (left_of (drop size text)).later → NamesLine count text step rest
@@ -125,7 +125,7 @@ line_ends text at end order within lf same blanks =
       later = line.later ∙ ap (λ (left : Left). left.later) same;
     }
 
--- the lines are the same where only blanks stand between, and something follows them
+-- the lines are the same where only blanks are between, and something follows them
 pub same_lines : (text other : List ℕ) → 0 < length text → 0 < length other → left_of text ≡ left_of other → word_lines text ≡ word_lines other
 same_lines text other some others same =
     left-line text some ∙ ap (λ (left : Left). left.words ∷ left.later) same ∙ sym (left-line other others)

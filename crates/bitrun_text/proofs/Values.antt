@@ -80,7 +80,7 @@ module _ (s : Bool) (B : ℕ) (some : 1 ≤ B) (narrow : B ≤ 120) where
       by false f whole half = (omega (arith, ints), record { low = omega (arith, ints); high = omega (arith, ints) })
       by true f whole half = (omega (arith, ints), record { low = omega (arith, ints); high = omega (arith, ints) })
 
-  -- and tells it from its 128 bits
+  -- and returns it from its 128 bits
   pub from_pattern : (x y : ℤ) (pattern : ℕ) → InRange s B x → pattern ≡ residue 128 x → y ≡ wrap true 128 (pos pattern) → (y ≡ x) × (unsigned_abs x < 2 ^ 120)
   from_pattern x y pattern f p e =
       let wide = in_wide x f in

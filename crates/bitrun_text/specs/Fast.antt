@@ -19,7 +19,7 @@ later_at text at = (left_of (drop at text)).later
 abbrev pub Ends : List ℕ → Type 0
 Ends text = position_or_len ends_word text ≡ 0
 
--- so many digits stand at the beginning, and write the number
+-- the text begins with `at` digits, which write the number
 pub record Reads (text : List ℕ) (at number : ℕ) : Type 0 where
   pub digits : (k : ℕ) → k < at → is_ascii_digit (get_or text k 0) ≡ true
   pub value : number ≡ digits_value 10 (take at text)

@@ -43,7 +43,7 @@ HasStepForm count (word ∷ words) = IsSome (step_named count (word ∷ words))
 abbrev pub IsValue : Bool → ℕ → List ℕ → ℤ → Type 0
 IsValue s B word x = value_named s B word ≡ Some x
 
--- the words name the step, on so many registers
+-- the words name the step, on `count` registers
 abbrev pub IsStep : ℕ → List (List ℕ) → Step → Type 0
 IsStep count words step = step_named count words ≡ Some step
 

@@ -10,7 +10,7 @@ use Rattle.bitrun_text.specs.Text.{has_items}
 unfoldable pub number_in : List ℕ → Option ℕ
 number_in word = if has_items word && all_ascii_digits word then Some (digits_value 10 word) else None
 
--- what one or more decimal digits write, where a minus sign may stand before them
+-- what one or more decimal digits write, perhaps after a minus sign
 unfoldable pub integer_in : List ℕ → Option ℤ
 integer_in [] = None
 integer_in (byte ∷ bytes) = if byte == 45 then option_map (λ n. neg_ℤ (pos n)) (number_in bytes) else option_map pos (number_in (byte ∷ bytes))

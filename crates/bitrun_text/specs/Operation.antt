@@ -30,7 +30,7 @@ operation_rows =
 unfoldable pub operation_named : List ℕ → Option Operation
 operation_named word = option_map (λ row. row.1) (find (λ row. bytes_eq word row.0) operation_rows)
 
--- the step of an operation on so many registers, with the words after its name
+-- the step of an operation on `count` registers, with the words after its name
 unfoldable pub step_with : ℕ → Operation → List (List ℕ) → Option Step
 step_with count (Two op) (to ∷ left ∷ right ∷ []) = option_map (λ n. steps.Two op n.0 n.1.0 n.1.1)
     (option_zip (number_below count to) (option_zip (number_below count left) (number_below count right)))

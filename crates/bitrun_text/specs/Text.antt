@@ -11,7 +11,7 @@ has_items (x ∷ xs) = true
 abbrev pub is_blank : ℕ → Bool
 is_blank byte = byte == 32 || (byte == 9 || byte == 13)
 
--- what stands between the blanks, if anything does
+-- the words of a line, which blanks separate
 unfoldable pub words_of : List ℕ → List (List ℕ)
 words_of line = filter has_items (slice_split is_blank line)
 

@@ -16,7 +16,7 @@ use arbitrary_int::{ByOp, OneOp, Step, TwoOp};
 /// A name of at most four letters, and the blank after it.
 const NAME: usize = 5;
 
-/// The step on so many registers that the line at the place names, and the place after the line.
+/// The step that the line at the place names, on `count` registers, and the place after the line.
 #[inline(always)]
 pub fn fast_line(text: &[u8], at: usize, count: usize) -> Option<(Step, usize)>
     requires { at ≤ length text.now }
@@ -34,7 +34,7 @@ pub fn fast_line(text: &[u8], at: usize, count: usize) -> Option<(Step, usize)>
     Some((step, end))
 }
 
-/// The operation whose name stands at the place, and the place of the blank after the name.
+/// The operation whose name is at the place, and the place of the blank after the name.
 #[inline(always)]
 fn name_at(text: &[u8], at: usize) -> Option<(Operation, usize)>
     requires { at + 5 ≤ length text.now }
@@ -241,7 +241,7 @@ fn number(text: &[u8], at: usize, limit: u64) -> Option<(u64, usize)>
     }
 }
 
-/// The place after the LF, where nothing but blanks stands before it.
+/// The place after the LF, if only blanks come before it.
 #[inline(always)]
 fn line_end(text: &[u8], at: usize) -> Option<usize>
     requires { at ≤ length text.now }
@@ -277,7 +277,7 @@ pub fn after_blanks(text: &[u8], start: usize) -> usize
     at
 }
 
-/// Whether the byte is a blank. As a rule it is a space, which one comparison tells.
+/// Whether the byte is a blank. Most blanks are spaces, which the first comparison finds.
 #[inline(always)]
 fn is_usual_blank(byte: u8) -> bool
     ensures { result ≡ is_blank byte }

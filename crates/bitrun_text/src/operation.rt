@@ -57,7 +57,7 @@ pub fn operation_named(word: &[u8]) -> Option<Operation>
     }
 }
 
-/// The step on so many registers that a word names with the words after it.
+/// The step that a word names with the words after it, on `count` registers.
 #[tactic(auto, unfolding(crate::specs::Operation::step_named))]
 pub fn step_named(word: &[u8], operands: &mut Cursor, count: usize) -> Option<Step>
     ensures step { result ≡ step_named count (word.now ∷ operands.old.words) }
@@ -68,7 +68,7 @@ pub fn step_named(word: &[u8], operands: &mut Cursor, count: usize) -> Option<St
     step_with(operation, operands, count)
 }
 
-/// The step of an operation on so many registers, with the operands that the line's words name.
+/// The step of an operation on `count` registers, with the operands that the line's words name.
 #[tactic(auto, using(crate::proofs::StepWords::taken))]
 fn step_with(operation: Operation, operands: &mut Cursor, count: usize) -> Option<Step>
     ensures step { result ≡ step_with count operation operands.old.words }
@@ -101,7 +101,7 @@ fn step_with(operation: Operation, operands: &mut Cursor, count: usize) -> Optio
     }
 }
 
-/// Takes the number of one of so many registers.
+/// Takes the number of one of `count` registers.
 fn register(operands: &mut Cursor, count: usize) -> Option<usize>
     ensures number { MatchOption result (first_number count operands.old.words ≡ None)
         (λ n. first_number count operands.old.words ≡ Some (n, operands.new.words)) }

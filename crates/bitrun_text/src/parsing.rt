@@ -39,7 +39,7 @@ pub fn registers<'a, R: Numbered, A: Allocator>(
     Ok(Some(registers))
 }
 
-/// The steps on so many registers that the later lines name.
+/// The steps that the later lines name, on `count` registers.
 pub fn steps<'a, A: Allocator>(
     alloc: &'a A,
     count: usize,

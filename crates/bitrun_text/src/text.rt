@@ -72,7 +72,7 @@ impl<'a> Cursor<'a> {
         self.rest = text;
     }
 
-    /// Goes on to the next line, whatever is left on this one, and tells whether there is one.
+    /// Goes on to the next line, whatever is left on this one, and returns whether there is one.
     pub fn next_line(&mut self) -> bool
         ensures { self.old.later ≡ (if result then self.new.words ∷ self.new.later else []) }
     {
@@ -111,21 +111,21 @@ pub fn after_line(text: &[u8]) -> &[u8]
     }
 }
 
-/// Where the first byte stands that isn't a blank.
+/// The place of the first byte that is not a blank.
 fn word_start(text: &[u8]) -> Option<usize>
     ensures { result ≡ position is_solid text.now }
 {
     text.iter().position(|byte| !is_blank(*byte))
 }
 
-/// Where the first blank or LF stands.
+/// The place of the first blank or LF.
 fn word_end(text: &[u8]) -> Option<usize>
     ensures { result ≡ position ends_word text.now }
 {
     text.iter().position(|byte| ends_word(*byte))
 }
 
-/// Where the first LF stands.
+/// The place of the first LF.
 fn line_end(text: &[u8]) -> Option<usize>
     ensures { result ≡ position ends_line text.now }
 {
@@ -142,7 +142,7 @@ pub fn is_blank(byte: u8) -> bool
 fn ends_word(byte: u8) -> bool
     ensures { result ≡ ends_word byte }
 {
-    // One comparison tells most bytes.
+    // One comparison decides most bytes.
     if byte > b' ' {
         return false;
     }

@@ -10,7 +10,7 @@ pub enum Mode {
     /// Not at all.
     #[default]
     Off,
-    /// Once in so many ticks.
+    /// Once in this many ticks.
     Every(u12),
 }
 

@@ -26,7 +26,7 @@ pub fn bit_list() -> [bool; u7::BITS] {
     [false; u7::BITS]
 }
 
-/// Whether `i7` has so many bits.
+/// Whether `i7` has this number of bits.
 pub fn is_width(bits: usize) -> bool
     ensures { IsTrue result ↔ bits ≡ 7 }
 {

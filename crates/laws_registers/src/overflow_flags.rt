@@ -22,7 +22,7 @@ pub fn sum_overflows(a: u32, m: u32) -> bool
     (a ^ r) & (m ^ r) & 0x8000_0000 != 0
 }
 
-/// The same of a byte, by a complement.
+/// The same for a byte, by a complement.
 pub fn sum_overflows_by_not(a: u8, m: u8) -> bool
     ensures { IsTrue result ↔ ((a / 128 ≡ m / 128) × ((a + m) % 256 / 128 ≢ a / 128)) }
 {

@@ -140,7 +140,7 @@ pub fn coarse(v: u15, x: u5) -> u15
     (v & !u15::new(0x1F)) | u15::from_(x)
 }
 
-/// The same of a wider word.
+/// The same in a wider word.
 #[tactic(auto, using(arbitrary_laws::proofs::Sets::uint_words))]
 pub fn low_of_forty(v: u40, x: u12) -> u40
     ensures low { int_rem result (pos 4096) ≡ x }

@@ -60,7 +60,7 @@ pub fn aligned_down(address: u24, log: u8) -> u24
     address & !((u24::new(1) << log) - u24::new(1))
 }
 
-/// The same of a signed number, by shifts.
+/// The same for a signed number, by shifts.
 pub fn aligned_down_by_shifts(address: i24, log: u8) -> i24
     requires { log < 24 }
     ensures multiple { int_rem_euclid result (pos (2 ^ log)) ≡ pos 0 }

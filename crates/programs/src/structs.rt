@@ -65,7 +65,7 @@ impl Timer {
         u8::from_(self.count)
     }
 
-    /// The count so many steps later, and then from 0 on.
+    /// Adds `by` to the count, which goes on from 0 after 127.
     pub fn wrapped(&mut self, by: u7)
         ensures inside { (self.old.count +ℤ by) <ℤ pos 128 → self.new.count ≡ self.old.count +ℤ by }
     {

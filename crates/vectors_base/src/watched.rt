@@ -7,7 +7,7 @@ use arbitrary_base::watched::Watched;
 use std::io;
 use std::io::{ErrorKind, Read, Write};
 
-/// Serves its first call and each later one with so many bytes at most, or with an error, and counts its calls.
+/// Serves its first call and each later one with a limited number of bytes, or with an error, and counts its calls.
 #[derive(Drop)]
 struct Counting {
     first: Result<usize, ErrorKind>,

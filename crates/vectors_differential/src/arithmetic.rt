@@ -104,7 +104,7 @@ fn first_wrong<V: FixedWidth>(a: V, b: V) -> Option<&'static str> {
     None
 }
 
-/// The same of quotients, by a divisor that is not zero; and that a checked one by zero is refused.
+/// The same for quotients by a divisor other than zero. A checked quotient by zero is refused.
 fn first_wrong_quotient<V: FixedWidth>(a: V, b: V) -> Option<&'static str> {
     let (bits, signed) = (width(a), V::IS_SIGNED);
     let (x, y) = (a.to_u128_bits(), b.to_u128_bits());

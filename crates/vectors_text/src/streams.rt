@@ -9,7 +9,7 @@ use std::io;
 use std::io::{ErrorKind, Read, Write};
 use std::process::Abort;
 
-/// Gives or takes one byte at each call, and counts the calls. It lasts for so many of them; each later one is a fault of
+/// Gives or takes one byte at each call, and counts the calls. After `lasts` calls, each call is a fault of
 /// the kind, or gives or takes nothing.
 #[derive(Drop)]
 struct Drip {
@@ -111,7 +111,7 @@ impl Write for Stumbling {
     }
 }
 
-/// How many calls are made for so many bytes: the one that finds no further byte is the last.
+/// How many calls are made for `count` bytes. The last one finds no further byte.
 fn calls(lasts: usize, count: usize) -> usize {
     if lasts == count {
         lasts
@@ -120,7 +120,7 @@ fn calls(lasts: usize, count: usize) -> usize {
     }
 }
 
-/// What is read where the stream lasts for so many of the value's bytes.
+/// Reads the value from a stream that ends after `lasts` of its bytes.
 fn is_read<V: Integer>(rt: &impl Abort, value: V, lasts: usize, fault: Option<ErrorKind>)
     requires { V.valid }
 {
@@ -138,7 +138,7 @@ fn is_read<V: Integer>(rt: &impl Abort, value: V, lasts: usize, fault: Option<Er
     same(rt, reader.into_inner().calls, calls(lasts, count));
 }
 
-/// What is written where the stream lasts for so many of the value's bytes.
+/// Writes the value to a stream that takes `lasts` of its bytes.
 fn is_written<V: Integer>(rt: &impl Abort, value: V, lasts: usize, fault: Option<ErrorKind>)
     requires { V.valid }
 {

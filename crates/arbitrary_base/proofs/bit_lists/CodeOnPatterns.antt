@@ -88,7 +88,7 @@ rotr_pattern w p k m b h l e =
     let small : p / 2 ^ k < 2 ^ (w - k) = shr_below p (w - k) k (subst (λ (x : ℕ). p < 2 ^ x) (let d : w ≡ (w - k) + k = omega arith in d) h) in
     rw (shifted w p (w - k) m b (omega arith) e, rotr_at w p k h (omega arith), shl-mod p (w - k) w (omega arith), or_shifted_r (p % 2 ^ (w - (w - k))) (w - k) (p / 2 ^ k) small) (omega arith)
 
--- ---- in a wider pattern: zeros stand above
+-- ---- in a wider pattern, with zeros above
 
 wider : (w v p : ℕ) → w ≤ v → p < 2 ^ w → p < 2 ^ v
 wider w v p h k = lt_of_lt_of_le k (pow_mono h)

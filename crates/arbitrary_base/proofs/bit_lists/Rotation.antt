@@ -1,5 +1,5 @@
 -- Shifts, rotations and reversal of bit lists, one after the other. `Movement` has each alone; `operations.RotateAndReverse` and
--- `operations.Shift` have the same of numbers.
+-- `operations.Shift` have the same for numbers.
 use Rattle.std.specs.List.{slice_rotate_right}
 use Rattle.std.specs.Prelude.{Bool, List, [], drop, false, length, replicate, reverse, suc, take, true, zero, ℕ, ◌&&◌, ◌++◌, ◌+◌, ◌-◌, ◌∷◌, ◌≡◌, ◌≤◌}
 use Rattle.std.proofs.Common.{ap, ap₂, arith, length-drop, refl, sym, take-append-drop, ◌∙◌}
@@ -31,7 +31,7 @@ shl-none l = ap (λ (i : ℕ). take i l) (let e : length l - 0 ≡ length l = om
 pub shr-none : (l : List Bool) (f : Bool) → shr l 0 f ≡ l
 shr-none l f = append-nil l
 
--- ---- shifts beside the other operations
+-- ---- shifts with the other operations
 
 -- right and left again clears the low bits
 pub shr-shl : (l : List Bool) (k : ℕ) (f : Bool) → k ≤ length l → shl (shr l k f) k ≡ bits_and l (shl (replicate (length l) true) k)

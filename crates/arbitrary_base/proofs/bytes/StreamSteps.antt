@@ -30,7 +30,7 @@ room_left old new post at n h k = omega (arith, length-append (take at old) (new
 pub none_failed : {D : Type 0} (a b c : Watched D) → NoFailure a b → NoFailure b c → NoFailure a c
 none_failed a b c p q = (q.0 ∙ p.0, q.1 ∙ p.1)
 
--- what stands at the front
+-- what is at the front
 pub take-at_front : (n : ℕ) (xs ys rest : List ℕ) → n ≡ length ys → xs ≡ ys → take n (xs ++ rest) ≡ ys
 take-at_front n xs ys rest e f = (λ i. take (e i) (f i ++ rest)) ∙ take-append_seam ys rest
 

@@ -10,7 +10,7 @@ use Rattle.arbitrary_base.proofs.modular.Congruence.{Congruent-from_apart, Congr
 use Rattle.arbitrary_base.proofs.modular.Residue.{wrap-congruent, residue-lt, residue-congruent, congruent-same, wrap-unique, wrap-same, wrap-in_range, wrap-of_in_range}
 use Rattle.arbitrary_base.proofs.storages.Primitive.{unsigned-in_range, mod-congruent}
 
--- the test tells whether a number is in range
+-- the test is whether a number is in range
 pub in_range-true : (s : Bool) (B : ℕ) (x : ℤ) → InRange s B x → in_range s B x ≡ true
 unfolding in_range
 in_range-true s B x f =

@@ -105,7 +105,7 @@ or-above B x y h f =
     let c = num-or_left (bits B x) (bits B y) (same_length B x y) in
     omega (arith, ints)
 
--- the same of a result that equals it
+-- the same for an equal result
 pub or-keeps : (s : Bool) (B : ℕ) (x y z : ℤ) → s ≡ false → 1 ≤ B → InRange s B x → z ≡ bitwise_or s B x y → x ≤ℤ z
 or-keeps true B x y z d h f e = absurd (cc)
 or-keeps false B x y z d h f e = subst (λ (w : ℤ). x ≤ℤ w) (sym e) (or-above B x y h f)

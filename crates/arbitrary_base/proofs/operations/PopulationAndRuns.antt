@@ -104,7 +104,7 @@ popcount-of_and s B x y =
     let f = ap (count_by (λ b. b)) (and-comm (bits B x) (bits B y)) in
     (omega (arith, popcount-and (bits B x) (bits B y)), omega (arith, popcount-and (bits B y) (bits B x)))
 
--- ---- how many alike stand at an end
+-- ---- how many equal bits are at an end
 
 pub front_ones-of_not : (s : Bool) (B : ℕ) (x : ℤ) → prefix_len (beq true) (bits B (bitwise_not s B x)) ≡ prefix_len (beq false) (bits B x)
 front_ones-of_not s B x = ap (prefix_len (beq true)) (bits-not s B x) ∙ sym (front-false_of_not (bits B x))

@@ -21,7 +21,7 @@ pub power-of_zero : (n : ℕ) → 1 ≤ n → int_pow (pos 0) n ≡ pos 0
 power-of_zero zero h = absurd (omega arith)
 power-of_zero (suc n) h = power-suc (pos 0) n ∙ omega (arith, ints)
 
--- the same of a power that saturates
+-- the same for a power that saturates
 pub clamped-first : (s : Bool) (B n : ℕ) (x z : ℤ) → InRange s B x → z ≡ clamp s B (int_pow x n) → n ≡ 1 → z ≡ x
 clamped-first s B n x z f e d = e ∙ ap (clamp s B) (ap (int_pow x) d ∙ power-one x) ∙ clamp-fits s B x f
 
@@ -41,7 +41,7 @@ quotient-self (negsuc n) h = ap pos (div_self (omega arith))
 pub quotient-of_equal : (x y : ℤ) → y ≢ pos 0 → x ≡ y → int_div x y ≡ pos 1
 quotient-of_equal x y n d = ap (λ (w : ℤ). int_div w y) d ∙ quotient-self y n
 
--- the same of a quotient that wraps, and of one that saturates
+-- the same for a quotient that wraps, and for one that saturates
 pub wrapped-itself : (s : Bool) (B : ℕ) (x y z : ℤ) → 1 ≤ B → z ≡ wrap s B (int_div x y) → y ≢ pos 0 → InRange s B (pos 1) → x ≡ y → z ≡ pos 1
 wrapped-itself s B x y z h e n f d = e ∙ ap (wrap s B) (quotient-of_equal x y n d) ∙ wrap-of_in_range s B (pos 1) h f
 
@@ -67,6 +67,6 @@ to_u128_bits-back s B x h g f =
     wrap-same s B (pos (residue 128 x)) x h (Congruent-narrower B 128 (pos (residue 128 x)) x g (residue-congruent 128 x))
     ∙ wrap-of_in_range s B x h f
 
--- the same of a result and a pattern that equal these
+-- the same for an equal result and an equal pattern
 pub to_u128_bits-undone : (s : Bool) (B p : ℕ) (z y : ℤ) → 1 ≤ B → B ≤ 128 → InRange s B y → p ≡ residue 128 y → z ≡ wrap s B (pos p) → z ≡ y
 to_u128_bits-undone s B p z y h g f e d = d ∙ ap (λ (q : ℕ). wrap s B (pos q)) e ∙ to_u128_bits-back s B y h g f

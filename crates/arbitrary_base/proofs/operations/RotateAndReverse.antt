@@ -58,7 +58,7 @@ rotated_left-not_zero s B k h = left-alike s B (bitwise_not s B (pos 0)) k true 
 pub reversed-not_zero : (s : Bool) (B : ℕ) → 1 ≤ B → reversed s B (bitwise_not s B (pos 0)) ≡ bitwise_not s B (pos 0)
 reversed-not_zero s B h = turned-alike s B (bitwise_not s B (pos 0)) true h (not-in_range s B (pos 0) h) (bits-not_zero s B)
 
--- ---- beside the other operations
+-- ---- with the other operations
 
 pub rotated_left-and : (s : Bool) (B : ℕ) (x y : ℤ) (k : ℕ) → rotated_left s B (bitwise_and s B x y) k ≡ bitwise_and s B (rotated_left s B x k) (rotated_left s B y k)
 rotated_left-and s B x y k =

@@ -84,7 +84,7 @@ shifted_left-difference s B x y k h g =
     shifted_left-is_product s B (wrapped_difference s B x y) k h g ∙ products-of_differences s B x y (pos (2 ^ k)) h
     ∙ sym (ap₂ (wrapped_difference s B) (shifted_left-is_product s B x k h g) (shifted_left-is_product s B y k h g))
 
--- ---- beside `and`, `or` and `xor`
+-- ---- with `and`, `or` and `xor`
 
 pub shifted_left-and : (s : Bool) (B : ℕ) (x y : ℤ) (k : ℕ) → k ≤ B
     → shifted_left s B (bitwise_and s B x y) k ≡ bitwise_and s B (shifted_left s B x k) (shifted_left s B y k)

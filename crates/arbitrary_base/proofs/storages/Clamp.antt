@@ -67,7 +67,7 @@ clamped-between s B x l h a b d e f t g u = clamp-in_range s B x x (record { low
 
 pub ruleset two_tests = (clamped-low, clamped-high, clamped-between)
 
--- a number out of range, on the side that the flag tells
+-- a number out of range, on the side that the flag gives
 pub clamp-out : (s : Bool) (B : ℕ) (x : ℤ) (low : Bool) → 1 ≤ B → (InRange s B x → ⊥) → (low ≡ true → x ≤ℤ pos 0) → (low ≡ false → lo s B ≤ℤ x)
     → range_end s B low ≡ clamp s B x
 clamp-out s B x true h n f g = ⊎_elim (λ i. absurd (n i))
@@ -101,7 +101,7 @@ sub-saturates s B x y z false h f g n e w =
     (λ a. by_lt_z (pos 0) (x -ℤ y) (λ c. let l = (zero-in_range s B h).low in absurd (n (record { low = omega (arith, ints); high = a }))) (λ c. c)))
     (λ t. cc)
 
--- what the flag of an overflow tells: the wrapped number is the exact one, or on the other side of 0
+-- the flag of an overflow: the wrapped number is the exact one, or on the other side of 0
 pub unflagged-saturates : (s : Bool) (B : ℕ) (e z : ℤ) (o : Bool) → 1 ≤ B → z ≡ wrap s B e → (IsTrue o ↔ ¬ (InRange s B e)) → o ≡ false → z ≡ clamp s B e
 unflagged-saturates s B e z o h w f n = let i = flag-exact s B e z o h w f n in clamp-in_range s B e z i.0 i.1
 

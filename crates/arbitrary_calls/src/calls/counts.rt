@@ -54,7 +54,7 @@ pub trait CountCalls: Stored + LowBits {
     }
 
     /// How many bits at the high end are one before the first that is zero, or all of them.
-    // The mask changes nothing. It tells the compiler the width, which then counts in fewer bits than 128.
+    // The mask changes nothing. It shows the compiler the width, so that the code counts in fewer than 128 bits.
     final fn leading_ones(self) -> u32
         ensures value { result ≡ suffix_len (beq true) (bits Self.BITS (Self.number self)) }
         ensures bound { result ≤ Self.BITS }
@@ -73,7 +73,7 @@ pub trait CountCalls: Stored + LowBits {
     }
 
     /// How many bits at the high end are zero before the first that is one, or all of them.
-    // The mask changes nothing. It tells the compiler the width, which then counts in fewer bits than 128.
+    // The mask changes nothing. It shows the compiler the width, so that the code counts in fewer than 128 bits.
     final fn leading_zeros(self) -> u32
         ensures value { result ≡ suffix_len (beq false) (bits Self.BITS (Self.number self)) }
         ensures bound { result ≤ Self.BITS }

@@ -21,7 +21,7 @@ pub fn unsigned_agreement_law<T: UnsignedStorage, const BITS: usize>()
     ensures fed { (x : T) → ⟦<UInt<T, BITS> as Hash>⟧.hash_input (T.number x) ≡ T.hash_input x }
 {}
 
-/// The same of `Int`.
+/// The same for `Int`.
 #[tactic(auto, using(crate::proofs::Agreement::agreements))]
 pub fn signed_agreement_law<T: BuiltinInteger + SignedStorage, const BITS: usize>()
 where

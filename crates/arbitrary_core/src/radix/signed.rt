@@ -70,7 +70,7 @@ where
     }
 }
 
-// What `{:x}` and its kin in a format string ask.
+// Format strings use this for `{:x}`, `{:X}`, `{:o}` and `{:b}`.
 impl<T: BuiltinInteger + SignedStorage, const BITS: usize> fmt::HasDigits for Int<T, BITS>
 where
     T::Unsigned: UnsignedOf<T>,

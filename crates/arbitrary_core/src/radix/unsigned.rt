@@ -57,7 +57,7 @@ impl<T: UnsignedStorage, const BITS: usize> fmt::Binary for UInt<T, BITS> {
     }
 }
 
-// What `{:x}` and its kin in a format string ask.
+// Format strings use this for `{:x}`, `{:X}`, `{:o}` and `{:b}`.
 impl<T: UnsignedStorage, const BITS: usize> fmt::HasDigits for UInt<T, BITS> {
     ghost word = { λ x. cond (nat_le T.WIDTH 64) (Some (unsigned_abs x)) None };
 

@@ -19,5 +19,5 @@ pub ruleset masks = (Decides-int_eq, or-of_parts, sum-of_parts, choice-is_xor, a
 -- any law of `& | ^ !`: the two sides are compared bit by bit
 pub ruleset bit_by_bit = (Decides-int_eq, and-compared, or-compared, xor-compared, not-compared, compared-and, compared-or, compared-xor, compared-not, bit_near-and, bit_near-or, bit_near-xor, bit_near-not, bit_near-zero, bit_near-highest, bit_near-minus_one)
 
--- two tests of `&`, `|` or `^` that tell the same
+-- two tests of `&`, `|` or `^` with equal results
 pub ruleset mask_tests = (Decides-int_eq, and_not-none, or-unchanged, or-equal_xor, xor-equal_or, xor-unchanged, xor-none, bitwise_and-commutes, bitwise_and-same, bitwise_or-commutes, bitwise_xor-commutes, or-none, and-minus_one, and-highest, within-at_most)

@@ -15,7 +15,7 @@ use Rattle.arbitrary_base.proofs.bytes.NumberOfBytes.{Borsh-canonical, bytes-wra
 pub Borsh-told : (B : ℕ) (x : ℤ) → (BorshBytes B x ≡ BorshBytes B x) × (length (BorshBytes B x) ≡ div_ceil B 8) × (bytes_number (BorshBytes B x) < 2 ^ B)
 Borsh-told B x = (refl, length-Borsh B x, (Borsh-canonical B x).below)
 
--- the number that the first bytes of a list tell
+-- the number of the first bytes of a list
 unfoldable pub told : Bool → ℕ → List ℕ → ℤ
 told s B l = wrap s B (pos (bytes_number (take (div_ceil B 8) l)))
 

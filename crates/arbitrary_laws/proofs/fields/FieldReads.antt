@@ -1,4 +1,4 @@
--- What a field of a primitive reads of a word made of `|` and masks: the same of each part. So several fields
+-- What a field of a primitive reads of a word made of `|` and masks: the same as of each part. So several fields
 -- that are written at once, under masks and with constants in any order, are read back, and the other fields do
 -- not change.
 -- For callers: `#![tactic(auto, using(arbitrary_laws::proofs::fields::FieldReads::field_reads))]`.

@@ -16,7 +16,7 @@ use Rattle.arbitrary_laws.proofs.fields.SideBySide.{beside, numeral_next, or_nex
 
 -- ---- the low field first
 
--- a field above those that stand side by side, and what those are. The first premise ends the attempt at once where the high one comes first
+-- a field above adjacent fields, and what those are. The first premise ends the attempt at once where the high one comes first
 pub or_above : (b y d v x c w : ℕ) → d < c → d ≡ 2 ^ low_zeros 128 d → c ≡ 2 ^ low_zeros 128 c → b < d → y * d + b < c → y * d < v → x * c < w
     → (bit_or (bit_or b (y * d % v)) (x * c % w) ≡ x * c + y * d + b) × (bit_or b (y * d % v) ≡ y * d + b)
 or_above b y d v x c w l p q e f g h =

@@ -13,7 +13,7 @@ use Rattle.arbitrary_base.proofs.modular.Residue.{wrap-congruent}
 use Rattle.arbitrary_base.proofs.storages.Primitive.{mod-congruent}
 use Rattle.arbitrary_laws.proofs.fields.SideBySide.{beside}
 
--- ---- that field, whatever stands above it
+-- ---- that field, whatever is above it
 
 lowest : (k a b : ℕ) (y : ℤ) → a % 2 ^ k ≡ 0 → Congruent k (pos b) y → Congruent k (pos (bit_or a b)) y
 lowest k a b y e c =

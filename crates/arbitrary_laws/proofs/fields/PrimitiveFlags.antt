@@ -7,7 +7,7 @@ use Rattle.std.proofs.lemmas.Grind.{bit_length, low_zeros}
 use Rattle.std.proofs.lemmas.Nat.Bits.{and_high}
 use Rattle.arbitrary_laws.proofs.fields.JoinedWords.{lowest}
 
--- the ones of the mask stand side by side; one flag alone is such a mask
+-- the ones of the mask are adjacent; one flag alone is such a mask
 pub and_beside : (w m : ℕ) → low_zeros 128 (suc m) ≤ bit_length 128 (suc m) → suc m + 2 ^ low_zeros 128 (suc m) ≡ 2 ^ bit_length 128 (suc m)
     → bit_and w (suc m) ≡ w / 2 ^ low_zeros 128 (suc m) % 2 ^ (bit_length 128 (suc m) - low_zeros 128 (suc m)) * 2 ^ low_zeros 128 (suc m)
 and_beside w m l e =

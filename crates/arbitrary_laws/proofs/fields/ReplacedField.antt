@@ -21,7 +21,7 @@ use Rattle.arbitrary_laws.proofs.masks.NumberUnderMask.{and-digits, and-of_clear
 none : (n : ℕ) → bit_and n 0 ≡ 0
 none n = let l = and_le_r n 0 in omega arith
 
--- a number has no bit of a field that stands among its ones
+-- a number shares no bit with a field among its zeros
 pub apart : (m y k : ℕ) → y < 2 ^ low_zeros 128 (m / 2 ^ k) → m / 2 ^ k % 2 ^ low_zeros 128 (m / 2 ^ k) ≡ 0 → bit_and m (y * 2 ^ k) ≡ 0
 apart m y k g e =
     let q = m / 2 ^ k in
@@ -56,7 +56,7 @@ or_below_mask w m b e g =
 abbrev pub hole : ℕ → ℕ
 hole n = 2 ^ bit_length 128 n - 1 - n
 
--- the ones that a mask lacks stand side by side: what it clears, and what it leaves
+-- the zeros of a mask are adjacent: what it clears, and what it leaves
 pub and_around : (w m : ℕ) → low_zeros 128 (hole (suc m)) ≤ bit_length 128 (hole (suc m)) → hole (suc m) + 2 ^ low_zeros 128 (hole (suc m)) ≡ 2 ^ bit_length 128 (hole (suc m)) → suc m < 2 ^ bit_length 128 (suc m)
     → w < 2 ^ bit_length 128 (suc m)
     → bit_and w (suc m) + w / 2 ^ low_zeros 128 (hole (suc m)) % 2 ^ (bit_length 128 (hole (suc m)) - low_zeros 128 (hole (suc m))) * 2 ^ low_zeros 128 (hole (suc m)) ≡ w
@@ -85,7 +85,7 @@ run N k t l e g =
     below : (a b c : ℕ) → a * c < b * c → a < b
     below a b c h = grind arith
 
--- a number whose ones all stand under the mask n, which has its ones side by side
+-- a number whose ones are all under the mask n, whose ones are adjacent
 module _ (B n : ℕ) (z : ℤ) (h : 1 ≤ B) (g : InRange false B z) (m : pos n ≤ℤ hi false B) (l : low_zeros 128 n ≤ bit_length 128 n)
     (e : n + 2 ^ low_zeros 128 n ≡ 2 ^ bit_length 128 n) (i : unsigned_abs z % 2 ^ low_zeros 128 n ≡ 0) (j : unsigned_abs z < 2 ^ bit_length 128 n) where
   inside : bitwise_and false B z (pos n) ≡ z
@@ -102,7 +102,7 @@ module _ (B n : ℕ) (z : ℤ) (h : 1 ≤ B) (g : InRange false B z) (m : pos n 
     under : bitwise_and false B (pos n) cleared ≡ pos 0
     under = bitwise_and-commutes false B (pos n) cleared ∙ and-of_cleared false B x (pos n) h
 
-    -- what stands under the mask then, and outside it
+    -- what is under the mask then, and outside it
     pub written-inside : bitwise_and false B (bitwise_or false B cleared z) (pos n) ≡ z
     written-inside =
         bitwise_and-commutes false B _ (pos n) ∙ and-distributes_or false B (pos n) cleared z

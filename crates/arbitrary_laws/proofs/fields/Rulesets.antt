@@ -23,10 +23,10 @@ pub ruleset replaced_fields = (or_into_hole, or_below_mask, and_around, and_high
 -- the same in a number of these types, under the complement of a mask
 pub ruleset cleared_fields = (Decides-int_eq, or-into_cleared, and-by_complement, and-digits)
 
--- what stands there under the mask afterwards, and outside it
+-- what is under the mask afterwards, and outside it
 pub ruleset written_fields = (Decides-int_eq, written-inside, written-outside)
 
--- flags of a primitive under a written mask: set, cleared, turned over and tested, also beside a field that is written
+-- flags of a primitive under a written mask: set, cleared, turned over and tested, also with a field that is written
 pub ruleset primitive_flags = (and_beside, and_around, or_flags, xor_flags, or_into_hole, or_below_mask)
 
 -- words of a primitive in any of these ways: fields put together, written in place, moved and read back, and flags under a written mask

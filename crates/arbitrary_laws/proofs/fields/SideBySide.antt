@@ -8,13 +8,13 @@ use Rattle.std.proofs.Math.Nat.{mul-mod_left}
 use Rattle.std.proofs.lemmas.Grind.{low_zeros}
 use Rattle.std.proofs.lemmas.Nat.{or_mod, or_shifted}
 
--- what has no bit below place k, beside what has none from there on
+-- a number with no bit below place k, and one with none from there on
 pub beside : (a k b : ℕ) → a % 2 ^ k ≡ 0 → b < 2 ^ k → bit_or a b ≡ a + b
 beside a k b e g =
     let m : a / 2 ^ k * 2 ^ k ≡ a = omega (arith, div-add-mod' a (2 ^ k)) in
     ap (λ (n : ℕ). bit_or n b) (sym m) ∙ or_shifted (a / 2 ^ k) k b g ∙ ap (λ (n : ℕ). n + b) m
 
--- one more field below those that stand side by side
+-- one more field below adjacent fields
 pub or_next : (a y d v b : ℕ) → d ≡ 2 ^ low_zeros 128 d → a % d ≡ 0 → b < d → y * d < v → bit_or (bit_or a (y * d % v)) b ≡ bit_or a (y * d % v) + b
 or_next a y d v b p e g h =
     let k = low_zeros 128 d in

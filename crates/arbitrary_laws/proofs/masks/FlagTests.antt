@@ -163,11 +163,11 @@ module _ (s : Bool) (B n : ℕ) (x : ℤ) (fits : pos n ≤ℤ hi s B) (alone : 
   pub clear-by_flag : int_eq (bitwise_and s B x (pos n)) (pos 0) ≡ not (bit B x (low_zeros 128 n))
   clear-by_flag = ap (λ (z : ℤ). int_eq (bitwise_and s B x z) (pos 0)) (sym one-written) ∙ clear-by_mask s B (low_zeros 128 n) x place
 
-  -- so one test tells the other, with no case
+  -- so one test decides the other, with no case
   pub set-unless_clear : int_eq (bitwise_and s B x (pos n)) (pos n) ≡ not (int_eq (bitwise_and s B x (pos n)) (pos 0))
   set-unless_clear = set-by_flag ∙ not-twice (bit B x (low_zeros 128 n)) ∙ ap not (sym clear-by_flag)
 
--- flags by masks that are written out, and by shifts, all told by the bits at their places
+-- flags by written masks and by shifts, from the bits at their places
 pub ruleset flag_tests = (flags-compared, set-by_flag, clear-by_flag, set-by_shift, clear-by_shift, bit-or, bit-and, bit-xor, bit-not, bit-written)
 
 -- one flag that is tested in two ways

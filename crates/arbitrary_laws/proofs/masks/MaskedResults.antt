@@ -102,7 +102,7 @@ module _ (s : Bool) (B n : ℕ) (some : 1 ≤ B) (f : pos n ≤ℤ hi s B) (g : 
     pub left-masked_away : bitwise_and s B (shifted_left s B x j) (pos n) ≡ pos 0
     left-masked_away = same _ (pos 0) gone ∙ bitwise_and-commutes s B (pos 0) (pos n) ∙ bitwise_and-zero s B (pos n) some
 
-    -- beside an operand that is not shifted
+    -- with an operand that is not shifted
     beside : (op : Bool → ℕ → ℤ → ℤ → ℤ) → ((a b : ℤ) → bitwise_and s B (pos n) (op s B a b) ≡ op s B (bitwise_and s B (pos n) a) (bitwise_and s B (pos n) b))
         → ((z : ℤ) → InRange s B z → op s B (pos 0) z ≡ z) → bitwise_and s B (op s B (shifted_left s B x j) y) (pos n) ≡ bitwise_and s B y (pos n)
     beside op distributes nothing =

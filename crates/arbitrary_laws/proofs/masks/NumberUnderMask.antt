@@ -175,7 +175,7 @@ three_parts N j k =
     regroup : (x m y d : ℕ) → (x * m + y) * d ≡ x * (m * d) + y * d
     regroup x m y d = grind arith
 
--- a mask whose ones stand side by side keeps a field in place
+-- a mask whose ones are adjacent keeps a field in place
 pub and-digits : (B n : ℕ) (x : ℤ) → 1 ≤ B → InRange false B x → pos n ≤ℤ hi false B → low_zeros 128 n ≤ bit_length 128 n → n + 2 ^ low_zeros 128 n ≡ 2 ^ bit_length 128 n
     → bitwise_and false B x (pos n) ≡ pos (unsigned_abs x / 2 ^ low_zeros 128 n % 2 ^ (bit_length 128 n - low_zeros 128 n) * 2 ^ low_zeros 128 n)
 and-digits B n x h f g l e =

@@ -288,5 +288,5 @@ low-of_left s B x j k g m =
 -- the mask by each of its forms, the parts of a number above it and under it, and these under `&`, `|`, `^` and shifts
 pub ruleset variable_masks = (Decides-int_eq, not-of_highest, not-of_minus_one, bitwise_not-zero, bitwise_not-zero_signed, right-of_highest, low-exact, and-not_low, low-joined, low-turned, without-low, low-again, low-wrapped, parts-wrapped, right-again, and-highest_moved, and-minus_one_moved, right-of_masked, right-of_masked_signed, right-of_low, left-of_low, low-of_left, bitwise_or-commutes, bitwise_xor-commutes)
 
--- these beside exact sums and differences, and in order. Without `ints`: beside a number with a sign its search comes to its limit
+-- these with exact sums, differences and orders. Without `ints`, because with a signed number the search reaches its limit
 pub ruleset variable_parts = (Decides-int_eq, lt-tested, le-tested, not-of_highest, not-of_minus_one, right-of_highest, low-exact, and-not_low, left-of_one, and-low, rest-in_range, parts-in_range, parts-exact, rest-rounds)

@@ -45,7 +45,7 @@ module _ (s t : Bool) (A B : ℕ) (x y : ℤ) (wider : A ≤ B) where
   pub product-left : wrap s A (wrap t B y *ℤ x) ≡ wrap s A (y *ℤ x)
   product-left = alike s A _ _ (Congruent-mul A (wrap t B y) y x x low (Congruent-refl A x))
 
--- the same of a primitive that wraps, at its own width
+-- the same for a primitive that wraps, at its own width
 pub word_sum-right : (B a b m : ℕ) (y : ℤ) → m ≡ 2 ^ B → 1 ≤ B → pos b ≡ wrap false B y → Congruent B (pos ((a + b) % m)) (pos a +ℤ y)
 word_sum-right B a b m y e h f =
     let total : pos (a + b) ≡ pos a +ℤ pos b = omega (arith, ints) in

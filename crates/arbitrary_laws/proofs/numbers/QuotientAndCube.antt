@@ -31,7 +31,7 @@ between m (pos n) f g =
     let b = below n m (omega (arith, ints)) in
     (omega (arith, ints), omega (arith, ints))
 
--- a third power, and what it is at most for a number of so many bits
+-- a third power, and its maximum for a number of 4 and of 8 bits
 pub power-thrice : (x : ℤ) → (int_pow x 3 ≡ x *ℤ x *ℤ x) × (pos 0 ≤ℤ x → x ≤ℤ pos 15 → (pos 0 ≤ℤ int_pow x 3) × (int_pow x 3 ≤ℤ pos 3375))
     × (pos 0 ≤ℤ x → x ≤ℤ pos 255 → (pos 0 ≤ℤ int_pow x 3) × (int_pow x 3 ≤ℤ pos 16581375))
 power-thrice x = (cube x, λ f g. between 15 x f g, λ f g. between 255 x f g)

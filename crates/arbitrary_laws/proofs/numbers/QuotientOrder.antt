@@ -26,7 +26,7 @@ quotient-of_product a b h = mul-div_cancel a h
 pub quotient-of_quotient : (a b c : ℕ) → a / b / c ≡ a / (b * c)
 quotient-of_quotient a b c = div-div-eq-div-mul a b c
 
--- a number of which so many parts are taken, out of at least as many
+-- b of c equal parts of a number: at most the number where b is at most c
 pub quotient-of_parts : (a b c : ℕ) → 0 < c → (a * b / c ≡ a * b / c) × (a ≤ c → a * b / c ≤ b) × (b ≤ c → a * b / c ≤ a)
 quotient-of_parts a b c g = (refl, parts a b, λ h. let t : a * b ≡ b * a = grind arith in omega (arith, ap (λ (n : ℕ). n / c) t, parts b a h))
   where

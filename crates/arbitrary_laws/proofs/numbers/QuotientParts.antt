@@ -41,7 +41,7 @@ pub ruleset quotient_parts = (lt-tested, le-tested, quotient-of_product, quotien
 ordered : (a b c d : ℕ) → 0 < d → a ≤ b → d ≤ c → a / c ≤ b / d
 ordered a b c d h g l = le_trans (quotient-by_more a d c h l) (quotient-orders a b d g)
 
--- the premises are what a test and the calls tell: that a divisor is above 0 would be a case of its own
+-- the premises are what a test and the calls state: that a divisor is above 0 would be a case of its own
 pub quotients-ordered : (x y z w : ℤ) → pos 0 ≤ℤ x → x ≤ℤ y → pos 0 ≤ℤ w → w ≢ pos 0 → w ≤ℤ z → int_div x z ≤ℤ int_div y w
 quotients-ordered (negsuc a) y z w f g h n l = absurd (omega (arith, ints))
 quotients-ordered (pos a) (negsuc b) z w f g h n l = absurd (omega (arith, ints))

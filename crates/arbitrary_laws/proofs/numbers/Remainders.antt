@@ -45,5 +45,5 @@ signed_quotient-with_remainder x y h =
 
 pub ruleset remainders = (ints, lt-tested, le-tested, gt-tested, ge-tested, signed_quotient-with_remainder)
 
--- without a sign: beside the law above a difference stays open
+-- without a sign. With the law above, a difference would not be proved
 pub ruleset natural_remainders = (ints, Decides-int_eq, lt-tested, le-tested, quotient-with_remainder)

@@ -95,7 +95,7 @@ and-below_or B x y h =
 
 -- ---- where it has one: which results are below 0
 
--- the last bit tells whether a number with a sign is below 0
+-- the last bit is whether a number with a sign is below 0
 pub fill-is_negative : (B : ℕ) (x : ℤ) → 1 ≤ B → InRange true B x → fill true (bits B x) ≡ int_lt x (pos 0)
 fill-is_negative B (pos n) h r =
     let t = r.high in

@@ -71,7 +71,7 @@ difference-above x y r p q n f g e a b c = grind (arith, ints)
 difference-below : (x y r p q n : ℤ) → x <ℤ pos 0 → pos 0 ≤ℤ y → pos 0 ≤ℤ r → Signs x y p → Signs x r q → Both p q n → n <ℤ pos 0
 difference-below x y r p q n f g e a b c = grind (arith, ints)
 
--- what a number `n` tells of an overflow by its sign, where `r` is the result that wraps
+-- an overflow by the sign of a number `n`, where `r` is the result that wraps
 told : (B : ℕ) (z r n : ℤ) → Once B z r → (r ≡ z → n <ℤ pos 0 → ⊥) → (z <ℤ lo true B → r ≡ z +ℤ pos (2 ^ B) → n <ℤ pos 0)
     → (hi true B <ℤ z → r ≡ z -ℤ pos (2 ^ B) → n <ℤ pos 0) → (n <ℤ pos 0) ↔ ¬ (InRange true B z)
 unfolding Once

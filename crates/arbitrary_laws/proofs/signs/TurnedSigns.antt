@@ -49,7 +49,7 @@ turned-order B x y z h f g e = ap₂ int_cmp (turned-number B x z h f e) (turned
 -- numbers whose sign is turned over
 pub ruleset turned_signs = (Decides-int_eq, turned-number, turned-order)
 
--- ---- the same of a number with no sign
+-- ---- the same for a number with no sign
 
 -- an unsigned number with its highest bit turned over: the number of its bits with a sign, moved up
 module _ (B n : ℕ) (x : ℤ) (h : 1 ≤ B) (e : n ≡ 2 ^ (B - 1)) where

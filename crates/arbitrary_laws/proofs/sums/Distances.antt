@@ -10,7 +10,7 @@ use Rattle.arbitrary_base.specs.Operation.{wrapped_difference}
 use Rattle.arbitrary_base.proofs.modular.Congruence.{pow_half}
 use Rattle.arbitrary_laws.proofs.sums.ExactSums.{difference-converted, difference-exact}
 
--- the premises are what a test and the calls tell, word for word: bounds on the difference would split the search by signs
+-- the premises are what a test and the calls state, word for word: bounds on the difference would split the search by signs
 module _ (B : ℕ) (x y : ℤ) (some : 1 ≤ B) (f : InRange true B x) (g : InRange true B y) where
   pub apart-at_least : y ≤ℤ x → wrap false B (wrapped_difference true B x y) ≡ x -ℤ y
   apart-at_least l =

@@ -54,5 +54,5 @@ module _ (y d b : ℕ) (c : 0 < d) (p : bit_and d (d - 1) ≡ 0) (l : b < d) whe
 
 pub ruleset multiples = (multiple_is, multiple_over, over_multiple, product_over, over_product)
 
--- where `&` with a mask says that the low bits are 0. Beside the laws of masks this one takes the search to its limits
+-- where `&` with a mask says that the low bits are 0. With the laws of masks this one takes the search to its limits
 pub ruleset masked_multiples = (masked_is, or_apart, multiple_over, over_multiple)

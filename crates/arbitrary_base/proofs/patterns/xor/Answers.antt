@@ -1,4 +1,4 @@
--- For `xor` in src/patterns.rt: the lemma on `^` of two patterns that fit. Those of `and` and `or` stand beside it in CodeOnPatterns.antt.
+-- For `xor` in src/patterns.rt: the lemma on `^` of two patterns that fit. CodeOnPatterns.antt also has those of `and` and `or`.
 use Rattle.arbitrary_base.proofs.bit_lists.CodeOnPatterns.{xor_pattern}
 use Rattle.arbitrary_base.proofs.patterns.xor.Goals as goal
 

@@ -1,5 +1,5 @@
--- For `lower` in src/raised.rt: a shift down that copies the sign, in the words of numbers. The lemma stands in storages/RaisedNumber.antt, as
--- that of `raise` in the folder beside this does; `add` and `mul` use both.
+-- For `lower` in src/raised.rt: a shift down that copies the sign, stated on numbers. The lemmas of `lower` and `raise` are in
+-- storages/RaisedNumber.antt; `add` and `mul` use both.
 use Rattle.arbitrary_base.proofs.storages.RaisedNumber.{lower-value}
 use Rattle.arbitrary_base.proofs.raised.lower.Goals as goal
 
