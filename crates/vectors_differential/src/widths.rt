@@ -4,7 +4,7 @@ use crate::{arithmetic, bits, steps};
 use arbitrary_int::prelude::*;
 
 /// The first call that is wrong on any operand of this type. Steps run on two registers.
-fn wrong<V: BitwiseOperators>(sample: V, registers: &mut [V]) -> Option<&'static str> {
+fn wrong<V: FixedWidth>(sample: V, registers: &mut [V]) -> Option<&'static str> {
     let of_arithmetic = arithmetic::wrong(sample);
     if of_arithmetic.is_some() {
         return of_arithmetic;

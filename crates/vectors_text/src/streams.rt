@@ -121,7 +121,7 @@ fn calls(lasts: usize, count: usize) -> usize {
 }
 
 /// Reads the value from a stream that ends after `lasts` of its bytes.
-fn is_read<V: Integer>(rt: &impl Abort, value: V, lasts: usize, fault: Option<ErrorKind>)
+fn is_read<V: Integer + Stored>(rt: &impl Abort, value: V, lasts: usize, fault: Option<ErrorKind>)
     requires { V.valid }
 {
     let mut bytes = [0; 16];
@@ -139,7 +139,12 @@ fn is_read<V: Integer>(rt: &impl Abort, value: V, lasts: usize, fault: Option<Er
 }
 
 /// Writes the value to a stream that takes `lasts` of its bytes.
-fn is_written<V: Integer>(rt: &impl Abort, value: V, lasts: usize, fault: Option<ErrorKind>)
+fn is_written<V: Integer + Stored>(
+    rt: &impl Abort,
+    value: V,
+    lasts: usize,
+    fault: Option<ErrorKind>,
+)
     requires { V.valid }
 {
     let mut bytes = [0; 16];
@@ -166,7 +171,7 @@ fn is_written<V: Integer>(rt: &impl Abort, value: V, lasts: usize, fault: Option
 }
 
 /// Reads the value from its bytes, and writes it, where the stream ends or fails after each number of bytes up to all.
-fn goes_through_streams<V: Integer>(rt: &impl Abort, value: V, bytes: &[u8])
+fn goes_through_streams<V: Integer + Stored>(rt: &impl Abort, value: V, bytes: &[u8])
     requires { V.valid }
 {
     let mut all = [0; 16];
@@ -200,7 +205,11 @@ fn values_a_byte_at_a_time(rt: HostRuntime) {
 }
 
 /// One value read from a stream of which one call has failed by then.
-fn reads<V: Integer>(rt: &impl Abort, reader: &mut Watched<Stumbling>, wanted: Result<V, ErrorKind>)
+fn reads<V: Integer + Stored>(
+    rt: &impl Abort,
+    reader: &mut Watched<Stumbling>,
+    wanted: Result<V, ErrorKind>,
+)
     requires { V.valid }
 {
     let read = V::deserialize_reader(reader).map_err(|error| error.kind());
@@ -209,7 +218,7 @@ fn reads<V: Integer>(rt: &impl Abort, reader: &mut Watched<Stumbling>, wanted: R
 }
 
 /// One value written to a stream of which one call has failed by then.
-fn writes<V: Integer>(
+fn writes<V: Integer + Stored>(
     rt: &impl Abort,
     writer: &mut Watched<Stumbling>,
     value: V,
@@ -221,7 +230,7 @@ fn writes<V: Integer>(
 }
 
 /// After a fault the same stream is read and written as if there had been none. The flag and the count stay.
-fn goes_on_after_a_fault<V: Integer>(rt: &impl Abort, value: V)
+fn goes_on_after_a_fault<V: Integer + Stored>(rt: &impl Abort, value: V)
     requires { V.valid }
 {
     let mut bytes = [0; 16];
