@@ -33,6 +33,7 @@ COUNTED = ['no', 'one', 'two', 'three', 'four', 'five', 'six', 'seven', 'eight',
 MEASURED = (ROOT / 'tools/measured.txt').read_text()
 MINUTES, PROCESSOR_MINUTES = re.search(r'with nothing proved \| (\d+) \| (\d+)', MEASURED).groups()
 MORE_MINUTES = re.search(r'bitrun\.sh` after that \| (\d+)', MEASURED)[1]
+GATE_MINUTES, GATE_PROCESSOR = re.search(r'test\.sh`, .*\| (\d+) \| (\d+)', MEASURED).groups()
 GENERIC = re.findall(r'` types? \| (\d\.\d) \|', MEASURED)
 JOBS = re.search(r'-le \d+ \] \|\| jobs=(\d+)', (ROOT / 'prove.sh').read_text())[1]
 # The input of `bitrun` whose output the gate compares, and the lines of that output.
@@ -42,6 +43,8 @@ FIGURES = [
     (r"printf '(.*)' \| \./bitrun\.sh", INPUT.replace('\n', '\\n')), (r'\./bitrun\.sh +# (`.*`)\n', ', '.join(f'`{line}`' for line in OUTPUT.splitlines())),
     (r'about (\d+) minutes', MINUTES), (r'(\d+) processor minutes', PROCESSOR_MINUTES), (r'in (\d+) more\s+minutes', MORE_MINUTES),
     (r'type takes (\d\.\d) seconds', GENERIC[0]), (r'over two (\d\.\d)', GENERIC[1]), (r'two `Integer` types (\d\.\d)', GENERIC[2]),
+    (r'one `BitwiseOperators` type (\d\.\d)', GENERIC[3]), (r'takes (\d+) minutes, and', GATE_MINUTES),
+    (r'and (\d+) of processor time', GATE_PROCESSOR), (r'wrong bodies: (\d+) minutes', GATE_MINUTES),
     (r'(\d+,\d+) bytes', f'{LIMIT:,}'), (r'(\d+,\d+) reads', f'{LIMIT + 1:,}'), (r'the (\w+) primitive integers', COUNTED[STORAGES]),
     (r'sentences of at most (\d+) words', str(SENTENCE)),
     (r'on lines of at most (\d+) columns', str(names.COLUMNS)), (r'module of at most (\d+) lines', str(names.LINES)),
