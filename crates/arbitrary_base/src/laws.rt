@@ -11,8 +11,8 @@ pub fn wrap_laws()
     ensures keeps { WrapKeeps }
 {}
 
-/// `in_range` tests whether a number is in range. `clamp` keeps a number in range, and moves any other to
-/// the nearest end of the range.
+/// `in_range` tests whether a number is in range, and `clamp` moves a number that is not to the nearest end of
+/// the range.
 #[tactic(auto, using(crate::proofs::LawProof::range_rules))]
 pub fn range_laws()
     ensures test { TestTellsRange }

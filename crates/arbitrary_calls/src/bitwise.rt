@@ -1,6 +1,6 @@
 //! The bitwise operators of an integer of fixed width, for generic code that needs no other law. `run` requires this
 //! trait and not `FixedWidth`, because the check of a contract takes longer with each law of its bounds. `FixedWidth`
-//! states the laws again, because the search tries those of a parent in another order, which left a fact open.
+//! states the laws again: the search tries the laws of a parent in another order, and then did not prove a fact.
 
 ghost use Rattle.std.specs.Prelude.{◌≡◌};
 ghost use Rattle.arbitrary_base.specs.Operation.{bitwise_and, bitwise_not, bitwise_or, bitwise_xor};
