@@ -21,7 +21,8 @@ PAGE = ROOT / 'docs/PERFORMANCE.md'
 CALL, PROGRAM = 'Call in a loop, an element', 'Program, an item'
 SUMMARY = ('Instructions, as a share of those of the Rust crate', 'Figure')
 PICTURES = ROOT / 'docs/pictures'
-GREY, BLUE, ORANGE, GREEN, PALE = '#7a828d', '#3b82f6', '#dd7a1f', '#2f9e58', '#7a828d40'
+# Each colour has about the same contrast to white and to a dark page.
+GREY, BLUE, ORANGE, GREEN, PALE, WHITE = '#737b86', '#2f78e6', '#c2650c', '#2a8a4a', '#737b8640', '#ffffff'
 
 
 def cells(row):
@@ -121,19 +122,6 @@ def calls():
     return picture(left + 3 * wide, top + 2 * (len(names) * high + 64) - 34, 'Instructions of each call in a loop, here and in the Rust crate', parts)
 
 
-def grid(places, top, high, ends):
-    """Vertical lines through rows of bars, but not through the number after the end of a bar."""
-    parts = []
-    for x in places:
-        first = top
-        for place, end in enumerate([*ends, None]):
-            y = top + place * high
-            if end is None or end - 4 < x < end + 48:
-                parts += [line(x, first, x, y)] if first < y else []
-                first = y + high
-    return parts
-
-
 def ratios():
     """For each input the share of the instructions of ordinary Rust that `bitrun` takes, the greatest first."""
     return sorted(((number(row['ratio']), row['Input'].strip('`')) for row in rows_of('Input')), reverse=True)
@@ -142,17 +130,19 @@ def ratios():
 def inputs():
     """`bitrun` and ordinary Rust: for each input the share of the instructions."""
     rows = ratios()
-    left, full, high, top = 170, 480, 18, 48
-    parts = [text(left, 20, 'Instructions of bitrun, as a share of those of ordinary Rust', size=13, weight='bold')]
-    for tick in range(0, 101, 25):
-        x = left + full * tick / 100
-        parts += [line(x, top - 8, x, top), text(x, top - 12, f'{tick} %', 'middle')]
-    parts += grid([left + full * tick / 4 for tick in range(5)], top, high, [left + full * share for share, _ in rows])
+    left, full, high, top = 170, 480, 19, 48
+    parts = [text(left, 20, 'Instructions of bitrun, where ordinary Rust has 1.00', size=13, weight='bold')]
+    for tick in range(5):
+        x = left + full * tick / 4
+        # The longer bars are above the shorter ones, and a line begins where no bar covers it.
+        covered = sum(share >= tick / 4 for share, _ in rows)
+        parts += [line(x, top - 8, x, top)] * (covered > 0) + [line(x, top + covered * high - 8 * (covered == 0), x, top + high * len(rows))]
+        parts.append(text(x, top - 12, f'{tick / 4:.2f}', 'middle'))
     for place, (share, name) in enumerate(rows):
         y = top + place * high
-        parts += [text(left - 8, y + 13, name, 'end', 13), box(left, y + 3, full * share, high - 5, BLUE)]
-        parts.append(text(left + full * share + 6, y + 13, f'{round(100 * share)} %', size=12))
-    return picture(left + full + 50, top + high * len(rows) + 10, 'bitrun and ordinary Rust', parts)
+        parts += [text(left - 8, y + 13, name, 'end', 13), box(left, y + 1, full * share, high - 3, BLUE)]
+        parts.append(text(left + full * share - 5, y + 12.5, f'{share:.2f}', 'end', 11, WHITE, 'bold'))
+    return picture(left + full + 30, top + high * len(rows) + 6, 'bitrun and ordinary Rust', parts)
 
 
 def record():
@@ -160,7 +150,7 @@ def record():
     bits, start, value, width = 16, 3, 21, 5
     before = 0b1010_0110_1001_0110
     after = before & ~((2 ** width - 1) << start) | value << start
-    cell, left, parts = 34, 160, []
+    cell, left, parts = 34, 70, []
 
     def row(y, name, word, colour_of):
         parts.append(text(left - 12, y + 22, name, 'end', 14))
@@ -212,48 +202,52 @@ def listed():
 
 
 def layers():
-    """The crates: each box uses only boxes below it."""
+    """The crates. It fails unless each crate is above all that it uses."""
     full, high, gap, third, crates = 700, 48, 6, 228, listed()
+    # Three columns of the upper rows, the lower rows, and what each crate has.
+    program = ['bitrun', 'bitrun_service', 'bitrun_text']
+    lower = [['arbitrary_int'], ['arbitrary_calls', 'arbitrary_constants', 'arbitrary_version_1'], ['arbitrary_core'],
+             ['arbitrary_traits', 'arbitrary_widths'], ['arbitrary_base']]
     texts = {
         'bitrun': 'the program', 'bitrun_service': 'runs steps, writes the output', 'bitrun_text': 'parses the text',
         'arbitrary_laws': 'laws for your proofs', 'bit_fields': 'fields in a record',
         'arbitrary_int': 'the crate to import; adds run, run_wide, bytes, streams, sums and ranges',
         'arbitrary_calls': 'wrapping and checked calls, shifts, counts', 'arbitrary_constants': 'MIN, MAX, ZERO, MASK',
         'arbitrary_version_1': 'the deprecated Number',
-        'arbitrary_core': 'UInt and Int, their operators, order, hash and text',
-        'arbitrary_traits': 'the trait Integer, also for primitives', 'arbitrary_widths': 'the widths of a storage',
-        'arbitrary_base': 'definitions, and arithmetic at a width in every storage', 'examples': '', 'examples_tour': '',
+        'arbitrary_core': 'UInt and Int, their operators, conversions, hash and text',
+        'arbitrary_traits': 'Integer, and its impls for primitives', 'arbitrary_widths': 'which widths are valid',
+        'arbitrary_base': 'definitions, and arithmetic at a width in every primitive',
     }
-    rows = [['arbitrary_int'], ['arbitrary_calls', 'arbitrary_constants', 'arbitrary_version_1'], ['arbitrary_core'], ['arbitrary_traits', 'arbitrary_widths'], ['arbitrary_base']]
-    rows = [[name for name in row if name in crates] for row in rows]
-    drawn = [name for name in texts if name in crates]
-    missing = {other for name in drawn for other in crates[name]} - {*drawn}
-    if missing:
-        sys.exit(f'charts.py does not draw {sorted(missing)}, which another crate of the picture uses')
+    lower = [[name for name in row if name in crates] for row in lower]
+    rows = {'examples': 0, 'examples_tour': 0, 'arbitrary_laws': 1, 'bit_fields': 2} | {name: row for row, name in enumerate(program)}
+    rows |= {name: 3 + down for down, row in enumerate(lower) for name in row}
+    others = [name for name in crates if name not in rows]
+    # In one box, a crate may use another.
+    wrong = [f'{name} above {used}' for name in rows if name in crates for used in crates[name] if rows.get(used, 9) <= rows[name] and used != 'examples']
+    wrong += [f'{name} above {used}' for name in others for used in crates[name] if used not in others and rows.get(used) == 0]
+    if wrong:
+        sys.exit(f'charts.py does not draw {", ".join(wrong)}')
     parts = []
 
-    def crate(x, y, width, tall, name, lines, colour):
-        first = y + tall / 2 - 10 * len(lines) + 5
-        parts.append('<g>' + box(x, y, width, tall, colour + '1a', colour, 5))
-        parts.append(text(x + width / 2, first, name, 'middle', 15, colour, 'bold'))
-        parts.extend(text(x + width / 2, first + 20 * place, line, 'middle', 13) for place, line in enumerate(lines, 1))
-        parts.append('</g>')
-    for down, name in enumerate(['bitrun', 'bitrun_service', 'bitrun_text']):
-        crate(10, 10 + down * (high + gap), third, high, name, [texts[name]], ORANGE)
-    x, y, two = 10 + third + gap, 10 + 2 * (high + gap), 2 * high + gap
-    wide = (full - third - 2 * gap) / 2
-    others = len(crates) - len(drawn)
-    crate(x, 10, wide, two, 'examples, examples_tour', ['registers, frames,', 'sensors, logs'], GREEN)
-    crate(x + wide + gap, 10, wide, two, 'tests and benchmarks', [f'{others} crates: facts, laws, vectors,', 'bounds, pages, costs'], GREY)
-    for across, name in enumerate(['arbitrary_laws', 'bit_fields']):
-        crate(x + across * (wide + gap), y, wide, high, name, [texts[name]], BLUE)
-    for down, row in enumerate(rows):
+    def crate(x, row, width, name, line, colour):
+        y = 10 + row * (high + gap)
+        parts.append('<g>' + box(x, y, width, high, colour + '1a', colour, 5))
+        parts.append(text(x + width / 2, y + 19, name, 'middle', 15, colour, 'bold'))
+        parts.append(text(x + width / 2, y + 39, line, 'middle', 13) + '</g>')
+    for name in program:
+        crate(10, rows[name], third, name, texts[name], ORANGE)
+    x, wide = 10 + third + gap, (full - third - 2 * gap) / 2
+    crate(x, 0, wide, 'examples', 'registers, frames, sensors', GREEN)
+    crate(x + wide + gap, 0, wide, f'{len(others)} crates of tests', 'facts, laws, vectors, costs', GREY)
+    for name in ('arbitrary_laws', 'bit_fields'):
+        crate(x, rows[name], full - third - gap, name, texts[name], BLUE)
+    for row in lower:
         x = 10
         for name, share in zip(row, {1: [1], 2: [0.68, 0.32], 3: [0.48, 0.26, 0.26]}[len(row)]):
             width = (full - gap * (len(row) - 1)) * share
-            crate(x, 10 + (3 + down) * (high + gap), width, high, name, [texts[name]], BLUE)
+            crate(x, rows[name], width, name, texts[name], BLUE)
             x += width + gap
-    return picture(full + 20, 14 + 8 * (high + gap), 'The crates as layers', parts)
+    return picture(full + 20, 14 + (3 + len(lower)) * (high + gap), 'The crates as layers', parts)
 
 
 def mean(shares):
