@@ -29,8 +29,6 @@ BY_HEADING = {
     'well_formed': 'steps', 'run': 'steps', 'run_wide': 'steps', 'Watched::new': 'bytes', 'Watched::failed': 'bytes', 'Watched::failures': 'bytes',
 }
 PRIMITIVE = r'[ui](?:\d+|size)'
-# Rows of the first table of the page are clauses, and have no marks.
-FIRST_HEADING = '\n## '
 ITEM = re.compile(r'(?:pub )?(?:final )?(?:const )?(fn|struct|enum|trait|type|const) (\w+)')
 
 
@@ -84,8 +82,8 @@ def named(cell):
 
 def marked(text, names):
     """The page of calls with a mark in each row of calls that are among the names, and for each row its pattern, its type and its mark."""
-    start, rows, lines = text.index(FIRST_HEADING), [], []
-    for line in text[start:].split('\n'):
+    rows, lines = [], []
+    for line in text.split('\n'):
         line = re.sub(r'<a id="[^"]*"></a>', '', line)
         cell = re.match(r'\| (`.*?) \| ', line)
         first, pattern, only = named(cell.group(1)) if cell else ('', '', None)
@@ -96,7 +94,7 @@ def marked(text, names):
             rows.append((pattern, only, mark))
             line = f'| {cell.group(1)}<a id="{mark}"></a>{line[cell.end(1):]}'
         lines.append(line)
-    return text[:start] + '\n'.join(lines), rows
+    return '\n'.join(lines), rows
 
 
 def linked(name, rows):

@@ -113,10 +113,10 @@ def main():
             kind = next((kind for kind, keys in kinds.items() if key in keys), 'proved' if is_proved(lines) else 'inside')
             print(f'{kind:9}{len(lines):3}  {key[0].relative_to(ROOT)}  {key[1]}')
     counts = [sum(len(known[key]) for key in keys) for keys in kinds.values()]
-    print(f'{counts[0]} lines must be believed, {counts[1]} more for `bit_fields`, and {counts[2]} more for the program')
+    print(f'trusted lines: {counts[0]} for the libraries, {counts[1]} more for `bit_fields`, and {counts[2]} more for the program')
     page = ROOT / 'docs/ARCHITECTURE.md'
     stated = text = page.read_text()
-    figures = [r'\b\d+(?= lines must be believed)', r'\b\d+(?= more for `bit_fields`)', r'\b\d+(?= more for the program)']
+    figures = [r'\b\d+(?= for the libraries)', r'\b\d+(?= more\sfor\s`bit_fields`)', r'\b\d+(?= more for the program)']
     for figure, count in zip(figures, counts):
         stated = re.sub(figure, str(count), stated)
     if '--write' in sys.argv[1:]:

@@ -2,8 +2,8 @@
 """pages.py [--words] [--write]
 
 Fails if a page has too many words, the README too many lines, or a sentence more than 30 words. It also fails if a figure in a sentence differs
-from its source, or if a number above 128 has no source. With --words it prints the words of each page, and with --write it writes the figures.
-The generated docs/API.md does not count.
+from its source or is on no page, or if a number above 128 has no source. With --words it prints the words of each page, and with --write it
+writes the figures. The generated docs/API.md does not count.
 """
 import re
 import subprocess
@@ -23,35 +23,59 @@ README_LINES = 90
 SENTENCE = 30
 
 
-# The longest input of `bitrun`, as its source has it.
-LIMIT = int(re.search(r'const LONGEST_INPUT: usize = ([\d_]+);', (ROOT / 'crates/bitrun_service/src/stream.rt').read_text())[1].replace('_', ''))
+def source(name, pattern):
+    """What the groups of a pattern match in a file of the repository."""
+    return re.search(pattern, (ROOT / name).read_text(), re.M).groups()
+
+
+MEASURED, PROVE, STREAM, NUMERAL = 'tools/measured.txt', 'prove.sh', 'crates/bitrun_service/src/stream.rt', 'crates/bitrun_text/src/numeral.rt'
+# tools/believed.py writes the trusted lines there.
+TRUSTED = 'docs/ARCHITECTURE.md'
+LIMIT = int(source(STREAM, r'const LONGEST_INPUT: usize = ([\d_]+);')[0].replace('_', ''))
 STORAGES = sum(file.read_text().count('impl Storage for') for file in (ROOT / 'crates/arbitrary_base/src').rglob('*.rt'))
-# The definitions to believe, as tools/believed.py writes them.
-BELIEVED = (ROOT / 'docs/ARCHITECTURE.md').read_text()
 COUNTED = ['no', 'one', 'two', 'three', 'four', 'five', 'six', 'seven', 'eight', 'nine', 'ten', 'eleven', 'twelve']
-# The times that tools/measured.txt has of the README's commands and of generic contracts, and the most jobs of prove.sh.
-MEASURED = (ROOT / 'tools/measured.txt').read_text()
-MINUTES, PROCESSOR_MINUTES = re.search(r'with nothing proved \| (\d+) \| (\d+)', MEASURED).groups()
-MORE_MINUTES = re.search(r'bitrun\.sh` after that \| (\d+)', MEASURED)[1]
-GATE_MINUTES, GATE_PROCESSOR = re.search(r'test\.sh`, .*\| (\d+) \| (\d+)', MEASURED).groups()
-GENERIC = re.findall(r'` types? \| (\d\.\d) \|', MEASURED)
-JOBS = re.search(r'-le \d+ \] \|\| jobs=(\d+)', (ROOT / 'prove.sh').read_text())[1]
 # The input of `bitrun` whose output the gate compares, and the lines of that output.
 INPUT, OUTPUT = ((ROOT / 'crates/bitrun' / name).read_text() for name in ('stdin', 'stdout'))
-# What the prose says with a figure, and the figure.
+FUNCTIONS, _, FOUND, _ = SAMPLE = source(MEASURED, r'sample .*? \| (\d+) \| (\d+) \| (\d+) \| ([\d,]+) \|')
+FACTS, FOUND_FACTS = source(MEASURED, r'everyday .*? \| (\d+) \| \d+ \| (\d+) \|')
+# A quarter of the processor time for each open function.
+SECONDS = float(SAMPLE[3].replace(',', '')) / (int(FUNCTIONS) - int(SAMPLE[1])) / 4
+# What a page says with figures, and these figures.
 FIGURES = [
-    (r"printf '(.*)' \| \./bitrun\.sh", INPUT.replace('\n', '\\n')), (r'\./bitrun\.sh +# (`.*`)\n', ', '.join(f'`{line}`' for line in OUTPUT.splitlines())),
-    (r'about (\d+) minutes', MINUTES), (r'(\d+) processor minutes', PROCESSOR_MINUTES), (r'in (\d+) more\s+minutes', MORE_MINUTES),
-    (r'type takes (\d\.\d) seconds', GENERIC[0]), (r'over two (\d\.\d)', GENERIC[1]), (r'two `Integer` types (\d\.\d)', GENERIC[2]),
-    (r'one `BitwiseOperators` type (\d\.\d)', GENERIC[3]), (r'took (\d+) minutes, and', GATE_MINUTES),
-    (r'and (\d+) minutes of processor time', GATE_PROCESSOR), (r'wrong bodies: (\d+) minutes', GATE_MINUTES),
-    (r'(\d+,\d+) bytes', f'{LIMIT:,}'), (r'(\d+,\d+) reads', f'{LIMIT + 1:,}'), (r'the (\w+) primitive integers', COUNTED[STORAGES]),
+    (r"printf '(.*)' \| \./bitrun\.sh", INPUT.replace('\n', '\\n')),
+    (r'\./bitrun\.sh +# (`.*`)\n', ', '.join(f'`{line}`' for line in OUTPUT.splitlines())),
+    (r'about (\d+) minutes', *source(MEASURED, r'with nothing proved \| (\d+)')),
+    (r'(\d+) processor minutes', *source(MEASURED, r'with nothing proved \| \d+ \| (\d+)')),
+    (r'in (\d+) more\s+minutes', *source(MEASURED, r'bitrun\.sh` after that \| (\d+)')),
+    (r'wrong bodies: (\d+) minutes', *source(MEASURED, r'test\.sh`, .*?\| (\d+) \|')),
+    (r'took (\d+) minutes, and', *source(MEASURED, r'test\.sh`, .*?\| (\d+) \|')),
+    (r'and (\d+) minutes of processor time', *source(MEASURED, r'test\.sh`, .*?\| \d+ \| (\d+)')),
+    (r'(\d+) (?:free )?processors', *source(MEASURED, r'with (\d+) processors')),
+    (r'processors of (\S+) GHz', *source(MEASURED, r'processors of (\S+) GHz')),
+    (r'one `FixedWidth`\s+type takes (\S+) seconds', *source(MEASURED, r'one `FixedWidth` type \| (\S+)')),
+    (r'over two (\d\.\d)', *source(MEASURED, r'two `FixedWidth` types \| (\S+)')),
+    (r'`BitwiseOperators`\s+type (\d\.\d)', *source(MEASURED, r'one `BitwiseOperators` type \| (\S+)')),
+    (r'two `Integer`\s+types (\d\.\d)', *source(MEASURED, r'two `Integer` types \| (\S+)')),
+    (r'`wadd` costs (\d+) instructions', *source(MEASURED, r'`wadd`, .*? \| (\d+)')),
+    (r'ordinary Rust (\d+) to', *source(MEASURED, r'`wadd`, .* (\d+) to')),
+    (r'ordinary Rust \d+ to (\d+)', *source(MEASURED, r'`wadd`, .* to (\d+)')),
+    (r'plain C (\d+)', *source(MEASURED, r'`wadd`, .* (\d+) \|')),
+    (r'proved (\d+ of \d+) functions', f'{FOUND} of {FUNCTIONS}'),
+    (r'and (\d+ of \d+) everyday', f'{FOUND_FACTS} of {FACTS}'),
+    (r'took about (\d+) seconds', f'{SECONDS:.0f}'),
+    (r'at most (\d+) jobs', *source(PROVE, r'-le \d+ \] \|\| jobs=(\d+)')),
+    (r'up to (\d+) GB each', *source(PROVE, r'A job takes up to (\d+) GB')),
+    (r'(\d+,\d+) bytes', f'{LIMIT:,}'),
+    (r'(\d+,\d+) reads', f'{LIMIT + 1:,}'),
+    (r'type has at most (\d+) bits', *source(NUMERAL, r'requires narrow { R.BITS ≤ (\d+) }')),
+    (r'the (\w+) primitive integers', COUNTED[STORAGES]),
+    (r'(\d+) lines of \[definitions', *source(TRUSTED, r'(\d+) for the libraries')),
+    (r'(\d+) more for `bitrun`', *source(TRUSTED, r'(\d+) more for the program')),
     (r'sentences of at most (\d+) words', str(SENTENCE)),
-    (r'on lines of at most (\d+) columns', str(names.COLUMNS)), (r'module of at most (\d+) lines', str(names.LINES)),
-    (r'imperative and has at most (\d+) columns', str(names.SUBJECT)), (r'with at most (\d+) jobs', JOBS),
-    (r'(\d+) lines of \[definitions', re.search(r'(\d+) lines must be believed', BELIEVED)[1]),
-    (r'(\d+) more for `bitrun`', re.search(r'(\d+) more for the program', BELIEVED)[1]),
-    (r'(rattle-kit-\S+ logic \w+)', subprocess.check_output(['rt', 'version'], text=True).strip()),
+    (r'on lines of at most (\d+) columns', str(names.COLUMNS)),
+    (r'module of at most (\d+) lines', str(names.LINES)),
+    (r'imperative and has at most (\d+) columns', str(names.SUBJECT)),
+    (r'\(logic\s+`(\w+)`', subprocess.check_output(['rt', 'version'], text=True).split()[-1]),
 ]
 # Numbers above 128 that are examples or rules of style.
 OTHERS = {'200', '1000'}
@@ -62,7 +86,7 @@ def prose(text):
     text = re.sub(r'```.*?```', '\n\n', text, flags=re.S)
     text = re.sub(r'^(?: {4}|\||#|!\[).*$', '', text, flags=re.M)
     text = re.sub(r'\[((?:[^\[\]`]|`[^`]*`)*)\]\([^)\s]*\)', r'\1', text)
-    text = re.sub(r'`([^`]*)`', lambda code: code[1] if code[1].startswith('rattle-kit') else 'code', text)
+    text = re.sub(r'`[^`]*`', 'code', text)
     text = re.sub(r'^(\s*)(?:- |\d+\. )', r'\n', text, flags=re.M)
     return [' '.join(part.split()) for part in re.split(r'\n\s*\n', text) if part.strip()]
 
@@ -81,6 +105,9 @@ def main():
                 text = re.sub(phrase, lambda found: found[0].replace(found[1], figure), text)
             pages[name] = text
             (ROOT / name).write_text(text)
+    for phrase, _ in FIGURES:
+        if not any(re.search(phrase, text) for text in pages.values()):
+            wrong.append(f'no page has the figure {phrase}')
     for name, text in pages.items():
         words = len(text.split())
         total += words
