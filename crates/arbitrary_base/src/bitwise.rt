@@ -53,7 +53,7 @@ pub fn xor<T: Storage>(x: T, y: T, bits: usize) -> T
     )
 }
 
-/// Each of the `bits` bits turned over.
+/// The complement: each of the `bits` bits is inverted.
 #[tactic(auto, using(crate::proofs::bit_lists::ResultOfPattern::item_laws))]
 pub fn not<T: Storage>(x: T, bits: usize) -> T
     requires width { 1 ≤ bits }

@@ -3,7 +3,7 @@
 ghost use Rattle.std.specs.Prelude.{◌≡◌, ◌≤◌, ◌<◌, ◌*◌, ◌^◌, ℕ, pos, length, take};
 ghost use Rattle.arbitrary_base.specs.ByteLists.{bytes, bytes_number};
 
-/// The 16 bytes of a pattern. The lowest byte comes first.
+/// The 16 bytes of a pattern, lowest first.
 #[tactic(auto, using(crate::proofs::bytes::NumberOfBytes::front_bytes))]
 pub fn all_bytes(pattern: u128) -> [u8; 16]
     ensures { (n : ℕ) → n ≤ 16 → take n result ≡ bytes n (pos pattern) }
@@ -11,7 +11,7 @@ pub fn all_bytes(pattern: u128) -> [u8; 16]
     pattern.to_le_bytes()
 }
 
-/// The pattern that has these bytes, at most 16.
+/// The pattern with these bytes, lowest first. There are at most 16.
 pub fn pattern_of(list: &[u8]) -> u128
     requires { length list.now ≤ 16 }
     ensures value { result ≡ bytes_number list.now }

@@ -8,7 +8,7 @@ use crate::storage::Storage;
 use crate::truncation::is_in_range;
 use crate::{raised, small, wrapping};
 
-/// The sum where the type has it.
+/// The sum, or `None` if it is out of range.
 // With a bit to spare the storage's sum is in range exactly where the exact one is. The compiler makes vectors of the two
 // comparisons, and none of the processor's flag.
 #[tactic(auto, using(crate::proofs::storages::CheckedSum::arithmetic))]
@@ -32,7 +32,7 @@ pub fn add<T: Storage>(x: T, y: T, bits: usize) -> Option<T>
     }
 }
 
-/// The sum where the type has it, at any width up to the storage's.
+/// The sum, or `None` if it is out of range, at any width up to the storage's.
 // The wrapped sum lies below `x` exactly where `y` is below 0, but for an overflow.
 #[tactic(auto, using(crate::proofs::storages::CheckedSum::arithmetic))]
 pub(crate) fn add_by_order<T: Storage>(x: T, y: T, bits: usize) -> Option<T>
@@ -51,7 +51,7 @@ pub(crate) fn add_by_order<T: Storage>(x: T, y: T, bits: usize) -> Option<T>
     }
 }
 
-/// The difference where the type has it.
+/// The difference, or `None` if it is out of range.
 // With a bit to spare the storage's difference is in range exactly where the exact one is.
 #[tactic(auto, using(crate::proofs::storages::CheckedSum::arithmetic))]
 pub fn sub<T: Storage>(x: T, y: T, bits: usize) -> Option<T>
@@ -74,7 +74,7 @@ pub fn sub<T: Storage>(x: T, y: T, bits: usize) -> Option<T>
     }
 }
 
-/// The difference where the type has it, at any width up to the storage's.
+/// The difference, or `None` if it is out of range, at any width up to the storage's.
 #[tactic(auto, using(crate::proofs::storages::CheckedSum::arithmetic))]
 pub(crate) fn sub_by_order<T: Storage>(x: T, y: T, bits: usize) -> Option<T>
     requires width { 1 ≤ bits }
@@ -92,7 +92,7 @@ pub(crate) fn sub_by_order<T: Storage>(x: T, y: T, bits: usize) -> Option<T>
     }
 }
 
-/// The product where the type has it.
+/// The product, or `None` if it is out of range.
 // In 64 bits the product of two small numbers is exact, and the compiler makes vectors of it. Elsewhere the storage multiplies
 // once. A wide signed number with a bit to spare has the processor's flag: moved up to the storage's end, it takes no other test.
 #[tactic(auto, using(crate::proofs::storages::CheckedSum::arithmetic))]
@@ -124,7 +124,7 @@ pub fn mul<T: Storage>(x: T, y: T, bits: usize) -> Option<T>
     }
 }
 
-/// Whether a quotient of two numbers below 0 came out below 0.
+/// Whether two numbers and their wrapped quotient are all below 0.
 fn is_turned<T: Storage>(x: &T, y: &T, quotient: &T) -> bool
     ensures { let number = T.number in
         result ≡ (int_lt (number x.now) (pos 0)
@@ -133,7 +133,7 @@ fn is_turned<T: Storage>(x: &T, y: &T, quotient: &T) -> bool
     is_below_zero(x) && (is_below_zero(y) && is_below_zero(quotient))
 }
 
-/// The quotient where the type has it. The divisor is not zero.
+/// The quotient, or `None` if it is out of range. Requires a divisor other than zero.
 // Only the least number divided by -1 is out of range, and its wrapped quotient keeps the sign.
 #[tactic(auto, using(crate::proofs::integers::Quotient::quotients))]
 pub(crate) fn div_by_nonzero<T: Storage>(x: T, y: T, bits: usize) -> Option<T>
@@ -154,7 +154,7 @@ pub(crate) fn div_by_nonzero<T: Storage>(x: T, y: T, bits: usize) -> Option<T>
     }
 }
 
-/// The quotient where there is one and the type has it: `None` also for a divisor of zero.
+/// The quotient, or `None` if it is out of range or the divisor is zero.
 pub fn div<T: Storage>(x: T, y: T, bits: usize) -> Option<T>
     requires width { 1 ≤ bits }
     requires storage { bits ≤ T.WIDTH }
@@ -171,7 +171,8 @@ pub fn div<T: Storage>(x: T, y: T, bits: usize) -> Option<T>
     }
 }
 
-/// The negated number where the type has it: on a signed type everywhere but at the least number.
+/// The negated number, or `None` if it is out of range. For a signed type, only the negated least
+/// number is.
 pub fn neg<T: Storage>(x: T, bits: usize) -> Option<T>
     requires width { 1 ≤ bits }
     requires storage { bits ≤ T.WIDTH }

@@ -30,7 +30,7 @@ pub fn highest<T: Storage>(bits: usize) -> T
     from_low_bits(reach_below_zero(T::SIGNED, bits).wrapping_sub(1), bits)
 }
 
-/// An end of the range: the low one where the flag is set.
+/// The least number of `bits` bits if `low` is true, and otherwise the greatest.
 pub(crate) fn end<T: Storage>(low: bool, bits: usize) -> T
     requires width { 1 ≤ bits }
     requires storage { bits ≤ T.WIDTH }
@@ -39,7 +39,7 @@ pub(crate) fn end<T: Storage>(low: bool, bits: usize) -> T
     if low { lowest(bits) } else { highest(bits) }
 }
 
-/// Zero.
+/// The number 0.
 #[tactic(auto, using(crate::proofs::storages::CheckedSum::zeros))]
 pub fn zero<T: Storage>() -> T
     ensures { T.number result ≡ pos 0 }
@@ -68,7 +68,7 @@ pub fn is_below_zero<T: Storage>(x: &T) -> bool
     is_below(x, &zero())
 }
 
-/// Whether the type of `bits` bits has the number, by its two ends.
+/// Whether the number is in the range of `bits` bits, by comparison with both ends.
 // As `truncation::is_in_range`, which narrows and compares: this costs less where nothing else needs the narrowed number.
 #[tactic(auto, using(crate::proofs::storages::CheckedSum::ends))]
 pub(crate) fn is_within<T: Storage>(x: &T, bits: usize) -> bool

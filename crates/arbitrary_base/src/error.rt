@@ -5,7 +5,7 @@ ghost use Rattle.std.specs.Prelude.{Some, codes};
 use std::error::Error;
 use std::fmt;
 
-/// A number or a pattern is outside the range of the type that was asked for.
+/// The error for a number or a pattern that is out of range of the target type.
 #[derive(Debug, Clone, PartialEq, Eq, Drop)]
 pub struct TryNewError;
 

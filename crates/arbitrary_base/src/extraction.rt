@@ -8,8 +8,8 @@ ghost use Rattle.arbitrary_base.specs.BitList.{bits as bit_list, val};
 use crate::storage::Storage;
 use crate::truncation::from_low_bits;
 
-/// The number whose bits are the `bits` bits of `source` from place `start_bit` on, the lowest being
-/// place 0. All of them must be bits of `source`.
+/// The number whose bits are `bits` bits of `source`, from bit `start_bit` on. Requires that
+/// `source` has all of them.
 pub fn extract<S: Storage, T: Storage>(source: S, start_bit: usize, bits: usize) -> T
     requires width { 1 ≤ bits }
     requires storage { bits ≤ T.WIDTH }

@@ -2,7 +2,7 @@
 
 ghost use Rattle.arbitrary_base.specs.Laws.{WrapIsInRange, WrapIsCongruent, WrapIsUnique, WrappedSumsCommute, WrappedSumsAssociate, WrappedProductsCommute, WrappedProductsAssociate, WrappedProductsDistribute, CheckedTellsOverflow, CheckedQuotientTellsOverflow, ValueOfBits, BitsOfValue, RotationsUndo, ReversalUndoesItself, OnesAddUp, FrontRunsFit, EndRunsFit, ExtractionComposes, SumsKeepLowBits, DifferencesKeepLowBits, ProductsKeepLowBits, AndKeepsLowBits, OrKeepsLowBits, XorKeepsLowBits, ComplementsKeepLowBits, LeftShiftsKeepLowBits, WrapKeeps, TestTellsRange, ClampKeeps, ClampEndsAbove, ClampEndsBelow, LengthOfBits, NumberOfBits, FieldIsExtracted, ByteReversalUndoesItself, ValueOfBytes, BytesAreUnique, BorshIsCanonical, ValueOfBorsh, BorshIsUnique, TotalIsTheLastPartial, NumberOfPattern, PatternOfNumber, BitsOfPattern};
 
-/// What `wrap` is: the one number of the type that is congruent modulo `2 ^ bits`.
+/// `wrap` returns the one number of the type that is congruent modulo `2 ^ bits`.
 #[tactic(auto, using(crate::proofs::LawProof::wrap_rules))]
 pub fn wrap_laws()
     ensures in_range { WrapIsInRange }
@@ -11,8 +11,8 @@ pub fn wrap_laws()
     ensures keeps { WrapKeeps }
 {}
 
-/// `in_range` tests whether a number is in range, and `clamp` moves a number that is not to the nearest end of
-/// the range.
+/// `in_range` tests whether a number is in range, and `clamp` moves a number that is out of range
+/// to the nearest end.
 #[tactic(auto, using(crate::proofs::LawProof::range_rules))]
 pub fn range_laws()
     ensures test { TestTellsRange }
@@ -21,7 +21,8 @@ pub fn range_laws()
     ensures below { ClampEndsBelow }
 {}
 
-/// Sums and products that wrap commute and associate, and the products distribute over the sums.
+/// Sums and products that wrap are commutative and associative, and the products distribute over
+/// the sums.
 #[tactic(auto, using(crate::proofs::LawProof::wrapped_arithmetic_rules))]
 pub fn wrapped_arithmetic_laws()
     ensures sums_commute { WrappedSumsCommute }
@@ -31,16 +32,17 @@ pub fn wrapped_arithmetic_laws()
     ensures products_distribute { WrappedProductsDistribute }
 {}
 
-/// A checked call has a result exactly where no divisor is zero and its overflowing call has no flag,
-/// and it is the same number.
+/// A checked call has a result exactly if no divisor is zero and its overflowing call has no flag.
+/// Both results are the same number.
 #[tactic(auto, using(crate::proofs::LawProof::checked_rules))]
 pub fn checked_laws()
     ensures results { CheckedTellsOverflow }
     ensures quotients { CheckedQuotientTellsOverflow }
 {}
 
-/// A number in range and its bits determine each other; rotations and reversals undo each other; the counts
-/// fit the list; a part of a part is a part, and what is extracted from a word is a field of it.
+/// A number in range and its bits determine each other. Rotations and reversals undo each other. A
+/// count is at most the length of the list. A part of a part is a part, and an extracted number is
+/// a field of the word.
 #[tactic(auto, using(crate::proofs::LawProof::bit_list_rules))]
 pub fn bit_list_laws()
     ensures length { LengthOfBits }
@@ -56,8 +58,8 @@ pub fn bit_list_laws()
     ensures field { FieldIsExtracted }
 {}
 
-/// What a low-bit operation gives at a wide type, wrapped at a narrow one, is what it gives at the narrow type
-/// on its sources wrapped there, whatever the two signs.
+/// The result of a low-bit operation at a wide type, wrapped to a narrow one, is its result at the
+/// narrow type on wrapped operands. The signs may differ.
 #[tactic(auto, using(crate::proofs::modular::LowBitOperation::low_bit_rules))]
 pub fn low_bit_laws()
     ensures sums { SumsKeepLowBits }
@@ -70,8 +72,8 @@ pub fn low_bit_laws()
     ensures left_shifts { LeftShiftsKeepLowBits }
 {}
 
-/// Reversing bytes twice leaves them. A number in range and its bytes determine each other, also in a stream,
-/// and these are canonical.
+/// Bytes that are reversed twice do not change. A number in range and its bytes determine each
+/// other, also in a stream, and these bytes are canonical.
 #[tactic(auto, using(crate::proofs::bytes::NumberOfBytes::byte_rules))]
 pub fn byte_laws()
     ensures reversal { ByteReversalUndoesItself }
@@ -87,7 +89,8 @@ pub fn total_laws()
     ensures { TotalIsTheLastPartial }
 {}
 
-/// A number in range and its pattern, which is its residue, determine each other, and have the same bits.
+/// A number in range and its pattern, which is its residue, determine each other and have the same
+/// bits.
 #[tactic(auto, using(crate::proofs::modular::RoundTrip::pattern_rules))]
 pub fn pattern_laws()
     ensures number { NumberOfPattern }

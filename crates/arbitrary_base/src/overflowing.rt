@@ -10,7 +10,7 @@ use crate::storage::Storage;
 use crate::truncation::{cast, is_in_range, truncated};
 use crate::{checked, raised, small, wrapping};
 
-/// The sum, wrapped, and whether the exact one is out of range.
+/// The sum, wrapped, and whether the exact sum is out of range.
 #[tactic(auto, using(crate::proofs::storages::Clamp::overflow_laws))]
 pub fn add<T: Storage>(x: T, y: T, bits: usize) -> (T, bool)
     requires width { 1 ≤ bits }
@@ -30,7 +30,7 @@ pub fn add<T: Storage>(x: T, y: T, bits: usize) -> (T, bool)
     }
 }
 
-/// The difference, wrapped, and whether the exact one is out of range.
+/// The difference, wrapped, and whether the exact difference is out of range.
 #[tactic(auto, using(crate::proofs::storages::Clamp::overflow_laws))]
 pub fn sub<T: Storage>(x: T, y: T, bits: usize) -> (T, bool)
     requires width { 1 ≤ bits }
@@ -50,7 +50,7 @@ pub fn sub<T: Storage>(x: T, y: T, bits: usize) -> (T, bool)
     }
 }
 
-/// The product, wrapped, and whether the exact one is out of range.
+/// The product, wrapped, and whether the exact product is out of range.
 // As `checked::mul`.
 #[tactic(auto, using(crate::proofs::storages::Clamp::overflow_laws))]
 pub fn mul<T: Storage>(x: T, y: T, bits: usize) -> (T, bool)
@@ -77,7 +77,8 @@ pub fn mul<T: Storage>(x: T, y: T, bits: usize) -> (T, bool)
     }
 }
 
-/// The quotient, wrapped, and whether the exact one is out of range. The divisor is not zero.
+/// The quotient, wrapped, and whether the exact quotient is out of range. Requires a divisor other
+/// than zero.
 #[tactic(auto, using(crate::proofs::storages::Clamp::overflow_laws))]
 pub fn div<T: Storage>(x: T, y: T, bits: usize) -> (T, bool)
     requires width { 1 ≤ bits }
@@ -94,7 +95,7 @@ pub fn div<T: Storage>(x: T, y: T, bits: usize) -> (T, bool)
     (wrapping::div(x, y, bits), exact.is_none())
 }
 
-/// The negated number, wrapped, and whether the exact one is out of range.
+/// The negated number, wrapped, and whether the exact number is out of range.
 pub fn neg<T: Storage>(x: T, bits: usize) -> (T, bool)
     requires width { 1 ≤ bits }
     requires storage { bits ≤ T.WIDTH }

@@ -38,7 +38,7 @@ pub fn xor(left: u128, right: u128, width: usize) -> u128
     left ^ right
 }
 
-/// Each of the `width` bits turned over.
+/// The complement: each of the `width` bits is inverted.
 pub fn not(pattern: u128, width: usize) -> u128
     requires high { width ≤ 128 }
     requires fits { pattern < 2 ^ width }
@@ -47,7 +47,8 @@ pub fn not(pattern: u128, width: usize) -> u128
     pattern ^ low_mask(width)
 }
 
-/// The bits moved toward the high end by the amount modulo `width`. What passes the end comes back below.
+/// The bits rotated left by `amount` modulo `width`. Bits that leave the high end come in at the
+/// low end.
 // Below 128 bits no places need no case of their own: all the bits are shifted out of the other part.
 pub fn rotate_left(pattern: u128, width: usize, amount: u32) -> u128
     requires low { 1 ≤ width }
@@ -63,7 +64,8 @@ pub fn rotate_left(pattern: u128, width: usize, amount: u32) -> u128
     }
 }
 
-/// The bits moved toward the low end by the amount modulo `width`. What passes the end comes back above.
+/// The bits rotated right by `amount` modulo `width`. Bits that leave the low end come in at the
+/// high end.
 // Below 128 bits no places need no case of their own: all the bits are shifted out of the other part.
 pub fn rotate_right(pattern: u128, width: usize, amount: u32) -> u128
     requires low { 1 ≤ width }
@@ -80,8 +82,8 @@ pub fn rotate_right(pattern: u128, width: usize, amount: u32) -> u128
     }
 }
 
-/// What `u64::reverse_bits` gives, from the two halves: std's body for 32 bits compiles to a byte swap and a
-/// few masks, and its body for 64 bits to a loop over the bits.
+/// The result of `u64::reverse_bits`, from the two halves. std's body for 32 bits compiles to a
+/// byte swap and a few masks, and its body for 64 bits to a loop over the bits.
 fn reverse_u64(x: u64) -> u64
     ensures { result ≡ reversed w64 x }
 {
@@ -90,7 +92,7 @@ fn reverse_u64(x: u64) -> u64
     ((low.reverse_bits() as u64) << 32) | high.reverse_bits() as u64
 }
 
-/// What `u128::reverse_bits` gives, from the two halves.
+/// The result of `u128::reverse_bits`, from the two halves.
 fn reverse_u128(x: u128) -> u128
     ensures { result ≡ reversed w128 x }
 {
@@ -99,7 +101,7 @@ fn reverse_u128(x: u128) -> u128
     ((reverse_u64(low) as u128) << 64) | reverse_u64(high) as u128
 }
 
-/// The bits from the high end to the low one.
+/// The `width` bits in reverse order.
 // In the fewest bits that hold the pattern, and then down. In 8 it moves up first, so that the compiler drops a mask before it.
 pub fn reverse_bits(pattern: u128, width: usize) -> u128
     requires low { 1 ≤ width }
@@ -120,7 +122,7 @@ pub fn reverse_bits(pattern: u128, width: usize) -> u128
     }
 }
 
-/// How many bits are one.
+/// The number of ones.
 pub fn count_ones(pattern: u128, width: usize) -> u32
     requires fits { pattern < 2 ^ width }
     ensures { result ≡ count_by (λ b. b) (bits width (pos pattern)) }
@@ -128,7 +130,7 @@ pub fn count_ones(pattern: u128, width: usize) -> u32
     pattern.count_ones()
 }
 
-/// How many bits at the low end are zero before the first that is one: `width` of them where none is.
+/// The number of zeros at the low end: `width` if no bit is one.
 pub fn trailing_zeros(pattern: u128, width: usize) -> u32
     requires high { width ≤ 128 }
     requires fits { pattern < 2 ^ width }
@@ -137,7 +139,7 @@ pub fn trailing_zeros(pattern: u128, width: usize) -> u32
     pattern.trailing_zeros().min(width as u32)
 }
 
-/// How many bits at the low end are one before the first that is zero: `width` of them where none is.
+/// The number of ones at the low end: `width` if no bit is zero.
 pub fn trailing_ones(pattern: u128, width: usize) -> u32
     requires high { width ≤ 128 }
     requires fits { pattern < 2 ^ width }
@@ -146,7 +148,7 @@ pub fn trailing_ones(pattern: u128, width: usize) -> u32
     trailing_zeros(not(pattern, width), width)
 }
 
-/// How many of the `width` bits at the high end are zero before the first that is one.
+/// The number of zeros at the high end of the `width` bits.
 pub fn leading_zeros(pattern: u128, width: usize) -> u32
     requires high { width ≤ 128 }
     requires fits { pattern < 2 ^ width }
@@ -155,7 +157,7 @@ pub fn leading_zeros(pattern: u128, width: usize) -> u32
     pattern.leading_zeros() - (128 - width as u32)
 }
 
-/// How many of the `width` bits at the high end are one before the first that is zero.
+/// The number of ones at the high end of the `width` bits.
 pub fn leading_ones(pattern: u128, width: usize) -> u32
     requires high { width ≤ 128 }
     requires fits { pattern < 2 ^ width }

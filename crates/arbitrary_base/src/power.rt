@@ -18,7 +18,7 @@ pub fn power_laws()
     ensures products { PowersOfProducts }
 {}
 
-/// One.
+/// The number 1.
 #[tactic(auto, using(crate::proofs::integers::Squaring::one_laws))]
 fn one<T: Storage>() -> T
     ensures { T.number result ≡ pos 1 }
@@ -26,7 +26,7 @@ fn one<T: Storage>() -> T
     T::from_pattern(1)
 }
 
-/// At how many bits the products on the way are tested, which is at least as many as 1 takes.
+/// The number of bits at which the products of a power are tested. The number 1 fits in them.
 // Small signed numbers stop at the range of their type, which takes no more than the storage's.
 fn tested_bits<T: Storage>(bits: usize) -> usize
     requires { bits ≤ T.WIDTH }
@@ -41,7 +41,8 @@ fn tested_bits<T: Storage>(bits: usize) -> usize
     }
 }
 
-/// The product, where the type of `bits` bits has it. Nothing else here multiplies.
+/// The product, or `None` if it is out of range of `bits` bits. No other function of this module
+/// multiplies.
 // In 128 bits a product of two numbers of 64 is exact, and multiplying without a test is much cheaper.
 fn multiply<T: Storage>(x: T, y: T, bits: usize, count: &mut u32) -> Option<T>
     requires width { 1 ≤ bits }
@@ -62,8 +63,8 @@ fn multiply<T: Storage>(x: T, y: T, bits: usize, count: &mut u32) -> Option<T>
     }
 }
 
-/// The power, by squaring, and `None` only where it is further from 0 than the greatest number of `bits`
-/// bits.
+/// The power, by squaring. If the result is `None`, the power is farther from 0 than the greatest
+/// number of `bits` bits.
 fn exact_power<T: Storage>(x: T, exp: u32, bits: usize, count: &mut u32) -> Option<T>
     requires started { count.old ≡ 0 }
     requires some { 2 ≤ bits }
@@ -107,7 +108,7 @@ fn exact_power<T: Storage>(x: T, exp: u32, bits: usize, count: &mut u32) -> Opti
     multiply(product, base, bits, count)
 }
 
-/// Whether the power is below zero: an odd one has the base's sign.
+/// Whether the power is below zero: an odd power has the sign of its base.
 #[tactic(auto, using(crate::proofs::integers::Powers::signs))]
 fn is_power_below_zero<T: Storage>(x: &T, exp: u32) -> bool
     ensures { result ≡ int_lt (int_pow (T.number x.now) exp) (pos 0) }
@@ -115,7 +116,7 @@ fn is_power_below_zero<T: Storage>(x: &T, exp: u32) -> bool
     exp % 2 == 1 && is_below_zero(x)
 }
 
-/// The number, or the end of the range of `bits` bits that is nearest.
+/// The number, or the nearest end of the range of `bits` bits.
 #[tactic(auto, using(crate::proofs::integers::Squaring::ends))]
 fn clamped<T: Storage>(x: T, bits: usize) -> T
     requires width { 1 ≤ bits }
@@ -129,11 +130,11 @@ fn clamped<T: Storage>(x: T, bits: usize) -> T
     }
 }
 
-/// `x` to the power `exp`, or the end of the range of `bits` bits that is nearest, and how many
-/// multiplications that took. 0 to the power 0 is 1.
+/// `x` to the power `exp`, or the nearest end of the range of `bits` bits, and the number of
+/// multiplications. 0 to the power 0 is 1.
 ///
-/// The precondition is that the width is valid and that `x` is in range. Powers of any size are right:
-/// the exact power is clamped, and no step on the way.
+/// Requires a valid width, and `x` in range. Only the exact power is clamped, and no product before
+/// it, so powers of any size are right.
 pub fn saturating_pow_counted<T: Storage>(x: T, exp: u32, bits: usize) -> (T, u32)
     requires width { 1 ≤ bits }
     requires storage { bits ≤ T.WIDTH }
@@ -151,10 +152,8 @@ pub fn saturating_pow_counted<T: Storage>(x: T, exp: u32, bits: usize) -> (T, u3
     (power, count)
 }
 
-/// `x` to the power `exp`, or the end of the range of `bits` bits that is nearest. 0 to the power 0
-/// is 1.
-///
-/// The precondition is that the width is valid and that `x` is in range.
+/// `x` to the power `exp`, or the nearest end of the range of `bits` bits. 0 to the power 0 is 1.
+/// Requires a valid width, and `x` in range.
 pub fn saturating_pow<T: Storage>(x: T, exp: u32, bits: usize) -> T
     requires width { 1 ≤ bits }
     requires storage { bits ≤ T.WIDTH }

@@ -10,7 +10,7 @@ use crate::ends::is_zero;
 use crate::storage::Storage;
 use crate::truncation::equal;
 
-/// The number, moved up.
+/// The number, shifted up to the storage's end.
 fn raise<T: Storage>(x: T, bits: usize) -> T
     requires width { 1 ≤ bits }
     requires storage { bits ≤ T.WIDTH }
@@ -20,7 +20,7 @@ fn raise<T: Storage>(x: T, bits: usize) -> T
     x.shl_by(T::WIDTH - bits)
 }
 
-/// The number, moved down again. A shift that copies the sign undoes `raise`.
+/// The number, shifted down again. The shift copies the sign, so it undoes `raise`.
 fn lower<T: Storage>(x: T, bits: usize) -> T
     requires width { 1 ≤ bits }
     requires storage { bits ≤ T.WIDTH }
@@ -30,7 +30,7 @@ fn lower<T: Storage>(x: T, bits: usize) -> T
     x.shr_by(T::WIDTH - bits)
 }
 
-/// Whether the product, wrapped, is the exact one of the factors. The first is not -1.
+/// Whether the wrapped product is the exact product. Requires a first factor other than -1.
 // Only an exact product gives the other factor back. The compiler makes the flag of the multiplication of it.
 fn is_exact<T: Storage>(product: T, x: T, y: T) -> bool
     requires x_in_range { InRange T.SIGNED T.WIDTH (T.number x) }
@@ -42,7 +42,7 @@ fn is_exact<T: Storage>(product: T, x: T, y: T) -> bool
     is_zero(&x) || equal(&product.wrapping_div(x), &y)
 }
 
-/// The product, wrapped, and whether the exact one is out of range.
+/// The product, wrapped, and whether the exact product is out of range.
 // A number that is moved up is even, so it is never -1.
 pub(crate) fn mul<T: Storage>(x: T, y: T, bits: usize) -> (T, bool)
     requires width { 1 ≤ bits }

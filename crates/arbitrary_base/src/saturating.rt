@@ -8,7 +8,7 @@ use crate::ends::{end, highest, is_below, is_below_zero, lowest, zero};
 use crate::storage::Storage;
 use crate::{checked, overflowing, small};
 
-/// The number, or the end of the range of `bits` bits that is nearest to it.
+/// The number, or the nearest end of the range of `bits` bits.
 #[tactic(auto, using(crate::proofs::storages::Clamp::two_tests))]
 fn clamped<T: Storage>(x: T, bits: usize) -> T
     requires width { 1 ≤ bits }
@@ -26,7 +26,7 @@ fn clamped<T: Storage>(x: T, bits: usize) -> T
     }
 }
 
-/// The sum, or the end of the range that is nearest to it.
+/// The sum, or the nearest end of the range.
 // With a bit to spare the storage has the sum. Elsewhere a signed sum that overflows comes out on the other side of 0.
 #[tactic(auto, using(crate::proofs::storages::Clamp::clamped_sums))]
 pub fn add<T: Storage>(x: T, y: T, bits: usize) -> T
@@ -54,7 +54,7 @@ pub fn add<T: Storage>(x: T, y: T, bits: usize) -> T
     }
 }
 
-/// The difference, or the end of the range that is nearest to it.
+/// The difference, or the nearest end of the range.
 // So it is with a signed difference. An unsigned one below 0 wraps.
 #[tactic(auto, using(crate::proofs::storages::Clamp::clamped_differences))]
 pub fn sub<T: Storage>(x: T, y: T, bits: usize) -> T
@@ -82,7 +82,7 @@ pub fn sub<T: Storage>(x: T, y: T, bits: usize) -> T
     }
 }
 
-/// The product, or the end of the range that is nearest to it.
+/// The product, or the nearest end of the range.
 #[tactic(auto, using(crate::proofs::storages::Clamp::clamps))]
 pub fn mul<T: Storage>(x: T, y: T, bits: usize) -> T
     requires width { 1 ≤ bits }
@@ -100,7 +100,7 @@ pub fn mul<T: Storage>(x: T, y: T, bits: usize) -> T
     }
 }
 
-/// The quotient, or the end of the range that is nearest to it. The divisor is not zero.
+/// The quotient, or the nearest end of the range. Requires a divisor other than zero.
 #[tactic(auto, using(crate::proofs::storages::Clamp::clamps))]
 pub fn div<T: Storage>(x: T, y: T, bits: usize) -> T
     requires width { 1 ≤ bits }
@@ -117,7 +117,7 @@ pub fn div<T: Storage>(x: T, y: T, bits: usize) -> T
     }
 }
 
-/// The negated number, or the end of the range that is nearest to it.
+/// The negated number, or the nearest end of the range.
 pub fn neg<T: Storage>(x: T, bits: usize) -> T
     requires width { 1 ≤ bits }
     requires storage { bits ≤ T.WIDTH }

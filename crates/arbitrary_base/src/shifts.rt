@@ -19,7 +19,8 @@ pub fn places(amount: u32, bits: usize) -> usize
     if amount < bits { amount } else { amount % bits }
 }
 
-/// The bits moved `amount` places toward the high end, with zeros below. What passes the end is lost.
+/// The bits shifted left by `amount`, with zeros from the right. Bits that leave the high end are
+/// lost.
 pub fn shl<T: Storage>(x: T, amount: usize, bits: usize) -> T
     requires width { 1 ≤ bits }
     requires storage { bits ≤ T.WIDTH }
@@ -31,8 +32,8 @@ pub fn shl<T: Storage>(x: T, amount: usize, bits: usize) -> T
     truncated(x.shl_by(amount), bits)
 }
 
-/// The bits moved `amount` places toward the low end. Above come copies of the sign, or zeros where the
-/// type has none. What passes the end is lost.
+/// The bits shifted right by `amount`, with copies of the sign from the left, or zeros for an
+/// unsigned type. Bits that leave the low end are lost.
 // At fewer bits the number has its sign in all the storage's bits above, which the storage's shift brings in.
 pub fn shr<T: Storage>(x: T, amount: usize, bits: usize) -> T
     requires width { 1 ≤ bits }

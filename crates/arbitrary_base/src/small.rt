@@ -9,7 +9,7 @@ use crate::ends::{highest, lowest};
 use crate::storage::Storage;
 use crate::truncation::cast;
 
-/// The number.
+/// The number, in 64 bits.
 fn number<T: Storage>(x: T) -> i64
     requires small { T.WIDTH ≤ 16 }
     ensures value { result ≡ T.number x }
@@ -29,7 +29,7 @@ pub(crate) fn product<T: Storage>(x: T, y: T) -> i64
     number(x) * number(y)
 }
 
-/// Whether the type of `bits` bits over the storage has the number.
+/// Whether the number is in the range of `bits` bits over the storage.
 #[tactic(auto, using(crate::proofs::storages::SixteenBits::tests))]
 pub(crate) fn is_number_of<T: Storage>(x: i64, bits: usize) -> bool
     requires small { T.WIDTH ≤ 16 }
@@ -40,7 +40,7 @@ pub(crate) fn is_number_of<T: Storage>(x: i64, bits: usize) -> bool
     number(lowest::<T>(bits)) <= x && x <= number(highest::<T>(bits))
 }
 
-/// The storage's value of a number that it can keep.
+/// The storage's value of a number that fits in it.
 #[tactic(auto, using(crate::proofs::storages::CheckedSum::fitting))]
 pub(crate) fn from_i64<T: Storage>(x: i64) -> T
     requires x_in_range { InRange T.SIGNED T.WIDTH x }
@@ -49,7 +49,7 @@ pub(crate) fn from_i64<T: Storage>(x: i64) -> T
     cast(x, T::WIDTH)
 }
 
-/// The number, or the end of the range of `bits` bits over the storage that is nearest to it.
+/// The number, or the nearest end of the range of `bits` bits over the storage.
 #[tactic(auto, using(crate::proofs::storages::SixteenBits::clamps))]
 pub(crate) fn clamped<T: Storage>(x: i64, bits: usize) -> i64
     requires small { T.WIDTH ≤ 16 }

@@ -16,7 +16,7 @@ pub mod bits32;
 pub mod bits64;
 pub mod bits8;
 
-/// Closes the traits of this family: implement them for no other type.
+/// Seals the traits of these crates: do not implement it for another type.
 pub trait Sealed {}
 
 // No storages, but amounts of shifts: the types as wide as a pointer have no width of their own.
@@ -24,7 +24,7 @@ impl Sealed for usize {}
 
 impl Sealed for isize {}
 
-/// A primitive integer, in which a number of at most `WIDTH` bits can be stored.
+/// A primitive integer, which can store a number of at most `WIDTH` bits.
 pub trait Storage: Sealed + Copy + Ord + Hash + Display + Debug + Drop {
     ghost WIDTH: { ℕ };
 
@@ -37,7 +37,7 @@ pub trait Storage: Sealed + Copy + Ord + Hash + Display + Debug + Drop {
 
     ghost round_trip_law: { (x : Self) → of_number (number x) ≡ x };
 
-    /// How many bits the type has: 8, 16, 32, 64 or 128.
+    /// The width of the type in bits: 8, 16, 32, 64 or 128.
     const WIDTH: usize;
 
     /// Whether the type has a sign.
@@ -64,29 +64,29 @@ pub trait Storage: Sealed + Copy + Ord + Hash + Display + Debug + Drop {
     fn wrapping_mul(self, other: Self) -> Self
         ensures { number result ≡ wrap SIGNED WIDTH (number self *ℤ number other) };
 
-    /// The quotient, rounded toward zero and wrapped. The divisor is not zero.
+    /// The quotient, rounded toward zero and wrapped. Requires a divisor other than zero.
     fn wrapping_div(self, other: Self) -> Self
         requires { number other ≢ pos 0 }
         ensures { number result ≡ wrap SIGNED WIDTH (int_div (number self) (number other)) };
 
-    /// The product where the type has it, and `None` where it does not.
+    /// The product, or `None` if it is out of range.
     fn checked_mul(self, other: Self) -> Option<Self>
         ensures { SomeIff (option_map number result)
             (InRange SIGNED WIDTH (number self *ℤ number other)) (number self *ℤ number other) };
 
-    /// The product, wrapped, and whether the exact one is out of range.
+    /// The product, wrapped, and whether the exact product is out of range.
     fn overflowing_mul(self, other: Self) -> (Self, bool)
         ensures value { number result.0 ≡ wrap SIGNED WIDTH (number self *ℤ number other) }
         ensures overflow { let product = number self *ℤ number other in
             IsTrue result.1 ↔ ¬ (InRange SIGNED WIDTH product) };
 
-    /// The number whose bits are these, moved `n` places toward the high end, with zeros below.
+    /// The bits shifted left by `n`, with zeros from the right.
     fn shl_by(self, n: usize) -> Self
         requires { n < WIDTH }
         ensures { number result ≡ val SIGNED (shl (bits WIDTH (number self)) n) };
 
-    /// The number whose bits are these, moved `n` places toward the low end, with the sign above, or
-    /// zeros where there is none.
+    /// The bits shifted right by `n`, with copies of the sign from the left, or zeros for an
+    /// unsigned type.
     fn shr_by(self, n: usize) -> Self
         requires { n < WIDTH }
         ensures { let list = bits WIDTH (number self) in
@@ -102,22 +102,22 @@ pub trait Storage: Sealed + Copy + Ord + Hash + Display + Debug + Drop {
     ghost display_law: { (x : Self) → Self.output x ≡ Some (signed_decimal (number x)) };
 }
 
-/// A storage of numbers from 0 up.
+/// An unsigned primitive integer.
 pub trait UnsignedStorage: Storage {
     ghost unsigned_law: { Self.SIGNED ≡ false };
 }
 
-/// A storage of numbers with a sign, in two's complement.
+/// A signed primitive integer, in two's complement.
 pub trait SignedStorage: Storage {
     ghost signed_law: { Self.SIGNED ≡ true };
 }
 
-/// The unsigned storage that is as wide as `S`: it holds the bits of each number of `S`.
+/// The unsigned storage of the same width as `S`, which holds the bits of each number of `S`.
 pub trait UnsignedOf<S: Storage>: UnsignedStorage {
     ghost unsigned_width_law: { Self.WIDTH ≡ S.WIDTH };
 }
 
-/// The signed storage that is as wide as `S`.
+/// The signed storage of the same width as `S`.
 pub trait SignedOf<S: Storage>: SignedStorage {
     ghost signed_width_law: { Self.WIDTH ≡ S.WIDTH };
 }

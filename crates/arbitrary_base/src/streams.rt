@@ -11,7 +11,8 @@ use crate::watched::Watched;
 use std::io;
 use std::io::{ErrorKind, Read, Write};
 
-/// Fills `buf`, by at most as many calls as it has bytes. An input that ends before is `UnexpectedEof`.
+/// Fills `buf`, with at most one call of the reader for each byte. If the input ends before, the
+/// error is `UnexpectedEof`.
 pub fn read_full<R: Read>(reader: &mut Watched<R>, buf: &mut [u8]) -> io::Result<()>
     ensures all { let before = R.remaining (inner_of reader.old) in
         let after = R.remaining (inner_of reader.new) in
@@ -31,8 +32,8 @@ pub fn read_full<R: Read>(reader: &mut Watched<R>, buf: &mut [u8]) -> io::Result
     Ok(())
 }
 
-/// Writes all of the bytes, by at most as many calls as there are bytes. A writer that takes nothing is
-/// `WriteZero`.
+/// Writes all of the bytes, with at most one call of the writer for each byte. If the writer
+/// accepts no byte, the error is `WriteZero`.
 pub fn write_full<W: Write>(writer: &mut Watched<W>, bytes: &[u8]) -> io::Result<()>
     ensures all { let before = W.contents (inner_of writer.old) in
         let after = W.contents (inner_of writer.new) in

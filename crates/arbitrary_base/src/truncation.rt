@@ -9,7 +9,7 @@ ghost use Rattle.arbitrary_base.specs.Residue.{Congruent, residue, wrap};
 use crate::storage::Storage;
 use std::cmp::Ordering;
 
-/// The pattern whose low `bits` bits are one, and whose others are zero.
+/// The pattern whose low `bits` bits are one and whose other bits are zero.
 #[tactic(auto, using(crate::proofs::modular::Truncation::low_mask_laws))]
 pub const fn low_mask(bits: usize) -> u128
     requires { bits ≤ 128 }
@@ -44,8 +44,8 @@ pub(crate) fn reach_below_zero(signed: bool, bits: usize) -> u128
     if signed { 1 << (bits - 1) } else { 0 }
 }
 
-/// The 128 bits of the number of a type of `bits` bits that is congruent to the pattern:
-/// zero extension, and sign extension where the type has a sign.
+/// The 128 bits of the number of `bits` bits that is congruent to the pattern: its zero extension
+/// for an unsigned type, and its sign extension for a signed one.
 // Shifting the range up to start at 0 makes the truncation exact for both signs, with no branch.
 pub fn extend(signed: bool, pattern: u128, bits: usize) -> u128
     requires width { 1 ≤ bits }
@@ -83,7 +83,7 @@ pub fn low_bits<T: Storage>(x: T, bits: usize) -> u128
     masked(x.pattern(), bits)
 }
 
-/// `low_bits` of a number in range. Where the type has no sign this is the number, and nothing is masked.
+/// `low_bits` of a number in range. For an unsigned type this is the number, and nothing is masked.
 pub fn low_bits_in_range<T: Storage>(x: T, bits: usize) -> u128
     requires width { 1 ≤ bits }
     requires storage { bits ≤ T.WIDTH }
@@ -115,7 +115,7 @@ pub fn to_u128_bits<T: Storage>(x: T) -> u128
     extend(T::SIGNED, x.pattern(), T::WIDTH)
 }
 
-/// The number of one storage, truncated to the type of `bits` bits over another.
+/// The number of one storage, truncated to `bits` bits over another storage.
 #[tactic(auto, using(crate::proofs::modular::Truncation::conversions))]
 pub fn cast<S: Storage, T: Storage>(x: S, bits: usize) -> T
     requires width { 1 ≤ bits }
@@ -140,7 +140,7 @@ pub fn compare<T: Storage>(x: &T, y: &T) -> Ordering
     x.cmp(y)
 }
 
-/// Whether the type of `bits` bits has the number.
+/// Whether the number is in the range of `bits` bits.
 #[tactic(auto, using(crate::proofs::storages::CheckedSum::range_tests))]
 pub fn is_in_range<T: Storage>(x: T, bits: usize) -> bool
     requires width { 1 ≤ bits }

@@ -8,11 +8,11 @@ ghost use Rattle.arbitrary_base.specs.Watched.{inner_of, has_failed, failures_of
 use std::io;
 use std::io::{Read, Write};
 
-/// A reader or a writer, with a flag that rises where one of its calls fails, and never falls, and a
-/// count of the calls that failed.
+/// A reader or a writer, with a flag that is set when a call of it fails, and a count of the failed
+/// calls.
 ///
-/// The flag is what lets a caller's contract say that a fault was the stream's own, and the count
-/// that it is a new one.
+/// The flag lets a contract state that the stream caused a fault, and the count that the fault is a
+/// new one.
 #[derive(Drop)]
 pub struct Watched<D> {
     inner: D,
@@ -21,7 +21,7 @@ pub struct Watched<D> {
 }
 
 impl<D> Watched<D> {
-    /// With the flag down, and no failures.
+    /// Watches a reader or a writer, with no failures so far.
     pub fn new(inner: D) -> Self
         ensures inner { inner_of result ≡ inner }
         ensures flag { has_failed result ≡ false }
@@ -41,14 +41,14 @@ impl<D> Watched<D> {
         self.failed
     }
 
-    /// How many calls have failed, modulo `2 ^ 64`.
+    /// The number of failed calls, modulo `2 ^ 64`.
     pub fn failures(&self) -> u64
         ensures { result ≡ failures_of self.now }
     {
         self.failures
     }
 
-    /// One more call has failed.
+    /// Counts one more failed call.
     fn fails(&mut self)
         ensures failure { Failure self.old self.new }
         ensures inner { inner_of self.new ≡ inner_of self.old }
@@ -57,7 +57,7 @@ impl<D> Watched<D> {
         self.failures = self.failures.wrapping_add(1);
     }
 
-    /// The reader or writer itself.
+    /// The reader or the writer.
     pub fn into_inner(self) -> D
         ensures { result ≡ inner_of self }
     {
@@ -66,7 +66,7 @@ impl<D> Watched<D> {
 }
 
 impl<D: Read> Watched<D> {
-    /// One call of the reader's `read`, with its result. An `Err`, of any kind, is a failure.
+    /// Calls the reader's `read` once, and returns its result. Any `Err` is a failure.
     pub fn read(&mut self, buf: &mut [u8]) -> io::Result<usize>
         ensures bound { ReadsAtMost result buf.new }
         ensures bytes { let before = D.remaining (inner_of self.old) in
@@ -84,8 +84,8 @@ impl<D: Read> Watched<D> {
 }
 
 impl<D: Write> Watched<D> {
-    /// One call of the writer's `write`, with its result. An `Err`, of any kind, is a failure, and so
-    /// is a writer that takes nothing of at least one byte.
+    /// Calls the writer's `write` once, and returns its result. Any `Err` is a failure, and so is a
+    /// writer that accepts none of at least one byte.
     pub fn write(&mut self, buf: &[u8]) -> io::Result<usize>
         ensures bound { WritesAtMost result buf.now }
         ensures bytes { let before = D.contents (inner_of self.old) in

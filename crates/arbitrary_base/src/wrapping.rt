@@ -41,7 +41,7 @@ pub fn mul<T: Storage>(x: T, y: T, bits: usize) -> T
     truncated(x.wrapping_mul(y), bits)
 }
 
-/// The quotient, rounded toward zero and wrapped. The divisor is not zero.
+/// The quotient, rounded toward zero and wrapped. Requires a divisor other than zero.
 #[tactic(auto, using(crate::proofs::storages::CheckedSum::arithmetic))]
 pub fn div<T: Storage>(x: T, y: T, bits: usize) -> T
     requires width { 1 ≤ bits }

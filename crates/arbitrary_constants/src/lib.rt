@@ -11,8 +11,8 @@ pub mod signed;
 pub mod unsigned;
 pub mod valid;
 
-/// An integer type of a valid width, with its constants: `UInt` and `Int` at each width from 1 to that of their storage,
-/// and the primitives.
+/// An integer type of a valid width, with its constants: `UInt` and `Int` at each width from 1 to
+/// that of their storage, and the primitives.
 pub trait Constants: ValidWidth {
     ghost ZERO: { Self };
 
@@ -31,8 +31,8 @@ pub trait Constants: ValidWidth {
     /// The greatest number.
     const MAX: Self;
 
-    /// The storage's value whose low `BITS` bits are one, and whose others are zero: -1 where a signed storage has no
-    /// other bits.
+    /// The storage's value whose low `BITS` bits are one and whose other bits are zero: -1 for a
+    /// signed type as wide as its storage.
     const MASK: Self::UnderlyingType;
 
     ghost zero_law: { Self.number ZERO ≡ pos 0 };

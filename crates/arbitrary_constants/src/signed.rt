@@ -11,7 +11,7 @@ use arbitrary_base::truncation::low_mask;
 use arbitrary_core::signed::Int;
 use arbitrary_widths::HasWidth;
 
-/// The number 0, of its bits: all are zero.
+/// The number 0, whose bits are all zero.
 const fn zero<T: BuiltinInteger + SignedStorage, const BITS: usize>(
     bits: T::Unsigned,
 ) -> Int<T, BITS>
@@ -24,7 +24,7 @@ where
     Int::<T, BITS>::from_bits(bits)
 }
 
-/// The least number, of its bits: the highest alone is one.
+/// The least number, of whose bits only the highest is one.
 const fn least<T: BuiltinInteger + SignedStorage, const BITS: usize>(
     bits: T::Unsigned,
 ) -> Int<T, BITS>
@@ -37,7 +37,7 @@ where
     Int::<T, BITS>::from_bits(bits)
 }
 
-/// The greatest number, of its bits: all but the highest are one.
+/// The greatest number, of whose bits only the highest is zero.
 const fn greatest<T: BuiltinInteger + SignedStorage, const BITS: usize>(
     bits: T::Unsigned,
 ) -> Int<T, BITS>

@@ -14,8 +14,9 @@ use arbitrary_core::unsigned::UInt;
 use arbitrary_traits::integer::Integer;
 use arbitrary_widths::HasWidth;
 
-/// An integer type of a valid width: `UInt` and `Int` at each width from 1 to that of their storage, and the primitives.
-/// With this bound `V::zero()`, `V::new(..)` and what else requires a valid width need no `requires` of their own.
+/// An integer type of a valid width: `UInt` and `Int` at each width from 1 to that of their
+/// storage, and the primitives. With this bound, calls such as `V::zero()` and `V::new(..)` need no
+/// `requires` for the width.
 pub trait ValidWidth: Integer {
     ghost valid_law: { Self.valid };
 

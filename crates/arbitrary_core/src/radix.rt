@@ -66,7 +66,7 @@ pub(crate) fn upper_hex<T: Storage, W: fmt::Write>(
     }
 }
 
-/// Writes the storage's bits to the base 8.
+/// Writes the storage's bits in base 8.
 pub(crate) fn octal<T: Storage, W: fmt::Write>(value: T, f: &mut fmt::Formatter<W>) -> fmt::Result
     ensures pattern { let text = digits 8 false (residue T.WIDTH (T.number value)) in
         T.WIDTH ≤ 64 → WritesOnOk W.write_str_gives f.old result text f.new }
@@ -82,7 +82,7 @@ pub(crate) fn octal<T: Storage, W: fmt::Write>(value: T, f: &mut fmt::Formatter<
     }
 }
 
-/// Writes the storage's bits to the base 2.
+/// Writes the storage's bits in base 2.
 pub(crate) fn binary<T: Storage, W: fmt::Write>(value: T, f: &mut fmt::Formatter<W>) -> fmt::Result
     ensures pattern { let text = digits 2 false (residue T.WIDTH (T.number value)) in
         T.WIDTH ≤ 64 → WritesOnOk W.write_str_gives f.old result text f.new }

@@ -16,11 +16,11 @@ use std::alloc::AllocError;
 use std::marker::{Model, PhantomData};
 
 /// A signed integer of `BITS` bits: a number from `-2 ^ (BITS - 1)` to `2 ^ (BITS - 1) - 1`, which
-/// `value` gives in the primitive `T`. What is stored is its bits, in the unsigned primitive that is as
-/// wide as `T`; that is always the last parameter. Write `Int<T, BITS>`.
+/// `value` returns in the primitive `T`. Write `Int<T, BITS>`: the last parameter is always the
+/// unsigned primitive of the same width as `T`, which stores the bits.
 ///
-/// In contracts a value is its number. Every value has a valid width (`1 <= BITS`, and at most the
-/// bits of `T`) and a number in range.
+/// In contracts a value is its number. Every value has a valid width, from 1 to the width of `T`,
+/// and a number in range.
 pub struct Int<
     T: SignedStorage,
     const BITS: usize,
@@ -69,15 +69,15 @@ impl<T: BuiltinInteger + SignedStorage, const BITS: usize> Int<T, BITS>
 where
     T::Unsigned: UnsignedOf<T>,
 {
-    /// Whether a type of this width exists: from 1 bit to as many as the storage has.
+    /// Whether the width is valid: from 1 to the width of the storage.
     pub fn is_valid_width() -> bool
         ensures { IsTrue result ↔ IsInRange 1 T.WIDTH BITS }
     {
         1 <= BITS && BITS <= T::WIDTH
     }
 
-    /// The value of a number. The precondition is that the width is valid (test it by
-    /// `is_valid_width`) and that the number is in range (or calls `try_new`).
+    /// The value of a number. Requires a valid width, which `is_valid_width` tests, and a number in
+    /// range, which `try_new` tests.
     #[tactic(auto, using(crate::proofs::StoredBits::stored))]
     pub fn new(value: T) -> Self
         requires width { IsInRange 1 T.WIDTH BITS }
@@ -90,7 +90,8 @@ where
         }
     }
 
-    /// `new` under the name of the original's unsafe call. Here it is safe: its conditions are shown.
+    /// The same as `new`. The call of this name in the Rust crate is unsafe; this one has the
+    /// conditions of `new`.
     pub fn new_unchecked(value: T) -> Self
         requires width { IsInRange 1 T.WIDTH BITS }
         requires value_in_range { InRange T.SIGNED BITS (T.number value) }
@@ -99,7 +100,7 @@ where
         Int::<T, BITS>::new(value)
     }
 
-    /// The value of a number, or an error where the number is out of range.
+    /// The value of a number, or an error exactly if it is out of range. Requires a valid width.
     pub fn try_new(value: T) -> Result<Self, TryNewError>
         requires width { IsInRange 1 T.WIDTH BITS }
         ensures { MatchResult result
@@ -113,8 +114,8 @@ where
         }
     }
 
-    /// The storage's value whose low `BITS` bits are one, and whose others are zero: -1 where `BITS`
-    /// is all of the storage's bits.
+    /// The storage's value whose low `BITS` bits are one and whose other bits are zero: -1 if
+    /// `BITS` is the width of the storage. Requires a valid width.
     pub fn mask() -> T
         requires width { IsInRange 1 T.WIDTH BITS }
         ensures value { T.number result ≡ wrap T.SIGNED T.WIDTH (pos (2 ^ BITS) -ℤ pos 1) }
@@ -145,8 +146,8 @@ where
         self.bits
     }
 
-    /// The value that has these bits. The precondition is that the width is valid and that the pattern
-    /// is below `2 ^ BITS` (or calls `try_from_bits`).
+    /// The value with these bits. Requires a valid width, and bits below `2 ^ BITS`, which
+    /// `try_from_bits` tests.
     #[tactic(auto, using(crate::proofs::StoredBits::stored))]
     pub const fn from_bits(bits: T::Unsigned) -> Self
         requires width { IsInRange 1 T.WIDTH BITS }
@@ -163,8 +164,8 @@ where
         }
     }
 
-    /// `from_bits` under the name of the original's unsafe call. Here it is safe: its conditions are
-    /// shown.
+    /// The same as `from_bits`. The call of this name in the Rust crate is unsafe; this one has the
+    /// conditions of `from_bits`.
     pub fn from_bits_unchecked(bits: T::Unsigned) -> Self
         requires width { IsInRange 1 T.WIDTH BITS }
         requires bits_in_range { InRange T.Unsigned.SIGNED BITS (T.Unsigned.number bits) }
@@ -177,7 +178,8 @@ where
         Int::<T, BITS>::from_bits(bits)
     }
 
-    /// The value that has these bits, or an error where the pattern is `2 ^ BITS` or more.
+    /// The value with these bits, or an error exactly if they are `2 ^ BITS` or more. Requires a
+    /// valid width.
     #[tactic(auto, using(arbitrary_base::proofs::modular::Truncation::patterns))]
     pub fn try_from_bits(bits: T::Unsigned) -> Result<Self, TryNewError>
         requires width { IsInRange 1 T.WIDTH BITS }
@@ -221,7 +223,7 @@ where
         Int::<T, BITS>::new(wrapping::neg(self.value(), BITS))
     }
 
-    /// The negated number, or the greatest where that is out of range.
+    /// The negated number, or the greatest number if that is out of range.
     #[tactic(auto, using(arbitrary_base::proofs::storages::Clamp::clamped))]
     pub fn saturating_neg(self) -> Self
         ensures value { result ≡ clamp T.SIGNED BITS (neg_ℤ self) }
@@ -231,7 +233,7 @@ where
         Int::<T, BITS>::new(saturating::neg(self.value(), BITS))
     }
 
-    /// The negated number, and `None` exactly at the least number.
+    /// The negated number, or `None` exactly for the least number.
     pub fn checked_neg(self) -> Option<Self>
         ensures { SomeIff result (InRange T.SIGNED BITS (neg_ℤ self)) (neg_ℤ self) }
     {
@@ -241,7 +243,7 @@ where
         }
     }
 
-    /// The negated number, wrapped, and whether the exact one is out of range.
+    /// The negated number, wrapped, and whether the exact number is out of range.
     #[tactic(auto, using(arbitrary_base::proofs::modular::ExactOrCongruent::wrapped))]
     pub fn overflowing_neg(self) -> (Self, bool)
         ensures operation { result.0 ≡ wrapped_difference T.SIGNED BITS (pos 0) self }
@@ -255,7 +257,8 @@ where
         (Int::<T, BITS>::new(negated), overflow)
     }
 
-    /// The same number at more bits of the same storage.
+    /// The same number at more bits of the same storage. Requires that `R` is above `BITS` and at
+    /// most the width of the storage.
     pub fn widen<const R: usize>(self) -> Int<T, R>
         requires above { BITS < R }
         requires width { R ≤ T.WIDTH }
@@ -264,7 +267,7 @@ where
         Int::<T, R>::new(self.value())
     }
 
-    /// The value of an `i8` that is in range.
+    /// The value of an `i8`. Requires a valid width, and a number in range.
     pub fn from_i8(value: i8) -> Self
         requires width { IsInRange 1 T.WIDTH BITS }
         requires value_in_range { InRange T.SIGNED BITS value }
@@ -273,7 +276,7 @@ where
         Int::<T, BITS>::new(cast(value, BITS))
     }
 
-    /// The value of an `i16` that is in range.
+    /// The value of an `i16`. Requires a valid width, and a number in range.
     pub fn from_i16(value: i16) -> Self
         requires width { IsInRange 1 T.WIDTH BITS }
         requires value_in_range { InRange T.SIGNED BITS value }
@@ -282,7 +285,7 @@ where
         Int::<T, BITS>::new(cast(value, BITS))
     }
 
-    /// The value of an `i32` that is in range.
+    /// The value of an `i32`. Requires a valid width, and a number in range.
     pub fn from_i32(value: i32) -> Self
         requires width { IsInRange 1 T.WIDTH BITS }
         requires value_in_range { InRange T.SIGNED BITS value }
@@ -291,7 +294,7 @@ where
         Int::<T, BITS>::new(cast(value, BITS))
     }
 
-    /// The value of an `i64` that is in range.
+    /// The value of an `i64`. Requires a valid width, and a number in range.
     pub fn from_i64(value: i64) -> Self
         requires width { IsInRange 1 T.WIDTH BITS }
         requires value_in_range { InRange T.SIGNED BITS value }
@@ -300,7 +303,7 @@ where
         Int::<T, BITS>::new(cast(value, BITS))
     }
 
-    /// The value of an `i128` that is in range.
+    /// The value of an `i128`. Requires a valid width, and a number in range.
     pub fn from_i128(value: i128) -> Self
         requires width { IsInRange 1 T.WIDTH BITS }
         requires value_in_range { InRange T.SIGNED BITS value }

@@ -8,7 +8,7 @@ ghost use Rattle.std.specs.List.{fold};
 pub mod signed;
 pub mod unsigned;
 
-/// A number with a sum and a product.
+/// A type whose values the loops add and multiply.
 pub(crate) trait Total: Sized {
     ghost sum: { Self → Self → Self };
 
@@ -25,7 +25,7 @@ pub(crate) trait Total: Sized {
         ensures { result ≡ product self item };
 }
 
-/// The first number and the items, added up from the left.
+/// The sum of the first number and the items, from the left.
 pub(crate) fn sum_from<S: Total, I: Iterator<Item = S>>(first: S, iter: I) -> S
     requires can { I.can_next iter }
     requires ends { IsFinite (I.remaining iter) }
@@ -40,7 +40,7 @@ pub(crate) fn sum_from<S: Total, I: Iterator<Item = S>>(first: S, iter: I) -> S
     total
 }
 
-/// The first number and the items, multiplied from the left.
+/// The product of the first number and the items, from the left.
 pub(crate) fn product_from<S: Total, I: Iterator<Item = S>>(first: S, iter: I) -> S
     requires can { I.can_next iter }
     requires ends { IsFinite (I.remaining iter) }

@@ -14,10 +14,11 @@ use arbitrary_base::{extraction, wrapping};
 use std::alloc::AllocError;
 use std::marker::Model;
 
-/// An unsigned integer of `BITS` bits, stored in the primitive `T`: a number from 0 to `2 ^ BITS - 1`.
+/// An unsigned integer of `BITS` bits, stored in the primitive `T`: a number from 0 to
+/// `2 ^ BITS - 1`.
 ///
-/// In contracts a value is its number. Every value has a valid width (`1 <= BITS`, and at most the
-/// bits of `T`) and a number in range.
+/// In contracts a value is its number. Every value has a valid width, from 1 to the width of `T`,
+/// and a number in range.
 pub struct UInt<T: UnsignedStorage, const BITS: usize> {
     value: T,
 }
@@ -52,15 +53,15 @@ impl<T: UnsignedStorage, const BITS: usize> Clone for UInt<T, BITS> {
 }
 
 impl<T: UnsignedStorage, const BITS: usize> UInt<T, BITS> {
-    /// Whether a type of this width exists: from 1 bit to as many as the storage has.
+    /// Whether the width is valid: from 1 to the width of the storage.
     pub fn is_valid_width() -> bool
         ensures { IsTrue result ↔ IsInRange 1 T.WIDTH BITS }
     {
         1 <= BITS && BITS <= T::WIDTH
     }
 
-    /// The value of a number. The precondition is that the width is valid (test it by
-    /// `is_valid_width`) and that the number is in range (or calls `try_new`).
+    /// The value of a number. Requires a valid width, which `is_valid_width` tests, and a number in
+    /// range, which `try_new` tests.
     pub const fn new(value: T) -> Self
         requires width { IsInRange 1 T.WIDTH BITS }
         requires value_in_range { InRange T.SIGNED BITS (T.number value) }
@@ -69,7 +70,8 @@ impl<T: UnsignedStorage, const BITS: usize> UInt<T, BITS> {
         UInt { value }
     }
 
-    /// `new` under the name of the original's unsafe call. Here it is safe: its conditions are shown.
+    /// The same as `new`. The call of this name in the Rust crate is unsafe; this one has the
+    /// conditions of `new`.
     pub fn new_unchecked(value: T) -> Self
         requires width { IsInRange 1 T.WIDTH BITS }
         requires value_in_range { InRange T.SIGNED BITS (T.number value) }
@@ -78,7 +80,7 @@ impl<T: UnsignedStorage, const BITS: usize> UInt<T, BITS> {
         UInt::new(value)
     }
 
-    /// The value of a number, or an error where the number is out of range.
+    /// The value of a number, or an error exactly if it is out of range. Requires a valid width.
     pub fn try_new(value: T) -> Result<Self, TryNewError>
         requires width { IsInRange 1 T.WIDTH BITS }
         ensures { MatchResult result
@@ -92,7 +94,8 @@ impl<T: UnsignedStorage, const BITS: usize> UInt<T, BITS> {
         }
     }
 
-    /// The storage's value whose low `BITS` bits are one, and whose others are zero.
+    /// The storage's value whose low `BITS` bits are one and whose other bits are zero. Requires a
+    /// valid width.
     pub fn mask() -> T
         requires width { IsInRange 1 T.WIDTH BITS }
         ensures value { T.number result ≡ wrap T.SIGNED T.WIDTH (pos (2 ^ BITS) -ℤ pos 1) }
@@ -110,7 +113,8 @@ impl<T: UnsignedStorage, const BITS: usize> UInt<T, BITS> {
         self.value
     }
 
-    /// The same number at more bits of the same storage.
+    /// The same number at more bits of the same storage. Requires that `R` is above `BITS` and at
+    /// most the width of the storage.
     pub fn widen<const R: usize>(self) -> UInt<T, R>
         requires above { BITS < R }
         requires width { R ≤ T.WIDTH }
@@ -119,8 +123,9 @@ impl<T: UnsignedStorage, const BITS: usize> UInt<T, BITS> {
         UInt::new(self.value())
     }
 
-    /// The value whose bits are the `BITS` bits of `value` from place `start_bit` on: `extract_u8` to
-    /// `extract_u128` at the storage's own type. Prefer those, which say how wide the source is.
+    /// The value of the `BITS` bits of `value` from bit `start_bit` on. Requires a valid width, and
+    /// that `value` has all of these bits. It is deprecated: `extract_u8` to `extract_u128` name
+    /// the width of the source.
     pub fn extract(value: T, start_bit: usize) -> Self
         requires width { IsInRange 1 T.WIDTH BITS }
         requires within { start_bit + BITS ≤ T.WIDTH }
@@ -133,7 +138,7 @@ impl<T: UnsignedStorage, const BITS: usize> UInt<T, BITS> {
         UInt::new(extraction::extract(value, start_bit, BITS))
     }
 
-    /// The value of a `u8` that is in range.
+    /// The value of a `u8`. Requires a valid width, and a number in range.
     #[tactic(auto, using(arbitrary_base::proofs::storages::CheckedSum::fitting))]
     pub fn from_u8(value: u8) -> Self
         requires width { IsInRange 1 T.WIDTH BITS }
@@ -143,7 +148,7 @@ impl<T: UnsignedStorage, const BITS: usize> UInt<T, BITS> {
         UInt::new(cast(value, BITS))
     }
 
-    /// The value of a `u16` that is in range.
+    /// The value of a `u16`. Requires a valid width, and a number in range.
     #[tactic(auto, using(arbitrary_base::proofs::storages::CheckedSum::fitting))]
     pub fn from_u16(value: u16) -> Self
         requires width { IsInRange 1 T.WIDTH BITS }
@@ -153,7 +158,7 @@ impl<T: UnsignedStorage, const BITS: usize> UInt<T, BITS> {
         UInt::new(cast(value, BITS))
     }
 
-    /// The value of a `u32` that is in range.
+    /// The value of a `u32`. Requires a valid width, and a number in range.
     #[tactic(auto, using(arbitrary_base::proofs::storages::CheckedSum::fitting))]
     pub fn from_u32(value: u32) -> Self
         requires width { IsInRange 1 T.WIDTH BITS }
@@ -163,7 +168,7 @@ impl<T: UnsignedStorage, const BITS: usize> UInt<T, BITS> {
         UInt::new(cast(value, BITS))
     }
 
-    /// The value of a `u64` that is in range.
+    /// The value of a `u64`. Requires a valid width, and a number in range.
     #[tactic(auto, using(arbitrary_base::proofs::storages::CheckedSum::fitting))]
     pub fn from_u64(value: u64) -> Self
         requires width { IsInRange 1 T.WIDTH BITS }
@@ -173,7 +178,7 @@ impl<T: UnsignedStorage, const BITS: usize> UInt<T, BITS> {
         UInt::new(cast(value, BITS))
     }
 
-    /// The value of a `u128` that is in range.
+    /// The value of a `u128`. Requires a valid width, and a number in range.
     #[tactic(auto, using(arbitrary_base::proofs::storages::CheckedSum::fitting))]
     pub fn from_u128(value: u128) -> Self
         requires width { IsInRange 1 T.WIDTH BITS }

@@ -17,8 +17,8 @@ use arbitrary_calls::stored::Stored;
 use std::io;
 use std::io::{ErrorKind, Read, Write};
 
-/// What can be written to a stream. `UInt` and `Int` can, at every width: their bytes are the residue modulo
-/// `2 ^ BITS`, the lowest byte first, in `BITS.div_ceil(8)` bytes.
+/// A value that can be written to a stream. `UInt` and `Int` implement it at every width: they have
+/// the bytes of the residue modulo `2 ^ BITS`, lowest first, in `BITS.div_ceil(8)` bytes.
 pub trait BorshSerialize {
     // The bytes of a value.
     ghost bytes_of: { Self → List ℕ };
@@ -26,8 +26,9 @@ pub trait BorshSerialize {
     // How many they are.
     ghost size_of: { Self → ℕ };
 
-    /// Writes the bytes of the value, and nothing else. An error is the writer's own, or `WriteZero` where it
-    /// takes nothing; a beginning of the bytes was written then. No call is made after a failed one.
+    /// Writes the bytes of the value, and nothing else. An error is the writer's own, or
+    /// `WriteZero` if it accepts no byte. A beginning of the bytes may then be written. No call is
+    /// made after a failed one.
     fn serialize<W: Write>(&self, writer: &mut Watched<W>) -> io::Result<()>
         ensures all { let before = W.contents (inner_of writer.old) in
             let after = W.contents (inner_of writer.new) in
@@ -38,8 +39,8 @@ pub trait BorshSerialize {
             OnErr result (AppendsBeginning before after (bytes_of self.now)) }
         ensures failed { OnErr result (Failure writer.old writer.new) };
 
-    /// Puts the bytes of the value at the front of `out`, and returns how many they are. The rest of `out` stays
-    /// as it was.
+    /// Puts the bytes of the value at the front of `out`, and returns their number. The rest of
+    /// `out` does not change.
     fn to_borsh_bytes(&self, out: &mut [u8; 16]) -> usize
         ensures count { result ≡ length (bytes_of self.now) }
         ensures size { result ≡ size_of self.now }
@@ -47,8 +48,8 @@ pub trait BorshSerialize {
         ensures rest { drop result out.new ≡ drop result out.old };
 }
 
-/// What can be read from a stream. `UInt` and `Int` can, at every valid width: a list of bytes is canonical where
-/// it has `BITS.div_ceil(8)` bytes and spells a number below `2 ^ BITS`.
+/// A value that can be read from a stream. `UInt` and `Int` implement it at every width. Bytes are
+/// canonical if there are `BITS.div_ceil(8)` of them and their number is below `2 ^ BITS`.
 pub trait BorshDeserialize: Sized {
     // Whether the type has values at all.
     ghost readable: { Type 0 };
@@ -63,9 +64,9 @@ pub trait BorshDeserialize: Sized {
     // What is known of a value from its list of bytes.
     ghost tells: { List ℕ → Self → Type 0 };
 
-    /// Reads exactly the bytes of one value, and never asks for a further one. An error is the reader's own,
-    /// `UnexpectedEof` where the input ends before, or `InvalidData` where the bytes are not canonical; these are
-    /// then read, and what follows is left. No call is made after a failed one. The width is valid.
+    /// Reads exactly the bytes of one value. An error is the reader's own, `UnexpectedEof` if the
+    /// input ends before, or `InvalidData` if the bytes are not canonical: then they are read, and
+    /// what follows is not. No call is made after a failed one. Requires a valid width.
     fn deserialize_reader<R: Read>(reader: &mut Watched<R>) -> io::Result<Self>
         requires { readable }
         ensures taken { let before = R.remaining (inner_of reader.old) in
@@ -77,8 +78,8 @@ pub trait BorshDeserialize: Sized {
             let after = R.remaining (inner_of reader.new) in OnErr result
             (Unreadable canonical before after (Failure reader.old reader.new) count) };
 
-    /// The value that has these bytes, and `None` exactly where they are not canonical. A `UInt` is the number that
-    /// they spell. The width is valid.
+    /// The value with these bytes, or `None` exactly if they are not canonical. The number of a
+    /// `UInt` is that of the bytes. Requires a valid width.
     fn from_borsh_bytes(bytes: &[u8]) -> Option<Self>
         requires { readable }
         ensures bytes { let is_canonical = canonical bytes.now in
@@ -86,7 +87,7 @@ pub trait BorshDeserialize: Sized {
         ensures value { IfSome result (tells bytes.now) };
 }
 
-/// The bytes of the value, at the front of as many as any value has, and how many they are.
+/// The bytes of the value, at the front of an array that has room for any value, and their number.
 fn written<V: Stored>(value: V) -> ([u8; 16], usize)
     ensures count { result.1 ≡ length (BorshBytes V.BITS (V.number value)) }
     ensures size { result.1 ≡ div_ceil V.BITS 8 }

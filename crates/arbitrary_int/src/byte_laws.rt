@@ -10,7 +10,7 @@ use crate::borsh::{BorshDeserialize, BorshSerialize};
 use crate::byte_orders::ByteOrders;
 use arbitrary_calls::stored::Stored;
 
-/// Bytes that are reversed twice are those of the value again.
+/// Reversing the bytes twice returns the value.
 pub fn swapped_twice<V: ByteOrders<N>, const N: usize>(value: V) -> V
     ensures { V.number result ≡ V.number value }
 {
@@ -20,7 +20,7 @@ pub fn swapped_twice<V: ByteOrders<N>, const N: usize>(value: V) -> V
     twice
 }
 
-/// A value is read back from its little-endian bytes.
+/// The little-endian bytes of a value are read back as the value.
 pub fn through_le_bytes<V: ByteOrders<N>, const N: usize>(value: V) -> V
     ensures { V.number result ≡ V.number value }
 {
@@ -28,7 +28,7 @@ pub fn through_le_bytes<V: ByteOrders<N>, const N: usize>(value: V) -> V
     V::from_le_bytes(value.to_le_bytes())
 }
 
-/// A value is read back from its big-endian bytes.
+/// The big-endian bytes of a value are read back as the value.
 pub fn through_be_bytes<V: ByteOrders<N>, const N: usize>(value: V) -> V
     ensures { V.number result ≡ V.number value }
 {
@@ -36,7 +36,7 @@ pub fn through_be_bytes<V: ByteOrders<N>, const N: usize>(value: V) -> V
     V::from_be_bytes(value.to_be_bytes())
 }
 
-/// The bytes that a value has in a stream are canonical, and the value is read back from them.
+/// The bytes of a value in a stream are canonical, and are read back as the value.
 pub fn through_borsh_bytes<V: Stored>(value: V) -> Option<V>
     ensures { MatchOption result ⊥ (λ x. V.number x ≡ V.number value) }
 {
@@ -48,7 +48,7 @@ pub fn through_borsh_bytes<V: Stored>(value: V) -> Option<V>
     Some(read)
 }
 
-/// No two numbers share the bytes that they have in a stream.
+/// Two values have the same bytes in a stream exactly if they are equal.
 pub fn share_borsh_bytes<V: Stored>(x: V, y: V) -> bool
     ensures { IsTrue result ↔ (V.number x ≡ V.number y) }
 {

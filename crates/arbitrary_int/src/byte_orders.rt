@@ -11,17 +11,17 @@ use arbitrary_core::signed::Int;
 use arbitrary_core::unsigned::UInt;
 use arbitrary_traits::numbered::Numbered;
 
-/// An integer of `N` whole bytes: `BITS` is `8 * N`, and the storage has more bits than that.
+/// An integer of `N` whole bytes: `BITS` is `8 * N`, and the storage has more bits.
 ///
-/// The bytes are those of two's complement in `BITS` bits. In the contracts `bytes N` of a number lists them,
-/// the lowest first: the little-endian order. The big-endian order is the same list reversed. The machine's own
-/// order is little-endian. Nothing is refused: each list of `N` bytes is that of one value.
+/// The bytes are those of two's complement in `BITS` bits. In contracts, `bytes N` of a number
+/// lists them lowest first, which is the little-endian order. The big-endian order is its reverse.
+/// The native order is little-endian. Each list of `N` bytes is that of one value.
 pub trait ByteOrders<const N: usize>: Numbered {
     ghost width_law: { Self.BITS ≡ 8 * N };
 
     ghost valid_law: { Self.valid };
 
-    /// The bytes, the lowest first. Where the type has no sign, they spell the number.
+    /// The bytes, lowest first. For an unsigned type, their number is that of the value.
     final fn to_le_bytes(self) -> [u8; N]
         ensures bytes { result ≡ bytes N (Self.number self) }
         ensures unsigned { let spelled = pos (bytes_number result) in
@@ -39,7 +39,7 @@ pub trait ByteOrders<const N: usize>: Numbered {
         list
     }
 
-    /// The bytes, the highest first. Where the type has no sign, they spell the number.
+    /// The bytes, highest first. For an unsigned type, their number is that of the value.
     final fn to_be_bytes(self) -> [u8; N]
         ensures bytes { result ≡ reverse (bytes N (Self.number self)) }
         ensures unsigned { let spelled = pos (bytes_number (reverse result)) in
@@ -56,7 +56,7 @@ pub trait ByteOrders<const N: usize>: Numbered {
         list
     }
 
-    /// The bytes as the machine keeps them: `to_le_bytes`.
+    /// The bytes in native order: `to_le_bytes`.
     final fn to_ne_bytes(self) -> [u8; N]
         ensures bytes { result ≡ bytes N (Self.number self) }
         ensures unsigned { let spelled = pos (bytes_number result) in
@@ -71,7 +71,7 @@ pub trait ByteOrders<const N: usize>: Numbered {
         self.to_le_bytes()
     }
 
-    /// The value that has these bytes, the lowest first.
+    /// The value with these bytes, lowest first.
     final fn from_le_bytes(list: [u8; N]) -> Self
         ensures bytes { bytes N (Self.number result) ≡ list.entry }
         ensures number { let spelled = pos (bytes_number list.entry) in
@@ -86,7 +86,7 @@ pub trait ByteOrders<const N: usize>: Numbered {
         Self::from_u128_bits(pattern_of(&list))
     }
 
-    /// The value that has these bytes, the highest first.
+    /// The value with these bytes, highest first.
     final fn from_be_bytes(list: [u8; N]) -> Self
         ensures bytes { reverse (bytes N (Self.number result)) ≡ list.entry }
         ensures number { let spelled = pos (bytes_number (reverse list.entry)) in
@@ -103,7 +103,7 @@ pub trait ByteOrders<const N: usize>: Numbered {
         Self::from_le_bytes(turned)
     }
 
-    /// The value that has these bytes as the machine keeps them: `from_le_bytes`.
+    /// The value with these bytes in native order: `from_le_bytes`.
     final fn from_ne_bytes(list: [u8; N]) -> Self
         ensures bytes { bytes N (Self.number result) ≡ list.entry }
         ensures number { let spelled = pos (bytes_number list.entry) in
@@ -118,7 +118,7 @@ pub trait ByteOrders<const N: usize>: Numbered {
         Self::from_le_bytes(list)
     }
 
-    /// The value that has the same bytes in the other order.
+    /// The value with the bytes in reverse order.
     final fn swap_bytes(self) -> Self
         ensures bytes { bytes N (Self.number result) ≡ reverse (bytes N (Self.number self)) }
         ensures number { let spelled = pos (bytes_number (reverse (bytes N (Self.number self)))) in
@@ -131,14 +131,14 @@ pub trait ByteOrders<const N: usize>: Numbered {
         Self::from_be_bytes(self.to_le_bytes())
     }
 
-    /// The value itself, as the machine is little-endian.
+    /// The value itself, because the native order is little-endian.
     final fn to_le(self) -> Self
         ensures { result ≡ self }
     {
         self
     }
 
-    /// `swap_bytes`, as the machine is little-endian.
+    /// `swap_bytes`, because the native order is little-endian.
     final fn to_be(self) -> Self
         ensures bytes { bytes N (Self.number result) ≡ reverse (bytes N (Self.number self)) }
         ensures number { let spelled = pos (bytes_number (reverse (bytes N (Self.number self)))) in
@@ -151,14 +151,14 @@ pub trait ByteOrders<const N: usize>: Numbered {
         self.swap_bytes()
     }
 
-    /// The value itself, as the machine is little-endian.
+    /// The value itself, because the native order is little-endian.
     final fn from_le(value: Self) -> Self
         ensures { result ≡ value }
     {
         value
     }
 
-    /// `swap_bytes`, as the machine is little-endian.
+    /// `swap_bytes`, because the native order is little-endian.
     final fn from_be(value: Self) -> Self
         ensures bytes { bytes N (Self.number result) ≡ reverse (bytes N (Self.number value)) }
         ensures number { let spelled = pos (bytes_number (reverse (bytes N (Self.number value)))) in

@@ -18,7 +18,7 @@ pub struct ValueRange<V: Integer + SumCalls> {
     done: bool,
 }
 
-/// The values from `start` to `end`, none where `start` is greater.
+/// An iterator over the values from `start` to `end`. It is empty if `start` is greater.
 pub fn range_inclusive<V: Integer + SumCalls>(start: V, end: V) -> ValueRange<V>
     ensures values { let number = V.number in
         values_left result.done (number result.start) (number result.end)

@@ -42,7 +42,7 @@ fn is_zero<R: Integer>(x: R) -> bool
     x.to_u128_bits() == 0
 }
 
-/// The quotient, wrapped, or a stop at a divisor of zero.
+/// The quotient, wrapped, or a stop if the divisor is zero.
 fn wrapping_quotient<R: BitwiseOperators>(x: R, y: R) -> Result<R, Why>
     ensures { let meant = two_meaning R.IS_SIGNED R.BITS TwoOp.WrappingDiv in MatchResult result
         (λ v. meant (R.number x) (R.number y) ≡ Ok (R.number v))
@@ -55,7 +55,7 @@ fn wrapping_quotient<R: BitwiseOperators>(x: R, y: R) -> Result<R, Why>
     }
 }
 
-/// The quotient, clamped, or a stop at a divisor of zero.
+/// The quotient, clamped, or a stop if the divisor is zero.
 fn saturating_quotient<R: BitwiseOperators>(x: R, y: R) -> Result<R, Why>
     ensures { let meant = two_meaning R.IS_SIGNED R.BITS TwoOp.SaturatingDiv in MatchResult result
         (λ v. meant (R.number x) (R.number y) ≡ Ok (R.number v))
@@ -68,7 +68,7 @@ fn saturating_quotient<R: BitwiseOperators>(x: R, y: R) -> Result<R, Why>
     }
 }
 
-/// What an operation makes of two values.
+/// The result of an operation on two values.
 #[tactic(auto, using(crate::proofs::StepLemmas::results))]
 fn two<R: BitwiseOperators>(op: TwoOp, x: R, y: R) -> Result<R, Why>
     ensures { MatchResult result
@@ -103,7 +103,7 @@ fn negated<R: BitwiseOperators>(x: R) -> R
     R::zero().wrapping_sub(x)
 }
 
-/// What an operation makes of one value.
+/// The result of an operation on one value.
 #[tactic(auto, using(crate::proofs::StepLemmas::results))]
 fn one<R: BitwiseOperators>(op: OneOp, x: R) -> R
     ensures { one_meaning R.IS_SIGNED R.BITS op (R.number x) ≡ Ok (R.number result) }
@@ -115,7 +115,7 @@ fn one<R: BitwiseOperators>(op: OneOp, x: R) -> R
     }
 }
 
-/// What an operation makes of one value by an amount.
+/// The result of an operation on one value and an amount.
 #[tactic(auto, using(crate::proofs::StepLemmas::results))]
 fn by<R: BitwiseOperators>(op: ByOp, x: R, amount: u32) -> Result<R, Why>
     ensures { MatchResult result
@@ -133,7 +133,7 @@ fn by<R: BitwiseOperators>(op: ByOp, x: R, amount: u32) -> Result<R, Why>
     }
 }
 
-/// What the step makes of its sources.
+/// The result of the step's operation on its sources.
 #[tactic(auto, using(crate::proofs::StepLemmas::sources))]
 fn step_result<R: BitwiseOperators>(step: &Step, registers: &[R]) -> Result<R, Why>
     requires { StepWithin (length registers.now) step.now }
@@ -169,7 +169,7 @@ fn target(step: &Step) -> usize
     }
 }
 
-/// One step. Where it stops, nothing is written.
+/// Carries out one step. If it stops, nothing is written.
 #[tactic(auto, using(crate::proofs::StepLemmas::writes))]
 fn apply<R: BitwiseOperators>(step: &Step, registers: &mut [R]) -> Result<(), Why>
     requires { StepWithin (length registers.old) step.now }
@@ -182,14 +182,14 @@ fn apply<R: BitwiseOperators>(step: &Step, registers: &mut [R]) -> Result<(), Wh
     Ok(())
 }
 
-/// The steps in order, up to the first that stops. That one writes nothing, and the result has its place.
+/// Carries out the steps in order, up to the first that stops. That one writes nothing, and the
+/// result has its place. Requires that each register number is below the number of registers, which
+/// `well_formed` tests.
 ///
-/// Afterwards the numbers of the registers, and the ending, are those that `RunOf` gives: the
-/// arithmetic of whole numbers and bit lists, whatever the storage. The precondition is that each register
-/// number is below the number of registers (test it by `well_formed`).
-///
-/// Where the list has only checked sums, differences, products and quotients, the steps that were carried out
-/// give the same numbers, and no stop, at every type whose range has that of `R`.
+/// The numbers of the registers and the result are those of `RunOf`, a definition over integers and
+/// lists of bits that does not mention storage. If the list has only checked sums, differences,
+/// products and quotients, the steps that were carried out leave the same numbers, with no stop, at
+/// every type whose range contains that of `R`.
 #[tactic(auto, using(crate::proofs::RunLemmas::runs))]
 pub fn run<R: BitwiseOperators>(steps: &[Step], registers: &mut [R]) -> Result<(), Stop>
     requires { All (StepWithin (length registers.old)) steps.now }

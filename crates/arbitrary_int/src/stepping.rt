@@ -12,7 +12,7 @@ use arbitrary_base::storage::Storage;
 use arbitrary_calls::calls::sums::SumCalls;
 use arbitrary_traits::integer::Integer;
 
-/// The next value. The limit shows that there is one.
+/// The next value. Requires a greater one, `limit`.
 #[tactic(auto, using(crate::proofs::SteppingLemmas::in_up))]
 pub(crate) fn after<V: SumCalls>(x: V, limit: V) -> V
     requires { V.number x <ℤ V.number limit }
@@ -23,7 +23,7 @@ pub(crate) fn after<V: SumCalls>(x: V, limit: V) -> V
     forward(x, 1)
 }
 
-/// The value before. The limit shows that there is one.
+/// The value before. Requires a lesser one, `limit`.
 #[tactic(auto, using(crate::proofs::SteppingLemmas::in_down))]
 pub(crate) fn before<V: SumCalls>(x: V, limit: V) -> V
     requires { V.number limit <ℤ V.number x }
@@ -34,7 +34,7 @@ pub(crate) fn before<V: SumCalls>(x: V, limit: V) -> V
     backward(x, 1)
 }
 
-/// The value `by` above, which the type has.
+/// The value `by` steps above. Requires that it is in range.
 #[tactic(auto, using(crate::proofs::SteppingLemmas::moves))]
 fn forward<V: SumCalls>(x: V, by: u128) -> V
     requires { InRange V.IS_SIGNED V.BITS (V.number x +ℤ pos by) }
@@ -44,7 +44,7 @@ fn forward<V: SumCalls>(x: V, by: u128) -> V
     x.wrapping_add(V::masked_new(by))
 }
 
-/// The value `by` below, which the type has.
+/// The value `by` steps below. Requires that it is in range.
 #[tactic(auto, using(crate::proofs::SteppingLemmas::moves))]
 fn backward<V: SumCalls>(x: V, by: u128) -> V
     requires { InRange V.IS_SIGNED V.BITS (V.number x -ℤ pos by) }
@@ -54,7 +54,7 @@ fn backward<V: SumCalls>(x: V, by: u128) -> V
     x.wrapping_sub(V::masked_new(by))
 }
 
-/// How far it is from `start` up to `end`, which is not less.
+/// The number of steps from `start` up to `end`. Requires that `start` is not greater.
 #[tactic(auto, using(crate::proofs::SteppingLemmas::distances))]
 fn distance<V: SumCalls>(start: V, end: V) -> u128
     requires { V.number start ≤ℤ V.number end }
@@ -65,10 +65,10 @@ fn distance<V: SumCalls>(start: V, end: V) -> u128
     Storage::wrapping_sub(end.as_u128(), start.as_u128())
 }
 
-/// Values a number of steps apart: `UInt` and `Int`, at every width.
+/// Values that are some steps above or below another. `UInt` and `Int` implement it at every width.
 pub trait Stepping: Integer + SumCalls {
-    /// How many steps it is from `start` up to `end`: the number twice, `(usize::MAX, None)` if it does not fit a
-    /// `usize`, and `(0, None)` if `start` is greater.
+    /// The number of steps from `start` up to `end`, twice: `(usize::MAX, None)` if it does not fit
+    /// in a `usize`, and `(0, None)` if `start` is greater.
     final fn steps_between(start: &Self, end: &Self) -> (usize, Option<usize>)
         ensures { StepsBetween (Self.number end.now -ℤ Self.number start.now) result }
     {
@@ -83,7 +83,7 @@ pub trait Stepping: Integer + SumCalls {
         }
     }
 
-    /// The value `count` steps above, and `None` exactly where the type has none.
+    /// The value `count` steps above, or `None` exactly if it is out of range.
     #[tactic(auto, using(crate::proofs::SteppingLemmas::ends))]
     final fn forward_checked(start: Self, count: usize) -> Option<Self>
         ensures { SomeIff (option_map Self.number result)
@@ -98,7 +98,7 @@ pub trait Stepping: Integer + SumCalls {
         }
     }
 
-    /// The value `count` steps below, and `None` exactly where the type has none.
+    /// The value `count` steps below, or `None` exactly if it is out of range.
     #[tactic(auto, using(crate::proofs::SteppingLemmas::ends))]
     final fn backward_checked(start: Self, count: usize) -> Option<Self>
         ensures { SomeIff (option_map Self.number result)

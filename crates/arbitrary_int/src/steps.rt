@@ -1,30 +1,30 @@
 //! Steps. Each reads one or two registers and writes one.
 
-/// What a step makes of two registers.
+/// An operation on two registers.
 #[derive(Clone, Copy, Debug, PartialEq, Eq)]
 pub enum TwoOp {
     WrappingAdd,
     WrappingSub,
     WrappingMul,
-    /// Stops at a divisor of zero, as a zero divisor.
+    /// Stops with `Why::ZeroDivisor` if the divisor is zero.
     WrappingDiv,
     SaturatingAdd,
     SaturatingSub,
     SaturatingMul,
-    /// Stops at a divisor of zero, as a zero divisor.
+    /// Stops with `Why::ZeroDivisor` if the divisor is zero.
     SaturatingDiv,
-    /// The checked ones stop where the exact result is out of range, as refused.
+    /// A checked operation stops with `Why::Refused` if the exact result is out of range.
     CheckedAdd,
     CheckedSub,
     CheckedMul,
-    /// Stops at a divisor of zero too, as refused.
+    /// Also stops with `Why::Refused` if the divisor is zero.
     CheckedDiv,
     And,
     Or,
     Xor,
 }
 
-/// What a step makes of one register.
+/// An operation on one register.
 #[derive(Clone, Copy, Debug, PartialEq, Eq)]
 pub enum OneOp {
     Not,
@@ -33,13 +33,13 @@ pub enum OneOp {
     WrappingNeg,
 }
 
-/// What a step makes of one register and an amount.
+/// An operation on one register and an amount.
 #[derive(Clone, Copy, Debug, PartialEq, Eq)]
 pub enum ByOp {
-    /// Shifts and rotations go by the amount modulo the width.
+    /// Wrapping shifts and rotations use the amount modulo the width.
     WrappingShl,
     WrappingShr,
-    /// The checked ones stop at an amount of the width or more, as refused.
+    /// Checked shifts stop with `Why::Refused` if the amount is the width or more.
     CheckedShl,
     CheckedShr,
     RotateLeft,
@@ -48,8 +48,8 @@ pub enum ByOp {
     SaturatingPow,
 }
 
-/// A step. It reads its sources, then writes what the operation gives into the register `to`. The
-/// registers are numbered from 0, and may coincide.
+/// A step reads its sources, then writes the result of its operation into the register `to`.
+/// Registers are numbered from 0, and may coincide.
 #[derive(Clone, Copy, Debug, PartialEq, Eq)]
 pub enum Step {
     Two {
@@ -76,14 +76,14 @@ pub enum Step {
 pub enum Why {
     /// A checked operation has no result.
     Refused,
-    /// An unchecked division by zero.
+    /// The divisor of an unchecked division is zero.
     ZeroDivisor,
 }
 
 /// Where a list of steps stopped, and why.
 #[derive(Clone, Copy, Debug, PartialEq, Eq)]
 pub struct Stop {
-    /// The step's place in the list, counted from 0.
+    /// The place of the step in the list, counted from 0.
     pub at: usize,
     pub why: Why,
 }

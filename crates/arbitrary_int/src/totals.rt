@@ -11,8 +11,9 @@ use arbitrary_calls::calls::sums::SumCalls;
 use arbitrary_traits::integer::Integer;
 use arbitrary_traits::numbered::Numbered;
 
-/// The sum of the items, from 0 and from the left, and `None` exactly where a partial sum is out of range, also
-/// where later items would bring it back. The iterator ends, and the width is valid.
+/// The sum of the items, from 0 and from the left, or `None` exactly if a partial sum is out of
+/// range, even if later items would bring it back. Requires a valid width, and an iterator that
+/// ends.
 pub fn try_sum<V: Integer + SumCalls, I: Iterator<Item = V> + Drop>(iter: I) -> Option<V>
     requires width { V.valid }
     requires can { I.can_next iter }
@@ -30,7 +31,7 @@ pub fn try_sum<V: Integer + SumCalls, I: Iterator<Item = V> + Drop>(iter: I) -> 
     Some(total)
 }
 
-/// The number 1, and `None` where the type has none: the signed type of one bit.
+/// The number 1, or `None` for the signed type of one bit, which has no 1.
 #[tactic(auto, using(crate::proofs::TotalSteps::one_laws))]
 fn one<V: Numbered>() -> Option<V>
     requires { V.valid }
@@ -47,8 +48,9 @@ fn one<V: Numbered>() -> Option<V>
     Some(V::masked_new(1u8))
 }
 
-/// The product of the items, from 1 and from the left, and `None` exactly where 1 or a partial product is out of
-/// range: always on the signed type of one bit, which has no 1. The iterator ends, and the width is valid.
+/// The product of the items, from 1 and from the left, or `None` exactly if 1 or a partial product
+/// is out of range. The signed type of one bit has no 1. Requires a valid width, and an iterator
+/// that ends.
 pub fn try_product<V: ProductCalls, I: Iterator<Item = V> + Drop>(iter: I) -> Option<V>
     requires width { V.valid }
     requires can { I.can_next iter }

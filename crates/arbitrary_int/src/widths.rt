@@ -22,7 +22,7 @@ fn low_bits_of<W: Numbered, N: Numbered>(wide: W, narrow: N) -> N
     N::masked_new(wide)
 }
 
-/// Each narrow register becomes the truncation of the wide one.
+/// Sets each narrow register to the truncation of the wide one.
 #[tactic(auto, using(crate::proofs::LowBitRuns::narrowed))]
 fn narrow_all<W: Numbered, N: Numbered>(wide: &[W], narrow: &mut [N])
     requires { length wide.now ≡ length narrow.old }
@@ -34,13 +34,13 @@ fn narrow_all<W: Numbered, N: Numbered>(wide: &[W], narrow: &mut [N])
     }
 }
 
-/// `run` on the wide registers; then, with and without a stop, each narrow register is the truncation of the
-/// wide one: its number, wrapped.
+/// Runs the steps on the wide registers. Then, also after a stop, it sets each narrow register to
+/// the truncation of the wide one. Requires that each register number is below the number of wide
+/// registers, which `well_formed` tests, and that there are as many narrow ones.
 ///
-/// Where each step is a low-bit step of the narrow width (`IsLowBit` lists them), and that width is no more
-/// than the wide one, there is no stop, and the narrow registers are what masking first and running narrow
-/// gives. The two signs and storages may be any. The precondition is that each register number is below the
-/// number of wide registers (test it by `well_formed`), and that there are as many narrow ones.
+/// If each step is a low-bit step of the narrow width (`IsLowBit` lists them), and that width is at
+/// most the wide one, there is no stop. The narrow registers are then those of truncating first and
+/// running narrow. The signs and storages may differ.
 pub fn run_wide<W: BitwiseOperators, N: Numbered>(
     steps: &[Step],
     wide: &mut [W],

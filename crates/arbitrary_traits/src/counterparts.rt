@@ -5,15 +5,16 @@ ghost use Rattle.std.proofs.Common.{refl};
 
 use crate::integer::{Integer, SignedInteger, UnsignedInteger};
 
-/// The unsigned type of the width of `S`. Its number is the one that `to_unsigned` and `from_unsigned` of `S`
-/// speak of. Generic code asks it by `S::UnsignedInteger: UnsignedCounterpart<S>`.
+/// The unsigned type of the same width as `S`, between which `to_unsigned` and `from_unsigned` of
+/// `S` convert. Generic code requires it by `S::UnsignedInteger: UnsignedCounterpart<S>`.
 pub trait UnsignedCounterpart<S: Integer<UnsignedInteger = Self>>: UnsignedInteger {
     ghost width_law: { Self.BITS ≡ S.BITS };
 
     ghost number_law: { (x : Self) → S.unsigned_number x ≡ Self.number x };
 }
 
-/// The signed type of the width of `S`. Generic code asks it by `S::SignedInteger: SignedCounterpart<S>`.
+/// The signed type of the same width as `S`. Generic code requires it by
+/// `S::SignedInteger: SignedCounterpart<S>`.
 pub trait SignedCounterpart<S: Integer<SignedInteger = Self>>: SignedInteger {
     ghost width_law: { Self.BITS ≡ S.BITS };
 }

@@ -18,11 +18,11 @@ use std::ops::{
     Mul, MulAssign, Neg, Not, Sub, SubAssign,
 };
 
-/// An integer type of `BITS` bits, with the operators of its numbers.
+/// An integer type of `BITS` bits, with the operators on its numbers.
 ///
-/// Equality, order and text are those of the number. The operators `+ - * /` and their assigning
-/// forms are allowed where the exact result is in range and a divisor is not 0, and give it.
-/// `& | ^ !` and their assigning forms work bit by bit, on the `BITS` bits of two's complement.
+/// Equality, order and text are those of the number. `+ - * /` and their assigning forms return the
+/// exact result. They require that it is in range, and that a divisor is not 0. `& | ^ !` and their
+/// assigning forms work on the `BITS` bits of two's complement.
 pub trait Integer: Numbered
     + Clone
     + PartialOrd
@@ -51,7 +51,7 @@ pub trait Integer: Numbered
     + BitAndAssign<Self>
     + BitOrAssign<Self>
     + BitXorAssign<Self> {
-    /// The storage that keeps the number. That of a primitive is itself.
+    /// The storage of the number. A primitive is its own storage.
     type UnderlyingType;
 
     /// The unsigned type of the same width, over the unsigned storage of the same width.
@@ -65,28 +65,28 @@ pub trait Integer: Numbered
 
     ghost unsigned_number: { Self.UnsignedInteger → ℤ };
 
-    /// The least number. The width is valid.
+    /// The least number. Requires a valid width.
     fn min_value() -> Self
         requires { Self.valid }
         ensures { Self.number result ≡ lo Self.IS_SIGNED Self.BITS };
 
-    /// The greatest number. The width is valid.
+    /// The greatest number. Requires a valid width.
     fn max_value() -> Self
         requires { Self.valid }
         ensures { Self.number result ≡ hi Self.IS_SIGNED Self.BITS };
 
-    /// The number 0. The width is valid.
+    /// The number 0. Requires a valid width.
     fn zero() -> Self
         requires { Self.valid }
         ensures { Self.number result ≡ pos 0 };
 
-    /// The number of `value`, which is in range. The width is valid.
+    /// The value of a number. Requires a valid width, and a number in range, which `try_new` tests.
     fn new(value: Self::UnderlyingType) -> Self
         requires width { Self.valid }
         requires value_in_range { InRange Self.IS_SIGNED Self.BITS (underlying value) }
         ensures { Self.number result ≡ underlying value };
 
-    /// The number of `value`, and an error exactly where it is out of range. The width is valid.
+    /// The value of a number, or an error exactly if it is out of range. Requires a valid width.
     fn try_new(value: Self::UnderlyingType) -> Result<Self, TryNewError>
         requires { Self.valid }
         ensures { let given = underlying value in MatchResult result
@@ -199,7 +199,7 @@ pub trait Integer: Numbered
         × agree Self.can_bitxor Self.can_bitxor_assign Self.bitxor_gives Self.bitxor_assign_gives };
 }
 
-/// An integer type that has no sign.
+/// An unsigned integer type.
 pub trait UnsignedInteger: Integer {
     ghost unsigned_law: { Self.IS_SIGNED ≡ false };
 
@@ -207,8 +207,8 @@ pub trait UnsignedInteger: Integer {
     ghost one_law: { Self.valid → 1 < 2 ^ Self.BITS };
 }
 
-/// An integer type that has a sign. Unary minus is allowed where the exact result is in range, and
-/// gives it: everywhere but at the least number.
+/// A signed integer type. Unary minus requires that the exact result is in range: the number is not
+/// the least one.
 pub trait SignedInteger: Integer + Neg<Output = Self> {
     ghost signed_law: { Self.IS_SIGNED ≡ true };
 

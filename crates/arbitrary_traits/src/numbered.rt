@@ -9,9 +9,9 @@ ghost use Rattle.arbitrary_base.specs.Residue.{residue, wrap, Congruent};
 
 use arbitrary_base::storage::Sealed;
 
-/// A type whose values are the numbers of a width, with or without a sign: from 0 to `2 ^ BITS - 1`, or, where it has a
-/// sign, from `-2 ^ (BITS - 1)` to `2 ^ (BITS - 1) - 1`. Conversions keep the number where the type has it, and else its low
-/// bits.
+/// A type whose values are the numbers of a width: from 0 to `2 ^ BITS - 1`, or for a signed type
+/// from `-2 ^ (BITS - 1)` to `2 ^ (BITS - 1) - 1`. A conversion keeps the number if it is in range,
+/// and otherwise its low bits.
 pub trait Numbered: Copy + Sealed {
     /// The width in bits.
     const BITS: usize;
@@ -36,14 +36,15 @@ pub trait Numbered: Copy + Sealed {
         ensures self_in_range { InRange IS_SIGNED BITS (number self) }
         ensures width { valid };
 
-    /// The type's number that is congruent to `pattern` modulo `2 ^ BITS`. The width is valid.
+    /// The number that is congruent to `pattern` modulo `2 ^ BITS`. Requires a valid width.
     fn from_u128_bits(pattern: u128) -> Self
         requires { valid }
         ensures value { number result ≡ wrap IS_SIGNED BITS (pos pattern) }
         ensures undo { (y : ℤ) → let low = residue 128 y in
             InRange IS_SIGNED BITS y → pattern ≡ low → number result ≡ y };
 
-    /// The same number, which is in range of this type, from any other. The width is valid.
+    /// The same number, of any other type. Requires a valid width, and a number in range of this
+    /// type.
     final fn from_<T: Numbered>(value: T) -> Self
         requires width { valid }
         requires value_in_range { let given = T.number value in
@@ -58,8 +59,8 @@ pub trait Numbered: Copy + Sealed {
     // where the number may change. `congruent` is for each equal `y`, so that no search opens it unasked. `congruent_to` is for
     // what the number is congruent to at its own width. In `as_u8` to `as_isize` it requires an unsigned type, or the search would
     // not compare a byte of a signed number.
-    /// The type's number that is congruent to that of `value` modulo `2 ^ BITS`: high bits are
-    /// dropped, and the sign is extended. The width is valid.
+    /// The number that is congruent to that of `value` modulo `2 ^ BITS`: high bits are dropped,
+    /// and the sign is extended. Requires a valid width.
     #[tactic(auto, using(crate::proofs::Conversion::conversions))]
     final fn masked_new<T: Numbered>(value: T) -> Self
         requires { valid }
@@ -84,7 +85,7 @@ pub trait Numbered: Copy + Sealed {
         Self::from_u128_bits(value.to_u128_bits())
     }
 
-    /// `T::masked_new` of the value. The width of `T` is valid.
+    /// `T::masked_new` of the value. Requires a valid width of `T`.
     final fn as_<T: Numbered>(self) -> T
         requires { T.valid }
         ensures value { T.number result ≡ wrap T.IS_SIGNED T.BITS (number self) }
@@ -108,7 +109,7 @@ pub trait Numbered: Copy + Sealed {
         T::masked_new(self)
     }
 
-    /// The low 8 bits, unsigned.
+    /// The low 8 bits, as an unsigned number.
     final fn as_u8(self) -> u8
         ensures value { pos result ≡ wrap false 8 (number self) }
         ensures exact { InRange false 8 (number self) → pos result ≡ number self }
@@ -124,7 +125,7 @@ pub trait Numbered: Copy + Sealed {
         self.as_::<u8>()
     }
 
-    /// The low 16 bits, unsigned.
+    /// The low 16 bits, as an unsigned number.
     final fn as_u16(self) -> u16
         ensures value { pos result ≡ wrap false 16 (number self) }
         ensures exact { InRange false 16 (number self) → pos result ≡ number self }
@@ -140,7 +141,7 @@ pub trait Numbered: Copy + Sealed {
         self.as_::<u16>()
     }
 
-    /// The low 32 bits, unsigned.
+    /// The low 32 bits, as an unsigned number.
     final fn as_u32(self) -> u32
         ensures value { pos result ≡ wrap false 32 (number self) }
         ensures exact { InRange false 32 (number self) → pos result ≡ number self }
@@ -156,7 +157,7 @@ pub trait Numbered: Copy + Sealed {
         self.as_::<u32>()
     }
 
-    /// The low 64 bits, unsigned.
+    /// The low 64 bits, as an unsigned number.
     final fn as_u64(self) -> u64
         ensures value { pos result ≡ wrap false 64 (number self) }
         ensures exact { InRange false 64 (number self) → pos result ≡ number self }
@@ -172,7 +173,7 @@ pub trait Numbered: Copy + Sealed {
         self.as_::<u64>()
     }
 
-    /// The low 128 bits, unsigned.
+    /// The low 128 bits, as an unsigned number.
     final fn as_u128(self) -> u128
         ensures value { pos result ≡ wrap false 128 (number self) }
         ensures exact { InRange false 128 (number self) → pos result ≡ number self }
@@ -187,7 +188,7 @@ pub trait Numbered: Copy + Sealed {
         self.as_::<u128>()
     }
 
-    /// The low 64 bits, unsigned.
+    /// The low 64 bits, as an unsigned number.
     final fn as_usize(self) -> usize
         ensures value { pos result ≡ wrap false 64 (number self) }
         ensures exact { InRange false 64 (number self) → pos result ≡ number self }
@@ -203,7 +204,7 @@ pub trait Numbered: Copy + Sealed {
         self.as_u64() as usize
     }
 
-    /// The low 8 bits, in two's complement.
+    /// The low 8 bits, as a signed number.
     #[tactic(auto, using(crate::proofs::Conversion::wider_types))]
     final fn as_i8(self) -> i8
         ensures value { result ≡ wrap true 8 (number self) }
@@ -220,7 +221,7 @@ pub trait Numbered: Copy + Sealed {
         self.as_::<i8>()
     }
 
-    /// The low 16 bits, in two's complement.
+    /// The low 16 bits, as a signed number.
     #[tactic(auto, using(crate::proofs::Conversion::wider_types))]
     final fn as_i16(self) -> i16
         ensures value { result ≡ wrap true 16 (number self) }
@@ -237,7 +238,7 @@ pub trait Numbered: Copy + Sealed {
         self.as_::<i16>()
     }
 
-    /// The low 32 bits, in two's complement.
+    /// The low 32 bits, as a signed number.
     #[tactic(auto, using(crate::proofs::Conversion::wider_types))]
     final fn as_i32(self) -> i32
         ensures value { result ≡ wrap true 32 (number self) }
@@ -254,7 +255,7 @@ pub trait Numbered: Copy + Sealed {
         self.as_::<i32>()
     }
 
-    /// The low 64 bits, in two's complement.
+    /// The low 64 bits, as a signed number.
     #[tactic(auto, using(crate::proofs::Conversion::wider_types))]
     final fn as_i64(self) -> i64
         ensures value { result ≡ wrap true 64 (number self) }
@@ -271,7 +272,7 @@ pub trait Numbered: Copy + Sealed {
         self.as_::<i64>()
     }
 
-    /// The low 128 bits, in two's complement.
+    /// The low 128 bits, as a signed number.
     #[tactic(auto, using(crate::proofs::Conversion::wider_types))]
     final fn as_i128(self) -> i128
         ensures value { result ≡ wrap true 128 (number self) }
@@ -288,7 +289,7 @@ pub trait Numbered: Copy + Sealed {
         self.as_::<i128>()
     }
 
-    /// The low 64 bits, in two's complement.
+    /// The low 64 bits, as a signed number.
     #[tactic(auto, using(crate::proofs::Conversion::wider_types))]
     final fn as_isize(self) -> isize
         ensures value { result ≡ wrap true 64 (number self) }

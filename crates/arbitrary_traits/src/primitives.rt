@@ -26,7 +26,7 @@ pub mod bits32;
 pub mod bits64;
 pub mod bits8;
 
-/// A primitive integer, with what its operators do: the laws of `Integer` at its own width.
+/// A primitive integer whose operators meet the laws of `Integer` at its own width.
 pub trait Primitive: BuiltinInteger
     + LowerHex
     + UpperHex

@@ -5,12 +5,12 @@ ghost use Rattle.std.specs.Prelude.{◌≡◌, ◌^◌, ◌≤ℤ◌, ◌<ℤ◌
 use crate::primitives::Primitive;
 use arbitrary_base::storage::Sealed;
 
-/// A primitive integer that is the amount of a shift.
+/// A primitive integer type, for the amount of a shift.
 pub trait ShiftAmount: Sealed + Copy {
     // The number of a value.
     ghost amount: { Self → ℤ };
 
-    /// The amount, which is from 0 to `2 ^ 64 - 1`.
+    /// The amount. Requires a number from 0 to `2 ^ 64 - 1`.
     fn to_amount(self) -> usize
         requires low { pos 0 ≤ℤ amount self }
         requires high { amount self <ℤ pos (2 ^ 64) }

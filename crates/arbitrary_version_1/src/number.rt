@@ -11,12 +11,12 @@ use arbitrary_core::unsigned::UInt;
 use arbitrary_traits::integer::{Integer, UnsignedInteger};
 use arbitrary_traits::numbered::Numbered;
 
-/// An unsigned integer type. Each call does as that of `Integer` of the same name.
+/// An unsigned integer type. Each call does what the call of `Integer` of the same name does.
 ///
-/// It is deprecated, and not in the prelude: both traits have calls of these names, so a file that brings in
-/// both says which it means, as `Number::as_u8(&x)`.
+/// It is deprecated, and not in the prelude. If a file imports both traits, a call names one of
+/// them: `Number::as_u8(&x)`.
 pub trait Number: UnsignedInteger + Integer<UnderlyingType = <Self as Number>::UnderlyingType> {
-    /// The storage that keeps the number: that of `Integer`.
+    /// The storage of the number, as for `Integer`.
     type UnderlyingType;
 
     /// The width in bits.
@@ -26,7 +26,7 @@ pub trait Number: UnsignedInteger + Integer<UnderlyingType = <Self as Number>::U
 
     ghost bits_law: { BITS ≡ Self.Numbered.BITS };
 
-    /// The least number, which is 0. The width is valid.
+    /// The least number, which is 0. Requires a valid width.
     final fn min_value() -> Self
         requires { Self.valid }
         ensures { Self.number result ≡ lo Self.IS_SIGNED Self.Numbered.BITS }
@@ -34,7 +34,7 @@ pub trait Number: UnsignedInteger + Integer<UnderlyingType = <Self as Number>::U
         <Self as Integer>::min_value()
     }
 
-    /// The greatest number. The width is valid.
+    /// The greatest number. Requires a valid width.
     final fn max_value() -> Self
         requires { Self.valid }
         ensures { Self.number result ≡ hi Self.IS_SIGNED Self.Numbered.BITS }
@@ -42,7 +42,7 @@ pub trait Number: UnsignedInteger + Integer<UnderlyingType = <Self as Number>::U
         <Self as Integer>::max_value()
     }
 
-    /// The number of `value`, which is in range. The width is valid.
+    /// The value of a number. Requires a valid width, and a number in range, which `try_new` tests.
     final fn new(value: <Self as Number>::UnderlyingType) -> Self
         requires width { Self.valid }
         requires value_in_range { InRange Self.IS_SIGNED Self.Numbered.BITS
@@ -52,7 +52,7 @@ pub trait Number: UnsignedInteger + Integer<UnderlyingType = <Self as Number>::U
         <Self as Integer>::new(value)
     }
 
-    /// The number of `value`, and an error exactly where it is out of range. The width is valid.
+    /// The value of a number, or an error exactly if it is out of range. Requires a valid width.
     final fn try_new(value: <Self as Number>::UnderlyingType) -> Result<Self, TryNewError>
         requires { Self.valid }
         ensures { let given = Self.underlying value in MatchResult result
@@ -71,7 +71,8 @@ pub trait Number: UnsignedInteger + Integer<UnderlyingType = <Self as Number>::U
         <Self as Integer>::value(self)
     }
 
-    /// The same number, which is in range of this type, from any other. The width is valid.
+    /// The same number, of any other unsigned type. Requires a valid width, and a number in range
+    /// of this type.
     final fn from_<T: Number>(value: T) -> Self
         requires width { Self.valid }
         requires value_in_range { InRange Self.IS_SIGNED Self.Numbered.BITS (T.number value) }
@@ -80,7 +81,7 @@ pub trait Number: UnsignedInteger + Integer<UnderlyingType = <Self as Number>::U
         <Self as Numbered>::from_(value)
     }
 
-    /// The truncation of `value` at this width: high bits are dropped. The width is valid.
+    /// The number of `value` modulo `2 ^ BITS`: high bits are dropped. Requires a valid width.
     final fn masked_new<T: Number>(value: T) -> Self
         requires { Self.valid }
         ensures value { let given = T.number value in
@@ -152,7 +153,7 @@ pub trait Number: UnsignedInteger + Integer<UnderlyingType = <Self as Number>::U
         Numbered::as_usize(*self)
     }
 
-    /// `T::masked_new` of the value. The width of `T` is valid.
+    /// `T::masked_new` of the value. Requires a valid width of `T`.
     final fn as_<T: Number>(self) -> T
         requires { T.valid }
         ensures value { T.number result ≡ wrap T.IS_SIGNED T.Numbered.BITS (Self.number self) }

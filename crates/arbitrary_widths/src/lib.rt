@@ -15,12 +15,14 @@ pub mod room;
 pub mod to_128;
 pub mod to_64;
 
-/// The storage has room for `B` bits: each does for every `B` from 1 to its own width, and for no other.
+/// The storage has room for `B` bits. A storage implements it for every `B` from 1 to its own
+/// width, and for no other.
 pub trait HasWidth<const B: usize>: Storage {
     ghost valid_law: { IsInRange 1 Self.WIDTH B };
 }
 
-/// Each number of the storage is one of `B` bits: so for every `B` from its own width to 128, and for no other.
+/// Each number of the storage fits in `B` bits. A storage implements it for every `B` from its own
+/// width to 128, and for no other.
 pub trait FitsIn<const B: usize>: Storage {
     ghost fits_law: { Self.WIDTH ≤ B };
 }

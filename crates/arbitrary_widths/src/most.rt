@@ -5,7 +5,7 @@ ghost use Rattle.std.proofs.Common.{lit≤};
 
 use arbitrary_base::storage::Storage;
 
-/// A storage of at most 128 bits: each of them.
+/// A storage of at most 128 bits, which is any storage.
 pub trait AtMost128: Storage {
     ghost most_128_law: { Self.WIDTH ≤ 128 };
 }

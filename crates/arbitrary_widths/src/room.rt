@@ -5,7 +5,7 @@ ghost use Rattle.std.proofs.Common.{lit≤};
 
 use arbitrary_base::storage::Storage;
 
-/// A storage of at least 8 bits: each of them.
+/// A storage of at least 8 bits, which is any storage.
 pub trait AtLeast8: Storage {
     ghost room_8_law: { 8 ≤ Self.WIDTH };
 }

@@ -2,8 +2,8 @@
 
 ghost use Rattle.bit_fields.specs.BitField.{PutSetsItsBits, PutKeepsOtherBits, FieldAfterPut, PutsSetTheirBits, PutsKeepOtherBits, FieldAfterPuts, PutsInAnyOrder, DisjointPutsCommute};
 
-/// A put into a word of 128 bits sets the bits of its field and keeps all others. So do puts to disjoint
-/// fields, in any order: each field reads as what was put there.
+/// A put into a word of 128 bits sets the bits of its field, and changes no others. Puts to
+/// disjoint fields do so in any order: each field reads as what was put there.
 #[tactic(auto, using(crate::proofs::Placing::field_rules))]
 pub fn field_laws()
     ensures put_sets { PutSetsItsBits }

@@ -22,8 +22,8 @@ pub struct Record {
 }
 
 impl Record {
-    /// The value of the field of `F::BITS` bits from bit `start` on, of any of the types and of a primitive. The
-    /// field ends at or before bit 128, and the width is valid.
+    /// The value of the field of `F::BITS` bits from bit `start` on. `F` is `UInt`, `Int` or a
+    /// primitive. Requires a valid width, and that `start + F::BITS` is at most 128.
     pub fn get<F: Numbered>(&self, start: usize) -> F
         requires width { F.valid }
         requires within { start + F.BITS ≤ 128 }
@@ -34,8 +34,9 @@ impl Record {
         F::from_u128_bits(self.bits >> start)
     }
 
-    /// Puts the value's bits into the field of `F::BITS` bits from bit `start` on, of any of the types and of a
-    /// primitive. The field ends at or before bit 128. All other bits stay.
+    /// Puts the value's bits into the field of `F::BITS` bits from bit `start` on, and changes no
+    /// other bit. `F` is `UInt`, `Int` or a primitive. Requires that `start + F::BITS` is at most
+    /// 128.
     pub fn put<F: Numbered>(&mut self, start: usize, value: F)
         requires { start + F.BITS ≤ 128 }
         ensures bits { let list = bits_of F.BITS (F.number value) in
@@ -62,7 +63,7 @@ impl Record {
     }
 }
 
-/// The value's bits, and none above them.
+/// The value's bits, with zeros above them.
 // A number of a type with no sign has none above, so nothing is masked there.
 fn bits_alone<F: Numbered>(value: F) -> u128
     ensures value { result ≡ residue F.BITS (F.number value) }
@@ -88,8 +89,8 @@ fn replaced(word: u128, start: usize, count: usize, pattern: u128) -> u128
     (word & !(low_mask(count) << start)) | (pattern << start)
 }
 
-/// Whether no bit lies in both of the fields, each given by its start and its width. Each ends at or before
-/// bit 128.
+/// Whether two fields share no bit. Each has a start and a width, and requires that their sum is at
+/// most 128.
 pub fn disjoint(start1: usize, width1: usize, start2: usize, width2: usize) -> bool
     requires first { start1 + width1 ≤ 128 }
     requires second { start2 + width2 ≤ 128 }

@@ -6,13 +6,13 @@ ghost use Rattle.std.specs.Prelude.{◌≡◌, ℕ, List};
 ghost use Rattle.bitrun_text.specs.Form.{BadLine};
 ghost use Rattle.bitrun_service.specs.Output.{IsOutput};
 
-/// An input has one output at most.
+/// An input has at most one output.
 pub fn one_output()
     ensures { (input text other : List ℕ) → IsOutput input text → IsOutput input other
         → text ≡ other }
 {}
 
-/// An input has one bad line at most.
+/// An input has at most one first bad line.
 pub fn one_bad_line()
     ensures { (input : List ℕ) (line other : ℕ) → BadLine input line → BadLine input other
         → line ≡ other }

@@ -18,7 +18,7 @@ use bitrun_text::parsing::{registers, steps};
 use bitrun_text::text::Cursor;
 use std::alloc::{AllocError, Allocator};
 
-/// The whole output to an input.
+/// The whole output of an input.
 #[tactic(auto, using(crate::proofs::WholeOutputs::outputs))]
 pub fn output<'a, A: Allocator>(alloc: &'a A, input: &[u8]) -> Result<Vec<u8, &'a A>, Fault>
     requires { length input.now ≤ 65536 }
@@ -37,7 +37,7 @@ pub fn output<'a, A: Allocator>(alloc: &'a A, input: &[u8]) -> Result<Vec<u8, &'
     output_with(alloc, kind, &mut text)
 }
 
-/// The output of the lines from the second on, with registers of the kind.
+/// The output of the lines from the second on, with registers of this kind.
 fn output_with<'a, A: Allocator>(
     alloc: &'a A,
     kind: Kind,
@@ -57,7 +57,7 @@ fn output_with<'a, A: Allocator>(
     }
 }
 
-/// The output of the lines from the second on, with registers of the type.
+/// The output of the lines from the second on, with registers of this type.
 fn output_of<'a, A: Allocator>(
     alloc: &'a A,
     register: RegisterType,
@@ -82,7 +82,7 @@ fn output_of<'a, A: Allocator>(
     }
 }
 
-/// The output of the lines from the second on, with registers of the two types.
+/// The output of the lines from the second on, with registers of these two types.
 fn wide_output_of<'a, A: Allocator>(
     alloc: &'a A,
     pair: WidePair,
@@ -139,7 +139,7 @@ fn wide_output_at<'a, W: BitwiseOperators, N: Integer, A: Allocator>(
     Ok(wide_run_text::<W, N, A>(alloc, steps.as_slice(), wide.as_mut_slice())?)
 }
 
-/// The registers that the second line holds, and the steps that the later ones name.
+/// The registers of the second line, and the steps that the later lines name.
 fn registers_and_steps<'a, R: Numbered, A: Allocator>(
     alloc: &'a A,
     lines: &mut Cursor,

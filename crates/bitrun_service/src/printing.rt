@@ -43,7 +43,7 @@ pub(crate) fn push_output<R: Numbered, B: Allocator>(
     push_ending(text, ending)
 }
 
-/// Appends the numbers with a space between.
+/// Appends the numbers, with a space between two of them.
 fn push_registers<R: Numbered, B: Allocator>(
     text: &mut Vec<u8, B>,
     registers: &[R],
@@ -89,7 +89,7 @@ fn push_register<R: Numbered, B: Allocator>(
     push_decimal(text, number_of(register))
 }
 
-/// The number of a register, with the fact that it is a number of its type.
+/// The number of a register, which is in range of its type.
 fn number_of<R: Numbered>(register: R) -> i128
     requires { R.BITS ≤ 120 }
     ensures number { result ≡ R.number register }

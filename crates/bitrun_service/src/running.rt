@@ -10,7 +10,7 @@ use arbitrary_int::traits::{BitwiseOperators, Integer, Numbered};
 use arbitrary_int::{Step, run, run_wide};
 use std::alloc::{AllocError, Allocator};
 
-/// Runs the steps. The registers in decimal, and how the run ended.
+/// Runs the steps, and returns the text of the registers and of how the run ended.
 pub(crate) fn run_text<'a, R: BitwiseOperators, A: Allocator>(
     alloc: &'a A,
     steps: &[Step],
@@ -28,7 +28,8 @@ pub(crate) fn run_text<'a, R: BitwiseOperators, A: Allocator>(
     Ok(text)
 }
 
-/// Runs the steps on the wide registers. These and their low bits in decimal, and how the run ended.
+/// Runs the steps on the wide registers, and returns the text of these, of their low bits, and of
+/// how the run ended.
 pub(crate) fn wide_run_text<'a, W: BitwiseOperators, N: Integer, A: Allocator>(
     alloc: &'a A,
     steps: &[Step],

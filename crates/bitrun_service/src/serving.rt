@@ -10,11 +10,11 @@ use bitrun_text::fault::Fault;
 use std::alloc::{Allocator, Global};
 use std::io::{Read, Write};
 
-/// Reads all of the input, and writes the output to it.
+/// Reads the input, and writes its output.
 ///
-/// The input is read whole, by at most 65,537 calls of `read`, and the output is made whole before
-/// its first byte is written. No call of the reader or the writer is tried again. The clauses about
-/// the input apply to a reader whose bytes are known, and which returns 0 bytes only at its end.
+/// It reads the whole input, with at most 65,537 calls of `read`, and makes the whole output before
+/// it writes the first byte. It repeats no call of the reader or the writer. The clauses about the
+/// input apply to a reader whose bytes are known, and which returns 0 bytes only at its end.
 pub fn serve<R: Read, W: Write>(
     alloc: Global,
     reader: &mut Watched<R>,

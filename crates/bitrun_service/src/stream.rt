@@ -12,11 +12,11 @@ use bitrun_text::fault::Fault;
 use std::alloc::Allocator;
 use std::io::{Read, Write};
 
-/// The most bytes of an input.
+/// The greatest number of bytes of an input.
 const LONGEST_INPUT: usize = 65_536;
 
-/// All that the reader holds, by at most 65,537 calls of its `read`. No call is made after a failed
-/// one, or once the input is known to be too long.
+/// All bytes that the reader yields, with at most 65,537 calls of its `read`. It makes no call
+/// after a failed one, or after it knows that the input is too long.
 pub fn read_all<'a, A: Allocator, R: Read>(
     alloc: &'a A,
     reader: &mut Watched<R>,
@@ -46,7 +46,7 @@ pub fn read_all<'a, A: Allocator, R: Read>(
     unreachable!()
 }
 
-/// Writes all of the bytes, in as many calls as the writer needs. No call is made after a failed
+/// Writes all of the bytes, in as many calls as the writer needs. It makes no call after a failed
 /// one.
 pub fn write_all<W: Write>(writer: &mut Watched<W>, bytes: &[u8]) -> Result<(), Fault>
     ensures all { OnOk result

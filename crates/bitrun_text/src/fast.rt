@@ -13,7 +13,7 @@ use crate::operation::{Operation, operation_named};
 use crate::text::is_blank;
 use arbitrary_int::{ByOp, OneOp, Step, TwoOp};
 
-/// A name of at most four letters, and the blank after it.
+/// The bytes of a name of at most four letters, and the blank after it.
 const NAME: usize = 5;
 
 /// The step that the line at the place names, on `count` registers, and the place after the line.
@@ -158,7 +158,8 @@ fn by(op: ByOp, text: &[u8], at: usize, count: usize) -> Option<(Step, usize)>
     ))
 }
 
-/// The number of a register, after the blank at the place, and the place of the blank after it.
+/// The number of a register after the blank at the place, and the place of the blank after the
+/// number.
 #[inline(always)]
 fn next_register(text: &[u8], at: usize, count: usize) -> Option<(usize, usize)>
     requires blank { is_blank (get_or text.now at 0) ≡ true }
@@ -179,8 +180,8 @@ fn next_register(text: &[u8], at: usize, count: usize) -> Option<(usize, usize)>
     }
 }
 
-/// The number of a register, after the blank at the place, and the place after the line, which
-/// holds nothing else.
+/// The number of a register after the blank at the place, and the place after the line, on which
+/// nothing else follows.
 #[inline(always)]
 fn last_register(text: &[u8], at: usize, count: usize) -> Option<(usize, usize)>
     requires blank { is_blank (get_or text.now at 0) ≡ true }
@@ -197,7 +198,8 @@ fn last_register(text: &[u8], at: usize, count: usize) -> Option<(usize, usize)>
     Some((number as usize, end))
 }
 
-/// The amount after the blank at the place, and the place after the line, which holds nothing else.
+/// The amount after the blank at the place, and the place after the line, on which nothing else
+/// follows.
 #[inline(always)]
 fn last_amount(text: &[u8], at: usize) -> Option<(u32, usize)>
     requires blank { is_blank (get_or text.now at 0) ≡ true }
@@ -213,7 +215,8 @@ fn last_amount(text: &[u8], at: usize) -> Option<(u32, usize)>
     Some((number as u32, end))
 }
 
-/// The number below the limit after the blank at the place, and the place after its digits.
+/// The number after the blank at the place, which is below the limit, and the place after its
+/// digits.
 #[inline(always)]
 fn number(text: &[u8], at: usize, limit: u64) -> Option<(u64, usize)>
     requires blank { is_blank (get_or text.now at 0) ≡ true }

@@ -8,10 +8,10 @@ use std::alloc::{AllocError, AllocFailed};
 use std::error::Error;
 use std::fmt;
 
-/// Why there is no output, or not the whole of it.
+/// Why there is no output, or not all of it.
 #[derive(Clone, Copy, Debug, PartialEq, Eq)]
 pub enum Fault {
-    /// The first line, counted from 1, that isn't of its form, or is missing.
+    /// The first bad line, counted from 1: it does not have its form, or is missing.
     Line(usize),
     /// The input has more than 65,536 bytes.
     TooLong,
@@ -19,12 +19,12 @@ pub enum Fault {
     Memory,
     /// The reader failed.
     Read,
-    /// The writer failed, or took nothing. What it took before is a beginning of the output.
+    /// The writer failed, or accepted nothing. It may have written a beginning of the output.
     Write,
 }
 
 impl Fault {
-    /// The status that the program ends with.
+    /// The status with which the program ends.
     pub fn status(&self) -> u8
         ensures { result ≡ (fault_row self.now).1 }
     {

@@ -19,7 +19,7 @@ pub enum RegisterType {
     I120,
 }
 
-/// A wide type, and a narrow one after it.
+/// A wide type, and then a narrow one.
 #[derive(Clone, Copy, Debug, PartialEq, Eq)]
 pub enum WidePair {
     U14U7,
@@ -28,7 +28,7 @@ pub enum WidePair {
     I120U14,
 }
 
-/// What is run.
+/// What the first line asks for: steps on registers of one type, or of a pair of types.
 #[derive(Clone, Copy, Debug, PartialEq, Eq)]
 pub enum Kind {
     Run(RegisterType),

@@ -8,16 +8,16 @@ ghost use Rattle.bitrun_text.specs.Fast.{Reads};
 
 use arbitrary_int::traits::Numbered;
 
-/// The digits of a part of a word, which write a number of 64 bits.
+/// The number of digits in a part of a word. Their number fits in 64 bits.
 const PART: usize = 18;
 
-/// `10 ^ 18`, a one before as many zeros.
+/// `10 ^ 18`.
 const SCALE: u128 = 1_000_000_000_000_000_000;
 
-/// A digit more after a number below it fits in 64 bits.
+/// A number below this fits in 64 bits with one more digit.
 pub const LARGE: u64 = u64::MAX / 10;
 
-/// The number that the word's digits write, if it is below the limit.
+/// The number that the word's digits write, or `None` if it is not below the limit.
 pub fn number_below(word: &[u8], limit: u128) -> Option<u128>
     requires { limit ≤ 2 ^ 120 }
     ensures value { result ≡ number_below limit word.now }
@@ -35,7 +35,7 @@ pub fn number_below(word: &[u8], limit: u128) -> Option<u128>
     if number < limit { Some(number) } else { None }
 }
 
-/// The number of the one digit at the place, where no digit follows it.
+/// The number of the digit at the place, if no other digit follows it.
 #[inline(always)]
 pub fn one_digit(text: &[u8], at: usize) -> Option<u64>
     requires { at ≤ length text.now }
@@ -49,8 +49,8 @@ pub fn one_digit(text: &[u8], at: usize) -> Option<u64>
     }
 }
 
-/// The number that the digits from the place on write, and the place after them. A digit with which
-/// the number is no longer below the limit is left, as all that follows.
+/// The number that the digits from the place on write, and the place after them. It stops before a
+/// digit with which the number would no longer be below the limit.
 #[inline(always)]
 pub fn digits(text: &[u8], start: usize, limit: u64) -> (u64, usize)
     requires start { start ≤ length text.now }
@@ -74,7 +74,7 @@ pub fn digits(text: &[u8], start: usize, limit: u64) -> (u64, usize)
     (number, at)
 }
 
-/// The value that the word is a numeral of, if the type has it.
+/// The value that the word writes, or `None` if it is out of range.
 pub fn value_named<R: Numbered>(word: &[u8]) -> Option<R>
     requires width { R.valid }
     requires narrow { R.BITS ≤ 120 }
@@ -83,7 +83,7 @@ pub fn value_named<R: Numbered>(word: &[u8]) -> Option<R>
     value_of(integer(word)?)
 }
 
-/// The number that the word writes, unless no type of 120 bits has it.
+/// The number that the word writes, or `None` if no type of 120 bits contains it.
 fn integer(word: &[u8]) -> Option<i128>
     ensures { MatchOption result (IsFar (integer_in word.now)) (λ x. integer_in word.now ≡ Some x) }
 {
@@ -94,7 +94,7 @@ fn integer(word: &[u8]) -> Option<i128>
     }
 }
 
-/// What follows the minus sign, where there is one.
+/// What follows the minus sign, if there is one.
 fn without_minus(word: &[u8]) -> Option<&[u8]>
     ensures { MatchOption result (integer_in word.now ≡ option_map pos (number_in word.now))
         (λ digits. integer_in word.now ≡ option_map (λ n. neg_ℤ (pos n)) (number_in digits.now)) }
@@ -116,7 +116,7 @@ pub fn below_zero(size: u128) -> i128
     -(size as i128)
 }
 
-/// The number as a value, if the type has it: that is where masking leaves the number as it is.
+/// The number as a value, or `None` if it is out of range: masking would then change it.
 pub fn value_of<R: Numbered>(number: i128) -> Option<R>
     requires width { R.valid }
     requires narrow { R.BITS ≤ 120 }

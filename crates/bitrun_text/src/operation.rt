@@ -10,14 +10,14 @@ use crate::numeral::number_below;
 use crate::text::Cursor;
 use arbitrary_int::{ByOp, OneOp, Step, TwoOp};
 
-/// What the first word of a step names.
+/// The operation that the first word of a step names.
 #[derive(Clone, Copy, Debug, PartialEq, Eq)]
 pub enum Operation {
-    /// Of two registers.
+    /// On two registers.
     Two(TwoOp),
-    /// Of one register.
+    /// On one register.
     One(OneOp),
-    /// Of one register and an amount.
+    /// On one register and an amount.
     By(ByOp),
 }
 
@@ -57,7 +57,7 @@ pub fn operation_named(word: &[u8]) -> Option<Operation>
     }
 }
 
-/// The step that a word names with the words after it, on `count` registers.
+/// The step that a word and the words after it name, on `count` registers.
 #[tactic(auto, unfolding(crate::specs::Operation::step_named))]
 pub fn step_named(word: &[u8], operands: &mut Cursor, count: usize) -> Option<Step>
     ensures step { result ≡ step_named count (word.now ∷ operands.old.words) }
@@ -68,7 +68,8 @@ pub fn step_named(word: &[u8], operands: &mut Cursor, count: usize) -> Option<St
     step_with(operation, operands, count)
 }
 
-/// The step of an operation on `count` registers, with the operands that the line's words name.
+/// The step of an operation on `count` registers, with the operands that the words of the line
+/// name.
 #[tactic(auto, using(crate::proofs::StepWords::taken))]
 fn step_with(operation: Operation, operands: &mut Cursor, count: usize) -> Option<Step>
     ensures step { result ≡ step_with count operation operands.old.words }

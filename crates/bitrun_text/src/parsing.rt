@@ -15,8 +15,7 @@ use arbitrary_int::Step;
 use arbitrary_int::traits::Numbered;
 use std::alloc::{AllocError, Allocator};
 
-/// The registers that the words of a line are numerals of, or nothing where one isn't a numeral in
-/// range.
+/// The registers whose numbers a line has, or `None` if a word is no number in range.
 pub fn registers<'a, R: Numbered, A: Allocator>(
     alloc: &'a A,
     line: &mut Cursor,
@@ -74,8 +73,8 @@ pub fn steps<'a, A: Allocator>(
     }
 }
 
-/// Adds the steps of the fast lines at the beginning of the text, while there is room for them. It
-/// counts these lines and the empty ones among them, and returns what follows.
+/// Appends the steps of the fast lines at the beginning of the text, as long as there is room for
+/// them. It counts these lines and the empty ones among them, and returns what follows.
 #[inline(never)]
 fn fast_steps<'a, 't, A: Allocator>(
     count: usize,
@@ -123,7 +122,7 @@ fn after_indent(text: &[u8], at: usize) -> usize
     if next == text.len() { at } else { next }
 }
 
-/// The place after the lines at the place that have an LF alone.
+/// The place after the lines at the place that have only an LF.
 // In line, it would take processor registers from the loop over the fast lines.
 #[inline(never)]
 fn after_empty_lines(text: &[u8], at: usize) -> usize

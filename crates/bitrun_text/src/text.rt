@@ -6,7 +6,7 @@ ghost use Rattle.bitrun_text.specs.Text.{ends_line, is_blank, is_solid, ends_wor
 
 use std::marker::Model;
 
-/// A place within a line of a text. A caller sees the words that are left on the line, and those of
+/// A place on a line of a text. A caller sees the words that are left on the line, and those of
 /// each later line.
 #[derive(Drop)]
 pub struct Cursor<'a> {
@@ -20,7 +20,7 @@ impl<'a> Model for Cursor<'a> {
 }
 
 impl<'a> Cursor<'a> {
-    /// The beginning of the first line, where there is one.
+    /// The beginning of the first line, if there is one.
     pub fn new(text: &'a [u8]) -> Option<Self>
         ensures { MatchOption result (word_lines text.now ≡ [])
             (λ cursor. word_lines text.now ≡ cursor.words ∷ cursor.later) }
@@ -32,7 +32,7 @@ impl<'a> Cursor<'a> {
         }
     }
 
-    /// Takes the next word of the line, where there is one.
+    /// Takes the next word of the line, if there is one.
     pub fn next_word(&mut self) -> Option<&'a [u8]>
         ensures word { MatchOption result ((self.old.words ≡ []) × (self.new.words ≡ []))
             (λ word. self.old.words ≡ word.now ∷ self.new.words) }
@@ -51,7 +51,7 @@ impl<'a> Cursor<'a> {
         word.is_empty()
     }
 
-    /// A cursor of its own at the same place.
+    /// Another cursor at the same place.
     pub fn copy(&self) -> Cursor<'a>
         ensures { result ≡ self.now }
     {
@@ -81,7 +81,7 @@ impl<'a> Cursor<'a> {
     }
 }
 
-/// What follows the blanks that the text begins with.
+/// What follows the blanks at the beginning of the text.
 #[tactic(auto, using(crate::proofs::Lines::places))]
 fn without_blanks(text: &[u8]) -> &[u8]
     ensures { result.now ≡ drop (position_or_len is_solid text.now) text.now }
@@ -90,7 +90,7 @@ fn without_blanks(text: &[u8]) -> &[u8]
     rest
 }
 
-/// The word that the text begins with, which may be empty, and what follows it.
+/// The word at the beginning of the text, which may be empty, and what follows it.
 #[tactic(auto, using(crate::proofs::Lines::places))]
 fn split_word(text: &[u8]) -> (&[u8], &[u8])
     ensures word { result.0.now ≡ before_first ends_word text.now }

@@ -98,7 +98,7 @@ impl Storage for u128 {
     ghost display_law = { λ x. refl };
 }
 
-/// The number of this size, below zero where the flag is set, wrapped.
+/// The number with this magnitude, negative if the flag is set, wrapped.
 #[tactic(auto, using(crate::proofs::integers::SignAndMagnitude::signs))]
 fn with_sign(size: u128, is_negative: bool) -> i128
     ensures { result ≡ wrap true 128 (if is_negative then neg_ℤ (pos size) else pos size) }

@@ -14,7 +14,8 @@ use arbitrary_base::storage::{BuiltinInteger, SignedStorage, Storage, UnsignedOf
 use arbitrary_base::truncation::{compare, equal};
 use std::cmp::Ordering;
 
-/// The number's place in the order: the bits less those of the least number, in the unsigned storage.
+/// The place of the number in the order: its bits minus those of the least number, in the unsigned
+/// storage.
 // Numbers below 0 stay in the lower half of their type's bits, and the others come to the top of the storage, so no sign is extended.
 fn place<T: BuiltinInteger + SignedStorage, const BITS: usize>(x: Int<T, BITS>) -> T::Unsigned
 where
@@ -105,7 +106,8 @@ where
         if other < self { other } else { self }
     }
 
-    /// The number, or the end of `low` to `high` that is nearest to it. `low` is at most `high`.
+    /// The number, or the nearest number from `low` to `high`. Requires that `low` is at most
+    /// `high`.
     pub fn clamp(self, low: Self, high: Self) -> Self
         requires order { low ≤ℤ high }
         ensures least { low ≤ℤ result }

@@ -24,7 +24,7 @@ where
     cast(value.value(), T::WIDTH)
 }
 
-/// The number of a storage, at a width that has each of its numbers.
+/// The number of a storage, at a width that contains each number of the storage.
 fn fitted<
     S: SignedStorage + FitsIn<BITS>,
     T: BuiltinInteger + SignedStorage + HasWidth<BITS>,
@@ -38,7 +38,7 @@ where
     Int::<T, BITS>::new(cast(value, BITS))
 }
 
-/// The number, at a width that has each number of its storage.
+/// The number, at a width that contains each number of its storage.
 fn widened<
     S: BuiltinInteger + SignedStorage + FitsIn<BITS>,
     T: BuiltinInteger + SignedStorage + HasWidth<BITS>,

@@ -20,7 +20,7 @@ pub(super) fn stored<S: UnsignedStorage, T: UnsignedStorage + HasWidth<BITS>, co
     cast(value.value(), T::WIDTH)
 }
 
-/// The number of a storage, at a width that has each of its numbers.
+/// The number of a storage, at a width that contains each number of the storage.
 fn fitted<
     S: UnsignedStorage + FitsIn<BITS>,
     T: UnsignedStorage + HasWidth<BITS>,
@@ -32,7 +32,7 @@ fn fitted<
     UInt::<T, BITS>::new(cast(value, BITS))
 }
 
-/// The number, at a width that has each number of its storage.
+/// The number, at a width that contains each number of its storage.
 fn widened<
     S: UnsignedStorage + FitsIn<BITS>,
     T: UnsignedStorage + HasWidth<BITS>,

@@ -9,8 +9,8 @@ use crate::unsigned::UInt;
 use arbitrary_base::storage::{BuiltinInteger, SignedStorage, UnsignedOf, UnsignedStorage};
 use std::hash::Hash;
 
-/// Two values of `UInt` are equal exactly where their numbers are, and exactly where neither is ordered
-/// before the other; then a hasher is fed the same. It is fed what the number in the storage feeds it.
+/// Two values of `UInt` are equal exactly if their numbers are, and exactly if neither comes before
+/// the other. Equal values feed a hasher the same input: that of the number in the storage.
 #[tactic(auto, using(crate::proofs::Agreement::agreements))]
 pub fn unsigned_agreement_law<T: UnsignedStorage, const BITS: usize>()
     ensures equality { (x y : ℤ) → IsTrue (⟦<UInt<T, BITS> as PartialEq>⟧.eq x y) ↔ (x ≡ y) }
@@ -21,7 +21,7 @@ pub fn unsigned_agreement_law<T: UnsignedStorage, const BITS: usize>()
     ensures fed { (x : T) → ⟦<UInt<T, BITS> as Hash>⟧.hash_input (T.number x) ≡ T.hash_input x }
 {}
 
-/// The same for `Int`.
+/// The same law for `Int`.
 #[tactic(auto, using(crate::proofs::Agreement::agreements))]
 pub fn signed_agreement_law<T: BuiltinInteger + SignedStorage, const BITS: usize>()
 where

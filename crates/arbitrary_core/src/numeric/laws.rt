@@ -9,13 +9,13 @@ use crate::unsigned::UInt;
 use arbitrary_base::storage::{BuiltinInteger, SignedStorage, UnsignedOf, UnsignedStorage};
 use num_traits::Number;
 
-/// At `UInt`, an integer fits exactly where it is in range.
+/// An integer fits `UInt`, as `num_traits` means it, exactly if it is in range.
 #[tactic(auto, using(arbitrary_base::proofs::modular::Representable::ranges))]
 pub fn unsigned_range_law<T: UnsignedStorage, const BITS: usize>()
     ensures { (x : ℤ) → 1 ≤ BITS → ⟦<UInt<T, BITS> as Number>⟧.fits x ↔ InRange T.SIGNED BITS x }
 {}
 
-/// At `Int`, an integer fits exactly where it is in range.
+/// An integer fits `Int`, as `num_traits` means it, exactly if it is in range.
 #[tactic(auto, using(arbitrary_base::proofs::modular::Representable::ranges))]
 pub fn signed_range_law<T: BuiltinInteger + SignedStorage, const BITS: usize>()
 where

@@ -30,7 +30,7 @@ where
     }
 }
 
-/// The number 1, from which a product begins. The type of one bit has none.
+/// The number 1, with which a product begins. The type of one bit has no 1.
 fn one<T: BuiltinInteger + SignedStorage + HasWidth<BITS>, const BITS: usize>() -> Int<T, BITS>
 where
     T::Unsigned: UnsignedOf<T>,

@@ -27,7 +27,7 @@ impl<T: UnsignedStorage, const BITS: usize> Total for UInt<T, BITS> {
     }
 }
 
-/// The number 1, from which a product begins.
+/// The number 1, with which a product begins.
 fn one<T: UnsignedStorage + HasWidth<BITS>, const BITS: usize>() -> UInt<T, BITS>
     ensures { result ≡ pos 1 }
 {

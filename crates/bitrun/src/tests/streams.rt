@@ -6,7 +6,7 @@ use std::io;
 use std::io::{ErrorKind, Read, Write};
 use std::test::Fail;
 
-/// Gives one byte a call, and fails at one of its calls.
+/// A reader that yields one byte for each call, and fails at one of its calls.
 #[derive(Drop)]
 struct Drip<'a> {
     rest: &'a [u8],
@@ -33,7 +33,7 @@ impl Read for Drip<'_> {
     }
 }
 
-/// Takes one byte a call, and fails at one of its calls, or takes nothing there.
+/// A writer that accepts one byte for each call, and at one of its calls fails or accepts nothing.
 #[derive(Drop)]
 struct Nibble {
     taken: Vec<u8>,
