@@ -24,8 +24,8 @@ def storage(bits):
 def definitions(letter, name, module):
     """The file that defines the names of one sign."""
     lines = [
-        f'//! `{letter}1` to `{letter}127`: `{name}` over the smallest primitive that has room. 8, 16, 32 and 64 bits are',
-        '//! primitives already. tools/short_names.py writes this file.',
+        f'//! `{letter}1` to `{letter}127`: `{name}` over the smallest primitive that has room. At 8, 16, 32 and 64 bits there are',
+        '//! primitives of these names. tools/short_names.py writes this file.',
         '',
         f'use crate::{module}::{name};',
     ]
@@ -37,8 +37,8 @@ def definitions(letter, name, module):
 def constants(letter, name, module, first, last):
     """The file that gives one type its constant `BITS`, at the widths from the first to the last."""
     lines = [
-        f'//! `BITS` of `{name}` at {first} to {last} bits, over the smallest primitive that has room. Each is a constant that the',
-        '//! compiler evaluates, for arrays, patterns and other constants too: one of a generic `impl` is not.',
+        f'//! `BITS` of `{name}` at {first} to {last} bits, over the smallest primitive that has room. With one impl for each width, the',
+        '//! compiler evaluates the constant, so it can be the length of an array, a pattern or part of another constant.',
         '//! tools/short_names.py writes this file.',
         '',
         f'use crate::{module}::{name};',
@@ -58,7 +58,7 @@ def room(first, last):
     """The file that says which storages have room for the widths from the first to the last."""
     traits = [f'AtLeast{width}' for width in STORAGES if storage(first) <= width <= storage(last)]
     lines = [
-        f'//! The widths from {first} to {last}: each storage that has as many bits has room for them (`room`).',
+        f'//! The impls of `HasWidth` at {first} to {last} bits, for each storage with at least as many bits (`room`).',
         '//! tools/short_names.py writes this file.',
         '',
         'ghost use Rattle.std.proofs.Common.{lit≤, le_trans};',
@@ -86,7 +86,7 @@ def fits(first, last):
     """The file that says which storages have no number too long for the widths from the first to the last."""
     traits = [f'AtMost{width}' for width in STORAGES if widest(first) <= width <= widest(last)]
     lines = [
-        f'//! The storages whose numbers all fit in {first} to {last} bits (`most`).',
+        f'//! The impls of `FitsIn` at {first} to {last} bits, for each storage with at most as many bits (`most`).',
         '//! tools/short_names.py writes this file.',
         '',
         'ghost use Rattle.std.proofs.Common.{lit≤, le_trans};',

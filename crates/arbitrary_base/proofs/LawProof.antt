@@ -1,4 +1,4 @@
--- The laws of specs/Laws: those that no other proof needs are proved here, and `laws` cites all by these names.
+-- The laws that specs/Laws states, under the names that `laws` cites. Laws without another proof have it here.
 use Rattle.std.specs.Prelude.{◌≡◌, ◌≢◌, ◌↔◌, ℕ, zero, suc, ℤ, Bool, true, false, not, pos, Option, Some, None, int_div, IsTrue, if◌then◌else◌, ◌||◌, ◌+ℤ◌, ◌-ℤ◌, ◌*ℤ◌, ◌≤◌, List, [], ◌∷◌, SomeIff}
 use Rattle.std.specs.Ordering.{int_eq}
 use Rattle.std.specs.List.{fold, last_or, scan}

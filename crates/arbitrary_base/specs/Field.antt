@@ -1,4 +1,4 @@
--- A word as a sequence of fields.
+-- The number of a field of a word.
 use Rattle.std.specs.Prelude.{◌≡◌, ℕ, ℤ, pos, ◌+◌, ◌/◌, ◌%◌, ◌^◌, ◌<◌, ◌+ℤ◌, ◌*ℤ◌}
 
 -- the number in `width` bits of the word, from bit `start` on

@@ -1,4 +1,4 @@
--- The nearest number of a type.
+-- `clamp`: the number of a type that is nearest to an integer.
 use Rattle.std.specs.Prelude.{ℕ, ℤ, Bool, int_lt, if◌then◌else◌}
 use Rattle.arbitrary_base.specs.Range.{lo, hi}
 

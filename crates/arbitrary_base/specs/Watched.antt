@@ -1,4 +1,4 @@
--- The private fields of a `Watched`, for clauses. The contracts of the calls on streams cite these.
+-- The private fields of a `Watched`, for the contracts of the calls on streams.
 use Rattle.std.specs.Prelude.{◌≡◌, ◌≢◌, ℕ, Bool, IsTrue}
 use Rattle.arbitrary_base.specs.declared.watched.Watched.{Watched}
 

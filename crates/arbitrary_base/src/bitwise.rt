@@ -1,4 +1,5 @@
-//! The bitwise operators at `bits` bits, as functions over a storage. `bitwise` of `arbitrary_core` calls them for `& | ^ !` of the types.
+//! `&`, `|`, `^` and `!` of numbers of `bits` bits, as functions over a storage. `patterns` has them over patterns,
+//! and `bitwise` of `arbitrary_core` calls them for the operators of the types.
 
 ghost use Rattle.std.specs.Prelude.{◌≡◌, ◌≤◌, map, not};
 ghost use Rattle.arbitrary_base.specs.Range.{InRange};

@@ -1,4 +1,4 @@
-//! Patterns as lists of bytes, the lowest byte first.
+//! The bytes of a pattern, lowest first.
 
 ghost use Rattle.std.specs.Prelude.{◌≡◌, ◌≤◌, ◌<◌, ◌*◌, ◌^◌, ℕ, pos, length, take};
 ghost use Rattle.arbitrary_base.specs.ByteLists.{bytes, bytes_number};

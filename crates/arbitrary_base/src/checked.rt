@@ -1,4 +1,4 @@
-//! Arithmetic at `bits` bits that refuses: the exact result if it is in range, otherwise `None`.
+//! Arithmetic at `bits` bits that returns `None` if the exact result is out of range.
 
 ghost use Rattle.std.specs.Prelude.{◌≢◌, ◌≡◌, ◌&&◌, ◌≤◌, ◌+ℤ◌, ◌-ℤ◌, ◌*ℤ◌, neg_ℤ, pos, int_div, int_lt, SomeIff, option_map};
 ghost use Rattle.arbitrary_base.specs.Range.{InRange};
@@ -9,8 +9,8 @@ use crate::truncation::is_in_range;
 use crate::{raised, small, wrapping};
 
 /// The sum, or `None` if it is out of range.
-// With a bit to spare the storage's sum is in range exactly where the exact one is. The compiler makes vectors of the two
-// comparisons, and none of the processor's flag.
+// If the storage has a spare bit, its sum is in range exactly if the exact sum is. The compiler uses vector instructions for the
+// two comparisons, and could not for the processor's flag.
 #[tactic(auto, using(crate::proofs::storages::CheckedSum::arithmetic))]
 pub fn add<T: Storage>(x: T, y: T, bits: usize) -> Option<T>
     requires width { 1 ≤ bits }
@@ -33,7 +33,7 @@ pub fn add<T: Storage>(x: T, y: T, bits: usize) -> Option<T>
 }
 
 /// The sum, or `None` if it is out of range, at any width up to the storage's.
-// The wrapped sum lies below `x` exactly where `y` is below 0, but for an overflow.
+// Without an overflow, the wrapped sum is below `x` exactly if `y` is below 0.
 #[tactic(auto, using(crate::proofs::storages::CheckedSum::arithmetic))]
 pub(crate) fn add_by_order<T: Storage>(x: T, y: T, bits: usize) -> Option<T>
     requires width { 1 ≤ bits }
@@ -52,7 +52,7 @@ pub(crate) fn add_by_order<T: Storage>(x: T, y: T, bits: usize) -> Option<T>
 }
 
 /// The difference, or `None` if it is out of range.
-// With a bit to spare the storage's difference is in range exactly where the exact one is.
+// If the storage has a spare bit, its difference is in range exactly if the exact difference is.
 #[tactic(auto, using(crate::proofs::storages::CheckedSum::arithmetic))]
 pub fn sub<T: Storage>(x: T, y: T, bits: usize) -> Option<T>
     requires width { 1 ≤ bits }
@@ -93,8 +93,9 @@ pub(crate) fn sub_by_order<T: Storage>(x: T, y: T, bits: usize) -> Option<T>
 }
 
 /// The product, or `None` if it is out of range.
-// In 64 bits the product of two small numbers is exact, and the compiler makes vectors of it. Elsewhere the storage multiplies
-// once. A wide signed number with a bit to spare has the processor's flag: moved up to the storage's end, it takes no other test.
+// In 64 bits the product of two small numbers is exact, and the compiler uses vector instructions. Otherwise the storage
+// multiplies once. A wide signed number with a spare bit is shifted up to the storage's end, so that the processor's flag is
+// the only test.
 #[tactic(auto, using(crate::proofs::storages::CheckedSum::arithmetic))]
 pub fn mul<T: Storage>(x: T, y: T, bits: usize) -> Option<T>
     requires width { 1 ≤ bits }

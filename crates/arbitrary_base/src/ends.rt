@@ -1,4 +1,4 @@
-//! The ends of a range, and zero.
+//! The ends of a range, and tests by them.
 
 ghost use Rattle.std.specs.Prelude.{◌≡◌, ◌↔◌, ◌≤◌, pos, int_lt, IsTrue};
 ghost use Rattle.std.specs.Ordering.{int_eq};
@@ -9,7 +9,7 @@ use crate::truncation::{compare, equal, from_low_bits, reach_below_zero};
 use std::cmp::Ordering;
 
 /// The least number of the type of `bits` bits.
-// What the range lacks to reach 0 is congruent to its low end.
+// The low end is congruent to its own magnitude: they differ by `2 ^ bits`, or both are 0.
 pub fn lowest<T: Storage>(bits: usize) -> T
     requires width { 1 ≤ bits }
     requires storage { bits ≤ T.WIDTH }
@@ -20,7 +20,7 @@ pub fn lowest<T: Storage>(bits: usize) -> T
 }
 
 /// The greatest number of the type of `bits` bits.
-// One below the low end, modulo `2 ^ bits`.
+// Modulo `2 ^ bits`, this is the low end minus 1.
 pub fn highest<T: Storage>(bits: usize) -> T
     requires width { 1 ≤ bits }
     requires storage { bits ≤ T.WIDTH }
@@ -69,7 +69,7 @@ pub fn is_below_zero<T: Storage>(x: &T) -> bool
 }
 
 /// Whether the number is in the range of `bits` bits, by comparison with both ends.
-// As `truncation::is_in_range`, which narrows and compares: this costs less where nothing else needs the narrowed number.
+// `truncation::is_in_range` truncates and compares. This costs less if nothing else needs the truncated number.
 #[tactic(auto, using(crate::proofs::storages::CheckedSum::ends))]
 pub(crate) fn is_within<T: Storage>(x: &T, bits: usize) -> bool
     requires width { 1 ≤ bits }

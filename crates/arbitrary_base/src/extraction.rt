@@ -1,5 +1,4 @@
-//! Some bits of a number as a number, as a function over storages. `extraction` of `arbitrary_calls` has the
-//! call on the types.
+//! Some bits of a number as a number, over storages. `extraction` of `arbitrary_calls` has the calls of the types.
 
 ghost use Rattle.std.specs.Prelude.{◌≡◌, ◌≤◌, ◌+◌, take, drop};
 ghost use Rattle.arbitrary_base.specs.Range.{InRange};
@@ -18,6 +17,6 @@ pub fn extract<S: Storage, T: Storage>(source: S, start_bit: usize, bits: usize)
         T.number result ≡ val T.SIGNED (take bits (drop start_bit list)) }
     ensures result_in_range { InRange T.SIGNED bits (T.number result) }
 {
-    // Shifted in the source, not at 128 bits: only the bits above the wanted ones may differ, and they are masked.
+    // The source shifts at its own width, not at 128 bits: only bits above the wanted ones can differ, and these are masked.
     from_low_bits(source.shr_by(start_bit).pattern(), bits)
 }

@@ -1,4 +1,4 @@
-//! The laws of the definitions that the contracts cite. Each function proves its clauses, and does nothing.
+//! The laws of the definitions in specs, for callers' proofs. Each function proves its clauses, and does nothing.
 
 ghost use Rattle.arbitrary_base.specs.Laws.{WrapIsInRange, WrapIsCongruent, WrapIsUnique, WrappedSumsCommute, WrappedSumsAssociate, WrappedProductsCommute, WrappedProductsAssociate, WrappedProductsDistribute, CheckedTellsOverflow, CheckedQuotientTellsOverflow, ValueOfBits, BitsOfValue, RotationsUndo, ReversalUndoesItself, OnesAddUp, FrontRunsFit, EndRunsFit, ExtractionComposes, SumsKeepLowBits, DifferencesKeepLowBits, ProductsKeepLowBits, AndKeepsLowBits, OrKeepsLowBits, XorKeepsLowBits, ComplementsKeepLowBits, LeftShiftsKeepLowBits, WrapKeeps, TestTellsRange, ClampKeeps, ClampEndsAbove, ClampEndsBelow, LengthOfBits, NumberOfBits, FieldIsExtracted, ByteReversalUndoesItself, ValueOfBytes, BytesAreUnique, BorshIsCanonical, ValueOfBorsh, BorshIsUnique, TotalIsTheLastPartial, NumberOfPattern, PatternOfNumber, BitsOfPattern};
 

@@ -1,5 +1,5 @@
-//! The base of the integer types: the primitive integers as storages, the truncation of a number to fewer bits,
-//! and the arithmetic and the operations on bits at a width, written once for all storages.
+//! The base of the integer types: the primitive integers as storages, truncation to fewer bits, and arithmetic and
+//! operations on bits at a width. Each function has one body for all storages.
 #![tactic(auto)]
 
 pub mod bitwise;

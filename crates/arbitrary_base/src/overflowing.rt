@@ -51,7 +51,7 @@ pub fn sub<T: Storage>(x: T, y: T, bits: usize) -> (T, bool)
 }
 
 /// The product, wrapped, and whether the exact product is out of range.
-// As `checked::mul`.
+// `checked::mul` explains the cases.
 #[tactic(auto, using(crate::proofs::storages::Clamp::overflow_laws))]
 pub fn mul<T: Storage>(x: T, y: T, bits: usize) -> (T, bool)
     requires width { 1 ≤ bits }

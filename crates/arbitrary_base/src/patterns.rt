@@ -1,6 +1,6 @@
-//! The operations of bit lists on patterns. The pattern of a list of `width` bits, lowest bit first, is the
-//! unsigned number that it represents, which is below `2 ^ width`. The calls on bits of both types (`calls` of
-//! `arbitrary_calls`) and `bitwise` use these. Shifts, which depend on the sign, are in `shifts`.
+//! Operations on patterns. The pattern of a list of `width` bits, lowest bit first, is the unsigned number that it
+//! represents, which is below `2 ^ width`. `bitwise` and the calls on bits of both types (`calls` of
+//! `arbitrary_calls`) use these. `shifts` has shifts, which depend on the sign.
 
 ghost use Rattle.std.specs.Prelude.{◌≡◌, ◌≤◌, ◌<◌, ◌%◌, ◌^◌, ◌++◌, pos, false, true, reverse, map, not, drop, take};
 ghost use Rattle.std.specs.Bool.{beq};
@@ -49,7 +49,7 @@ pub fn not(pattern: u128, width: usize) -> u128
 
 /// The bits rotated left by `amount` modulo `width`. Bits that leave the high end come in at the
 /// low end.
-// Below 128 bits no places need no case of their own: all the bits are shifted out of the other part.
+// Below 128 bits a rotation by 0 needs no case of its own: all bits are shifted out of the other part.
 pub fn rotate_left(pattern: u128, width: usize, amount: u32) -> u128
     requires low { 1 ≤ width }
     requires high { width ≤ 128 }
@@ -66,7 +66,7 @@ pub fn rotate_left(pattern: u128, width: usize, amount: u32) -> u128
 
 /// The bits rotated right by `amount` modulo `width`. Bits that leave the low end come in at the
 /// high end.
-// Below 128 bits no places need no case of their own: all the bits are shifted out of the other part.
+// Below 128 bits a rotation by 0 needs no case of its own: all bits are shifted out of the other part.
 pub fn rotate_right(pattern: u128, width: usize, amount: u32) -> u128
     requires low { 1 ≤ width }
     requires high { width ≤ 128 }
@@ -102,7 +102,8 @@ fn reverse_u128(x: u128) -> u128
 }
 
 /// The `width` bits in reverse order.
-// In the fewest bits that hold the pattern, and then down. In 8 it moves up first, so that the compiler drops a mask before it.
+// It reverses the smallest primitive that holds the pattern, and then shifts right. At 8 bits it shifts left first, so that the
+// compiler drops a mask.
 pub fn reverse_bits(pattern: u128, width: usize) -> u128
     requires low { 1 ≤ width }
     requires high { width ≤ 128 }

@@ -1,4 +1,4 @@
-//! Powers that clamp at the ends of a range.
+//! Powers that clamp to the range.
 
 ghost use Rattle.std.specs.Prelude.{◌≡◌, ◌≤◌, ◌<◌, ◌+◌, ◌*◌, ◌*ℤ◌, ◌<ℤ◌, length, pos, unsigned_abs, int_lt, MatchOption, SomeIff, option_map};
 ghost use Rattle.std.specs.Int.{int_pow};
@@ -27,7 +27,7 @@ fn one<T: Storage>() -> T
 }
 
 /// The number of bits at which the products of a power are tested. The number 1 fits in them.
-// Small signed numbers stop at the range of their type, which takes no more than the storage's.
+// Small signed numbers are tested at their own width, which costs no more than at the storage's.
 fn tested_bits<T: Storage>(bits: usize) -> usize
     requires { bits ≤ T.WIDTH }
     ensures low { bits ≤ result }
@@ -43,7 +43,7 @@ fn tested_bits<T: Storage>(bits: usize) -> usize
 
 /// The product, or `None` if it is out of range of `bits` bits. No other function of this module
 /// multiplies.
-// In 128 bits a product of two numbers of 64 is exact, and multiplying without a test is much cheaper.
+// In 128 bits the product of two numbers of 64 bits is exact, and multiplying without a test is cheaper.
 fn multiply<T: Storage>(x: T, y: T, bits: usize, count: &mut u32) -> Option<T>
     requires width { 1 ≤ bits }
     requires storage { bits ≤ T.WIDTH }
@@ -81,14 +81,14 @@ fn exact_power<T: Storage>(x: T, exp: u32, bits: usize, count: &mut u32) -> Opti
     let mut base = x;
     let mut left = exp;
     if 1 < exp {
-        // A first turn of the loop, the only one whose square can be the base itself or 1.
+        // The first iteration of the loop, the only one whose square can be the base itself or 1.
         let square = multiply(x, x, bits, count)?;
         if equal(&square, &x) {
-            // 0 and 1 are all their powers.
+            // Each power of 0 and of 1 is the base.
             return Some(x);
         }
         if equal(&square, &product) {
-            // The powers of -1 are it and 1 in turn.
+            // The powers of -1 alternate between -1 and 1.
             return Some(if exp % 2 == 1 { x } else { square });
         }
         if exp % 2 == 1 {

@@ -1,5 +1,5 @@
-//! Numbers shifted up to the storage's end: multiplied by `2 ^ (WIDTH - bits)`. There the range of `bits` bits
-//! is that of the storage, so that the processor detects an overflow.
+//! Products of numbers that are shifted up to the storage's end, which multiplies them by `2 ^ (WIDTH - bits)`. The
+//! range of `bits` bits is then that of the storage, so the processor detects an overflow.
 
 ghost use Rattle.std.specs.Prelude.{◌≡◌, ◌↔◌, ◌≤◌, ◌<◌, ◌≢◌, ◌^◌, ◌-◌, ◌+ℤ◌, ◌*ℤ◌, true, pos, negsuc, IsTrue};
 ghost use Rattle.std.specs.Int.{int_shr};
@@ -31,7 +31,7 @@ fn lower<T: Storage>(x: T, bits: usize) -> T
 }
 
 /// Whether the wrapped product is the exact product. Requires a first factor other than -1.
-// Only an exact product gives the other factor back. The compiler makes the flag of the multiplication of it.
+// Only the quotient of an exact product is the other factor. The compiler turns this test into the flag of the multiplication.
 fn is_exact<T: Storage>(product: T, x: T, y: T) -> bool
     requires x_in_range { InRange T.SIGNED T.WIDTH (T.number x) }
     requires y_in_range { InRange T.SIGNED T.WIDTH (T.number y) }
@@ -43,7 +43,7 @@ fn is_exact<T: Storage>(product: T, x: T, y: T) -> bool
 }
 
 /// The product, wrapped, and whether the exact product is out of range.
-// A number that is moved up is even, so it is never -1.
+// A number that is shifted up is even, so it is never -1.
 pub(crate) fn mul<T: Storage>(x: T, y: T, bits: usize) -> (T, bool)
     requires width { 1 ≤ bits }
     requires storage { bits < T.WIDTH }

@@ -1,4 +1,4 @@
-//! Arithmetic at `bits` bits that saturates: the exact result, or the end of the range nearest to it.
+//! Arithmetic at `bits` bits that returns the nearest end of the range if the exact result is out of range.
 
 ghost use Rattle.std.specs.Prelude.{◌≡◌, ◌≢◌, ◌≤◌, ◌+ℤ◌, ◌-ℤ◌, ◌*ℤ◌, neg_ℤ, pos, int_div};
 ghost use Rattle.arbitrary_base.specs.Range.{InRange};
@@ -27,7 +27,7 @@ fn clamped<T: Storage>(x: T, bits: usize) -> T
 }
 
 /// The sum, or the nearest end of the range.
-// With a bit to spare the storage has the sum. Elsewhere a signed sum that overflows comes out on the other side of 0.
+// If the storage has a spare bit, its sum is exact. Otherwise a signed sum that overflows has the other sign.
 #[tactic(auto, using(crate::proofs::storages::Clamp::clamped_sums))]
 pub fn add<T: Storage>(x: T, y: T, bits: usize) -> T
     requires width { 1 ≤ bits }
@@ -55,7 +55,7 @@ pub fn add<T: Storage>(x: T, y: T, bits: usize) -> T
 }
 
 /// The difference, or the nearest end of the range.
-// So it is with a signed difference. An unsigned one below 0 wraps.
+// The same holds for a signed difference. An unsigned difference below 0 wraps.
 #[tactic(auto, using(crate::proofs::storages::Clamp::clamped_differences))]
 pub fn sub<T: Storage>(x: T, y: T, bits: usize) -> T
     requires width { 1 ≤ bits }

@@ -1,5 +1,6 @@
-//! Shifts at `bits` bits, by an amount below `bits`, as functions over a storage. `shifting` of `arbitrary_core` calls them for `<<` and
-//! `>>` of the types, and `calls::shifts` of `arbitrary_calls` has the calls that take any amount.
+//! Shifts at `bits` bits by an amount below `bits`, as functions over a storage. `shifting` of `arbitrary_core`
+//! calls them for `<<` and `>>` of the types, and `calls::shifts` of `arbitrary_calls` has the calls that take any
+//! amount.
 
 ghost use Rattle.std.specs.Prelude.{◌≡◌, ◌≤◌, ◌<◌, ◌%◌};
 ghost use Rattle.arbitrary_base.specs.Range.{InRange};
@@ -34,7 +35,7 @@ pub fn shl<T: Storage>(x: T, amount: usize, bits: usize) -> T
 
 /// The bits shifted right by `amount`, with copies of the sign from the left, or zeros for an
 /// unsigned type. Bits that leave the low end are lost.
-// At fewer bits the number has its sign in all the storage's bits above, which the storage's shift brings in.
+// At fewer bits all higher bits of the storage are copies of the sign, and the storage's shift brings them in.
 pub fn shr<T: Storage>(x: T, amount: usize, bits: usize) -> T
     requires width { 1 ≤ bits }
     requires storage { bits ≤ T.WIDTH }

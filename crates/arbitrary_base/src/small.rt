@@ -1,5 +1,5 @@
-//! The numbers of storages of at most 16 bits, in 64 bits, where each product is exact. `checked`, `saturating`
-//! and `overflowing` compare it with the range.
+//! The numbers of storages of at most 16 bits, in 64 bits, where each product is exact. `checked`, `saturating` and
+//! `overflowing` compare such a product with the range.
 
 ghost use Rattle.std.specs.Prelude.{◌≡◌, ◌↔◌, ◌≤◌, ◌*ℤ◌, IsTrue};
 ghost use Rattle.arbitrary_base.specs.Range.{InRange};

@@ -1,4 +1,4 @@
-//! The primitive integers, as storages of narrower numbers.
+//! The primitive integers, as storages of numbers with fewer bits.
 
 ghost use Rattle.std.specs.Prelude.{◌≡◌, ◌≢◌, ◌↔◌, ◌≤◌, ◌<◌, ◌+ℤ◌, ◌-ℤ◌, ◌*ℤ◌, ℕ, ℤ, Bool, true, false, pos, Some, int_div, IsTrue, SomeIff, option_map};
 ghost use Rattle.std.specs.Ordering.{int_cmp};
@@ -19,7 +19,7 @@ pub mod bits8;
 /// Seals the traits of these crates: do not implement it for another type.
 pub trait Sealed {}
 
-// No storages, but amounts of shifts: the types as wide as a pointer have no width of their own.
+// `usize` and `isize` are no storages, but amounts of shifts.
 impl Sealed for usize {}
 
 impl Sealed for isize {}

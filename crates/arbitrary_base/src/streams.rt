@@ -1,6 +1,6 @@
-//! Reads a known number of bytes, and writes all of some bytes. After a fault it makes no further call. `borsh`
-//! of `arbitrary_int` uses these for values in a stream. No call is repeated, not even an interrupted one,
-//! because `Watched` counts each failure.
+//! Reads a known number of bytes, and writes all of some bytes, for the values of `borsh` in `arbitrary_int`. After
+//! a failure they make no further call. They repeat no call, not even an interrupted one, because `Watched` counts
+//! each failure.
 
 ghost use Rattle.std.specs.Prelude.{◌<◌, ◌⊎◌, length, IfSome, OnOk, OnErr};
 ghost use Rattle.std.specs.Io.KnownBytes.{Appends, Consumes};

@@ -1,5 +1,5 @@
-//! Truncation: a storage's number to fewer bits, and a pattern of 128 bits. The modules `wrapping`, `bitwise`
-//! and `shifts` call std and then a function of this module, which puts the result into the range.
+//! Truncation: a storage's number to fewer bits, and a pattern of 128 bits. The modules `wrapping`, `bitwise` and
+//! `shifts` call std, and then a function of this module, which brings the result into the range.
 
 ghost use Rattle.std.specs.Prelude.{◌≡◌, ◌≤◌, ◌<◌, ◌+◌, ◌%◌, ◌^◌, ◌-ℤ◌, ◌↔◌, pos, neg_ℤ, IsTrue};
 ghost use Rattle.std.specs.Ordering.{int_cmp, int_eq};
@@ -57,7 +57,7 @@ pub fn extend(signed: bool, pattern: u128, bits: usize) -> u128
 }
 
 /// The number, truncated to the type of `bits` bits.
-// Two shifts of the storage extend the sign: the compiler makes vectors of them.
+// Two shifts of the storage extend the sign, for which the compiler uses vector instructions.
 pub fn truncated<T: Storage>(x: T, bits: usize) -> T
     requires width { 1 ≤ bits }
     requires storage { bits ≤ T.WIDTH }

@@ -1,4 +1,4 @@
-//! Arithmetic at `bits` bits that wraps: the number of the type that is congruent to the exact result.
+//! Arithmetic at `bits` bits that wraps: it returns the number of the type that is congruent to the exact result.
 
 ghost use Rattle.std.specs.Prelude.{◌≡◌, ◌≢◌, ◌≤◌, ◌+ℤ◌, ◌-ℤ◌, ◌*ℤ◌, neg_ℤ, pos, int_div};
 ghost use Rattle.arbitrary_base.specs.Range.{InRange};

@@ -1,4 +1,4 @@
-//! The integer types whose width is valid, as a trait. So generic code makes a number of the type, and its
+//! The integer types of a valid width, as a trait. Generic code with this bound makes numbers of the type, and its
 //! callers need not prove the width.
 
 ghost use Rattle.std.specs.Prelude.{◌≤ℤ◌, ◌<ℤ◌, pos, true, false};

@@ -1,4 +1,4 @@
--- Equality of whole numbers, for the law that equality, order and hash agree.
+-- Equal numbers for the law that equality, order and hash agree.
 use Rattle.std.specs.Prelude.{◌≡◌, ℤ, IsTrue}
 use Rattle.std.specs.Ordering.{int_eq}
 use Rattle.std.proofs.lemmas.Bool.Decides.{Decides-int_eq}

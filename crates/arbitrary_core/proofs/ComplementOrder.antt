@@ -1,4 +1,4 @@
--- Two complements are in the other order, as `FixedWidth` has it for generic code.
+-- The complement reverses the order, as `FixedWidth` states it for generic code.
 use Rattle.std.specs.Prelude.{◌≡◌, ◌≤◌, ◌<ℤ◌, ◌+ℤ◌, ℕ, ℤ, Bool, true}
 use Rattle.std.specs.Ordering.{MatchOrdering, int_cmp}
 use Rattle.std.specs.Cmp.{int_cmp_is, int_ranks}

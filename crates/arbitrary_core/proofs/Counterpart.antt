@@ -1,4 +1,4 @@
--- Why a number and its bits convert from a type to its counterpart of the other sign.
+-- Why a conversion from a type to its counterpart of the other sign keeps the bits.
 use Rattle.std.specs.Prelude.{◌≡◌, ℕ, ℤ, Bool, false, pos, ◌≤◌}
 use Rattle.std.proofs.Common.{sym, subst, ◌∙◌}
 use Rattle.arbitrary_base.specs.Range.{InRange}

@@ -1,4 +1,4 @@
--- The groups of laws of `FixedWidth` hold of numbers.
+-- Why the groups of laws in specs/GenericLaws.antt hold for numbers.
 use Rattle.std.specs.Prelude.{◌≡◌, ◌+◌, ◌%◌, ◌≤◌, ℕ, ℤ, Bool, true, false, pos}
 use Rattle.std.specs.Ordering.{int_cmp}
 use Rattle.std.proofs.Common.{ap, ap₂, arith, mod-lt, refl, subst, sym, ◌∙◌}

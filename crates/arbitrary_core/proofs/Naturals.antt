@@ -1,5 +1,4 @@
--- What a fact on numbers of at least 0 states about natural numbers, for the clauses of `& | ^` of a signed
--- type.
+-- Facts about numbers of at least 0 as facts about natural numbers, for the clauses of `& | ^` of a signed type.
 use Rattle.std.specs.Prelude.{◌≡◌, ℕ, ℤ, pos, unsigned_abs, ◌≤◌, ◌≤ℤ◌}
 use Rattle.std.proofs.Common.{arith, ap, ap₂, sym, ◌∙◌}
 use Rattle.std.proofs.lemmas.Int.{ints}

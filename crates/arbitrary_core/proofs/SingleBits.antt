@@ -1,4 +1,4 @@
--- The complement of the greatest number, the lowest bit, and 1 at a place, as `FixedWidth` states them for
+-- The complement of the greatest number, the lowest bit, and the bit `1 << k`, as `FixedWidth` states them for
 -- generic code.
 use Rattle.std.specs.Prelude.{◌≡◌, ◌≤◌, ◌<◌, ◌%◌, ◌^◌, ℕ, ℤ, Bool, true, false, pos, unsigned_abs, map, not, ◌-ℤ◌}
 use Rattle.std.proofs.Common.{suc, ap, subst, sym, ◌∙◌, arith, mod-eq_of_lt, pow_pos}

@@ -1,4 +1,4 @@
--- Why `Int` may store the pattern of its number, and why the calls on bits may use it.
+-- Why `Int` can store the pattern of its number, and why the calls on bits can use that pattern.
 use Rattle.std.specs.Prelude.{◌≡◌, ℕ, ℤ, Bool, List, false, pos, length, ◌≤◌}
 use Rattle.std.specs.Ordering.{int_eq}
 use Rattle.std.proofs.Common.{refl, ap, sym, subst, ◌∙◌}

@@ -1,4 +1,4 @@
--- Why a number keeps its value at more bits, where both types are of one sign.
+-- Why a number keeps its value at more bits of the same sign.
 use Rattle.std.specs.Prelude.{◌≡◌, ℕ, ℤ, Bool, ◌≤◌}
 use Rattle.std.proofs.Common.{subst, ap, ◌∙◌, le_trans}
 use Rattle.arbitrary_base.specs.Range.{InRange}

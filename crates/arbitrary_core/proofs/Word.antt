@@ -1,4 +1,4 @@
--- Why the bits of a storage of at most 64 bits are one word, and where they are the number itself.
+-- Why the bits of a storage of at most 64 bits fit in one word, and when they are the number itself.
 use Rattle.std.specs.Prelude.{◌≡◌, ℕ, ℤ, Bool, true, false, pos, negsuc, ◌≤◌, ◌<◌, ◌≤ℤ◌, ◌^◌, unsigned_abs}
 use Rattle.std.proofs.Common.{arith, lt_of_lt_of_le}
 use Rattle.std.proofs.lemmas.Int.{ints}

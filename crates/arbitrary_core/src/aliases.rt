@@ -1,4 +1,4 @@
-//! Short names of the widths that no primitive has.
+//! Short names for the widths that no primitive has.
 
 pub mod signed;
 pub mod unsigned;

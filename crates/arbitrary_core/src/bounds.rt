@@ -1,5 +1,5 @@
-//! `Bounded`, `SaturatingAdd`, `SaturatingSub` and `Zero` of `num_traits` and std's `Default` for both types, at
-//! each width that the storage has room for (`HasWidth`).
+//! `Bounded`, `SaturatingAdd`, `SaturatingSub` and `Zero` of `num_traits`, and std's `Default`, for both types at
+//! each valid width (`HasWidth`). `numeric` has the traits that both types implement at every width.
 
 pub mod signed;
 pub mod unsigned;

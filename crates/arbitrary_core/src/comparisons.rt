@@ -1,4 +1,4 @@
-//! Equality and order of values: those of their numbers.
+//! Equality and order of both types: those of the numbers.
 
 pub mod signed;
 pub mod unsigned;

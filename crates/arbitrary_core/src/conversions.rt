@@ -1,4 +1,4 @@
-//! std's `From` between these integers, and from and into the primitives.
+//! std's `From` between these integers, and between them and the primitives.
 
 pub mod narrower_signed;
 pub mod narrower_unsigned;

@@ -1,4 +1,4 @@
-//! Values as text: the number in decimal.
+//! Decimal text of both types. `radix` has the other bases.
 
 pub mod signed;
 pub mod unsigned;

@@ -1,5 +1,5 @@
-//! Both types as keys: a hasher is fed what it is fed for the number in the storage. `agreement` has the laws
-//! that relate the hash to equality and order in `comparisons`. Change these together.
+//! The hash of both types: a hasher gets the same input as for the number in the storage. `agreement` has the laws
+//! that relate hash, equality and order. A change of one of these needs a change of the others.
 
 pub mod agreement;
 pub mod signed;

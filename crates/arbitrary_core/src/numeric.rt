@@ -1,7 +1,6 @@
-//! The traits of `num_traits` for both types: `WrappingAdd`, `WrappingSub`, and the parents that these require.
-//! There a value's integer is its number, and the truncation of an integer is `wrap`. They are implemented at
-//! every width, also one that is not known to be valid. `bounds` has those that need a value, such as the least
-//! number of `Bounded`.
+//! The traits of `num_traits` that both types implement at every width, valid or not: `WrappingAdd`, `WrappingSub`,
+//! and the parents that these require. To `num_traits`, a value's integer is its number, and truncation is `wrap`.
+//! `bounds` has the traits that make a value, such as `Bounded`.
 
 pub mod laws;
 pub mod signed;

@@ -1,6 +1,6 @@
-//! Values as binary, octal and hexadecimal text: the number if it is at least 0, otherwise the two's complement
-//! of the storage. Contracts state the text for storages of at most 64 bits, as std's do, and tests cover the
-//! wider ones.
+//! Text in the bases 2, 8 and 16: the number if it is at least 0, otherwise the two's complement of the storage.
+//! The contracts state the text for storages of at most 64 bits, as std's do, and tests cover wider ones. `formats`
+//! has decimal text.
 
 ghost use Rattle.std.specs.Prelude.{◌≡◌, ◌≤◌, ◌≤ℤ◌, pos, true, false, unsigned_abs};
 ghost use Rattle.std.specs.Fmt.{WritesOnOk, digits};

@@ -1,4 +1,4 @@
-//! Signed integers of any width, in two's complement.
+//! `Int`: signed integers of any width, in two's complement. `unsigned` has `UInt`.
 
 ghost use Rattle.std.specs.Prelude.{not, ◌≡◌, ◌↔◌, ◌<◌, ◌≤◌, ◌-ℤ◌, ◌<ℤ◌, ◌^◌, ℤ, pos, neg_ℤ, IsTrue, IfOk, MatchResult, ⊤, SomeIff, option_map};
 ghost use Rattle.std.specs.Int.{IsInRange};

@@ -1,5 +1,6 @@
-//! Exact sums and products of many values by std's `Sum` and `Product`. The precondition is that each partial
-//! result is in range. `unsigned` has the impls of `UInt`, `signed` those of `Int`, and this file the loops.
+//! Exact sums and products of many values by std's `Sum` and `Product`, which require that each partial result is
+//! in range. `unsigned` and `signed` have the impls, and this file has the loops. `totals` of `arbitrary_int` has
+//! `try_sum` and `try_product`.
 
 ghost use Rattle.std.specs.Prelude.{◌≡◌, List};
 ghost use Rattle.std.specs.Iterator.{Drains, HoldsAlong, IsFinite};

@@ -1,4 +1,4 @@
-//! Unsigned integers of any width.
+//! `UInt`: unsigned integers of any width. `signed` has `Int`.
 
 ghost use Rattle.std.specs.Prelude.{◌≡◌, ◌↔◌, ◌<◌, ◌≤◌, ◌+◌, ◌/◌, ◌%◌, ◌-ℤ◌, ◌^◌, pos, unsigned_abs, IsTrue, MatchResult, ⊤, neg_ℤ, take, drop};
 ghost use Rattle.std.specs.Int.{IsInRange};

@@ -1,4 +1,4 @@
--- The first number of a range, the others, the last, and their count.
+-- The numbers of a range: the first, the others, the last, and their count.
 use Rattle.std.specs.Prelude.{length, pos, ℤ, ◌+ℤ◌, ◌-ℤ◌, ◌≡◌, ◌≤ℤ◌}
 use Rattle.std.proofs.Common.{ap, arith, ◌∙◌}
 use Rattle.std.proofs.lemmas.Int.{ints}

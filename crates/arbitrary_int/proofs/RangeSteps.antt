@@ -1,4 +1,4 @@
--- What a call of a range's `next` or `next_back` returns, and the range after it.
+-- What one call of a range's `next` or `next_back` returns, and the range after it.
 use Rattle.std.specs.Prelude.{◌≡◌, ℤ, pos, ◌+ℤ◌, ◌-ℤ◌, ◌<ℤ◌, ◌<◌, Bool, false, List, [], ◌∷◌, ◌++◌, length}
 use Rattle.std.proofs.Common.{arith, ap, ◌∙◌, sym, length-append}
 use Rattle.std.proofs.lemmas.Int.{ints}

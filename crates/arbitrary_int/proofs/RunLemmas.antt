@@ -1,4 +1,4 @@
--- Why a run is right: the steps that are left, seen from each step.
+-- Why a run is right: what the steps that are left do, before and after each step.
 use Rattle.std.specs.Prelude.{◌≡◌, ℕ, ℤ, Bool, ◌+◌, ◌<◌, List, [], ◌∷◌, length, get_or, drop, Result, Ok, Err, ⊤}
 use Rattle.std.proofs.Common.{arith, refl, ap, sym, ◌∙◌, suc, add-one, ◌≤◌}
 use Rattle.std.proofs.Math.Seq.{drop-cons}

@@ -1,4 +1,4 @@
--- Why a step is right: from the contract of each call to the meaning of its operation.
+-- Why a step is right: the contract of each call states the meaning of its operation.
 use Rattle.std.specs.Bool.{then_some}
 use Rattle.std.specs.Ordering.{int_eq}
 use Rattle.std.specs.Prelude.{Bool, Err, IfSome, IsNone, List, MatchResult, None, Ok, Option, Result, Some, SomeIff, false, get_or, if◌then◌else◌, int_div, length, map, nat_eq, nat_lt, ok_or, option_map, pos, set, true, ℕ, ℤ, ◌<◌, ◌↔◌, ◌≡◌, ◌≢◌, ◌≤◌}

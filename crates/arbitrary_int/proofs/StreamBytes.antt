@@ -1,4 +1,5 @@
--- The bytes of a number in a stream: their count, and that they determine the number, also if more bytes follow.
+-- The bytes of a number in a stream: how many there are, and that they determine the number, also if more bytes
+-- follow.
 use Rattle.std.specs.Prelude.{Bool, List, false, pos, true, ℕ, ℤ, ◌<◌, ◌^◌, ◌≡◌, ◌≤◌}
 use Rattle.std.proofs.Common.{ap, subst, sym, ◌∙◌}
 use Rattle.arbitrary_base.specs.ByteLists.{bytes_number}

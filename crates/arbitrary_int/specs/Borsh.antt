@@ -1,4 +1,4 @@
--- Why a value is not read from a stream.
+-- Why a value cannot be read from a stream.
 use Rattle.std.specs.Prelude.{◌≡◌, ℕ, ◌<◌, ◌⊎◌, List, length, take, drop, Option, Some, IfSome}
 
 -- the reader failed, or held fewer than n bytes, or its first n are those of no value, and what follows them is left

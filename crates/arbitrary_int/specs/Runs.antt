@@ -1,4 +1,4 @@
--- What a list of steps does, over integers and bit lists, with no storage.
+-- What a list of steps does, over integers and bit lists, with no storage. Steps.antt has one step.
 use Rattle.std.specs.Prelude.{ℕ, ℤ, Bool, ◌+◌, List, [], ◌∷◌, Result, Ok, Err, ⊤}
 use Rattle.arbitrary_int.specs.Steps.{meaning}
 use Rattle.arbitrary_int.specs.declared.steps.Step.{Step}

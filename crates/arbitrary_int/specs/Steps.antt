@@ -1,4 +1,4 @@
--- What one step does, over integers and bit lists, with no storage.
+-- What one step does, over integers and bit lists, with no storage. Runs.antt has a list of steps.
 use Rattle.std.specs.Prelude.{ℕ, ℤ, Bool, pos, ◌+ℤ◌, ◌-ℤ◌, ◌*ℤ◌, ◌%◌, ◌<◌, List, get_or, set, Result, Ok, Err, ok_or, if◌then◌else◌, int_div, nat_lt}
 use Rattle.arbitrary_base.specs.Range.{in_range}
 use Rattle.std.specs.Bool.{then_some}

@@ -1,4 +1,4 @@
--- Runs of the same steps at two widths.
+-- Low-bit steps, checked arithmetic, and runs of the same steps at two widths.
 use Rattle.std.specs.Prelude.{ℕ, Bool, ◌<◌, ◌≤ℤ◌, List, take, Result, Ok, Err, ⊤}
 use Rattle.arbitrary_base.specs.Range.{lo, hi}
 use Rattle.arbitrary_int.specs.declared.steps.TwoOp.TheVariants.{WrappingAdd, WrappingSub, WrappingMul, CheckedAdd, CheckedSub, CheckedMul, CheckedDiv, And, Or, Xor}

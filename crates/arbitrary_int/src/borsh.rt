@@ -1,4 +1,4 @@
-//! Values in a stream of Borsh bytes.
+//! `BorshSerialize` and `BorshDeserialize`: values in a stream of bytes.
 
 ghost use Rattle.std.specs.Prelude.{◌≡◌, ◌≤◌, ℕ, pos, false, true, List, length, take, drop, IfOk, IfSome, OnOk, OnErr, MatchOption};
 ghost use Rattle.std.specs.Int.{div_ceil};
@@ -23,7 +23,7 @@ pub trait BorshSerialize {
     // The bytes of a value.
     ghost bytes_of: { Self → List ℕ };
 
-    // How many they are.
+    // The number of these bytes.
     ghost size_of: { Self → ℕ };
 
     /// Writes the bytes of the value, and nothing else. An error is the writer's own, or
@@ -51,17 +51,17 @@ pub trait BorshSerialize {
 /// A value that can be read from a stream. `UInt` and `Int` implement it at every width. Bytes are
 /// canonical if there are `BITS.div_ceil(8)` of them and their number is below `2 ^ BITS`.
 pub trait BorshDeserialize: Sized {
-    // Whether the type has values at all.
+    // Whether the width is valid.
     ghost readable: { Type 0 };
 
-    // How many bytes each value has, which lists of bytes are those of a value, and of which.
+    // The number of bytes of a value, which lists of bytes are canonical, and the bytes of each value.
     ghost count: { ℕ };
 
     ghost canonical: { List ℕ → Type 0 };
 
     ghost read_bytes: { Self → List ℕ };
 
-    // What is known of a value from its list of bytes.
+    // How a value follows from its list of bytes.
     ghost tells: { List ℕ → Self → Type 0 };
 
     /// Reads exactly the bytes of one value. An error is the reader's own, `UnexpectedEof` if the

@@ -2,7 +2,7 @@
 //! number is in range.
 //!
 //! A clause here is about numbers alone, so a body without the calls could meet it too. The proof uses only what
-//! the calls ensure, so a caller who makes the same calls knows the same.
+//! the calls ensure, so a caller of the same calls can rely on the law.
 
 ghost use Rattle.std.specs.Prelude.{◌≡◌, ◌↔◌, IsTrue, MatchOption};
 

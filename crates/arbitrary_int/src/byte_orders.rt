@@ -1,4 +1,4 @@
-//! Integers of whole bytes, and their bytes.
+//! `ByteOrders`: integers of whole bytes, and their bytes in both orders.
 
 ghost use Rattle.std.specs.Prelude.{◌≡◌, ◌-◌, ◌*◌, ◌/◌, ◌%◌, ◌^◌, ◌<◌, ℕ, ℤ, pos, false, true, get_or, refl, reverse, unsigned_abs};
 ghost use Rattle.std.proofs.Common.{lit≤};

@@ -1,5 +1,5 @@
-//! Integers of any width from 1 to 128 bits, proved: `u1` to `u127`, `i1` to `i127`, and the types
-//! `UInt` and `Int` behind them, with lists of steps on registers of one such type.
+//! Integers of any width from 1 to 128 bits, proved: `u1` to `u127`, `i1` to `i127`, and their types `UInt` and
+//! `Int`; and lists of steps on registers of one such type.
 #![tactic(auto)]
 
 pub mod borsh;

@@ -1,6 +1,6 @@
 //! What most programs import: the types, their short names, the traits with their calls, and the items for sums,
-//! ranges and streams. Each row of docs/CALLS.md compiles with this one import, so add the name of a new row
-//! here. `traits` also has the bounds of generic code.
+//! ranges and streams. Each row of docs/CALLS.md compiles with this one import, so a new row needs its name here.
+//! `traits` has the traits alone.
 
 pub use crate::borsh::{BorshDeserialize, BorshSerialize};
 pub use crate::byte_orders::ByteOrders;

@@ -1,4 +1,4 @@
-//! Ranges of values.
+//! `range_inclusive`: an iterator over the values of a range.
 
 ghost use Rattle.std.specs.Prelude.{◌≡◌, ◌≤◌, ◌^◌, ⊤, length};
 ghost use Rattle.std.specs.Iterator.{YieldsFirstBy, YieldsLastBy, at_most};

@@ -1,4 +1,4 @@
-//! Lists of steps on registers.
+//! `run` and `well_formed`: lists of steps on registers of one type. `widths` has `run_wide`.
 
 ghost use Rattle.std.specs.Prelude.{◌≡◌, ◌↔◌, ◌<◌, ℕ, Bool, map, length, pos, ◌-ℤ◌, IsTrue, MatchResult, Ok, Err, All};
 ghost use Rattle.std.specs.Ordering.{int_eq};
@@ -35,7 +35,7 @@ fn is_within(step: &Step, n: usize) -> bool
 }
 
 /// Whether the number is zero.
-// All its bits are zero exactly there.
+// Only the number 0 has no bit that is one.
 fn is_zero<R: Integer>(x: R) -> bool
     ensures { result ≡ int_eq (R.number x) (pos 0) }
 {
@@ -98,7 +98,7 @@ fn two<R: BitwiseOperators>(op: TwoOp, x: R, y: R) -> Result<R, Why>
 fn negated<R: BitwiseOperators>(x: R) -> R
     ensures { R.number result ≡ wrap R.IS_SIGNED R.BITS (pos 0 -ℤ R.number x) }
 {
-    // shows that the width is valid
+    // ensures that the width is valid
     let _pattern = x.to_u128_bits();
     R::zero().wrapping_sub(x)
 }

@@ -1,8 +1,8 @@
-//! Steps from one value to another: the calls of Rust's unstable trait `Step`, which ranges use. The lemmas are
-//! in proofs/SteppingLemmas.antt, and the words in specs/Ranges.antt.
+//! The calls of Rust's unstable trait `Step`, which ranges use. The lemmas are in proofs/SteppingLemmas.antt, and
+//! the definitions in specs/Ranges.antt.
 //!
-//! Each function first reads the numbers of its arguments, as in `let _known = x.to_u128_bits();`. In generic
-//! code the check knows no range of a value before a call reads it, and the proof needs that range.
+//! Each function first reads the numbers of its arguments, as in `let _known = x.to_u128_bits();`. In generic code,
+//! the check knows no range of a value before a call reads it, and the proof needs that range.
 
 ghost use Rattle.std.specs.Prelude.{◌≡◌, ◌+ℤ◌, ◌-ℤ◌, ◌≤ℤ◌, ◌<ℤ◌, pos, SomeIff, option_map};
 ghost use Rattle.arbitrary_base.specs.Range.{InRange};

@@ -1,4 +1,4 @@
-//! Steps. Each reads one or two registers and writes one.
+//! The steps of `run`. Each reads one or two registers and writes one.
 
 /// An operation on two registers.
 #[derive(Clone, Copy, Debug, PartialEq, Eq)]

@@ -1,5 +1,6 @@
-//! Sums and products of many values, from the left, which refuse a partial result out of range. `totals` of
-//! `arbitrary_core` has std's, which require that each partial result is in range.
+//! `try_sum` and `try_product`: sums and products of many values, from the left, which return `None` if a partial
+//! result is out of range. `totals` of `arbitrary_core` has std's `Sum` and `Product`, which require that it is in
+//! range.
 
 ghost use Rattle.std.specs.Prelude.{◌+ℤ◌, ◌*ℤ◌, pos, SomeIff, option_map};
 ghost use Rattle.arbitrary_base.specs.Range.{InRange};

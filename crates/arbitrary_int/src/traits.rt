@@ -1,4 +1,4 @@
-//! The traits of the integer types.
+//! The traits of the integer types, for the bounds of generic code. `prelude` has these and the types.
 
 pub use arbitrary_base::storage::{
     BuiltinInteger, SignedOf, SignedStorage, Storage, UnsignedOf, UnsignedStorage,

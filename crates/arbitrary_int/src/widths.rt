@@ -1,5 +1,5 @@
-//! Lists of steps on wide registers whose low bits are used. `arbitrary_widths` is about the widths of a
-//! storage.
+//! `run_wide`: a list of steps on wide registers, whose low bits go to narrow registers. The crate
+//! `arbitrary_widths` is about the widths of a storage.
 
 ghost use Rattle.std.specs.Prelude.{◌≡◌, ◌<◌, ◌≤◌, map, length, Ok, All};
 ghost use Rattle.arbitrary_int.specs.Widths.{IsLowBit};
@@ -17,7 +17,7 @@ fn low_bits_of<W: Numbered, N: Numbered>(wide: W, narrow: N) -> N
     ensures number { N.number result ≡ wrap N.IS_SIGNED N.BITS (W.number wide) }
     ensures width { 1 ≤ N.BITS }
 {
-    // shows that the width is valid
+    // ensures that the width is valid
     let _pattern = narrow.to_u128_bits();
     N::masked_new(wide)
 }

@@ -1,4 +1,4 @@
--- For callers, one set of laws that no single call can state:
+-- One set of laws that no single call can state, for callers:
 -- `#[tactic(auto, using(arbitrary_laws::proofs::Everyday::everyday))]`.
 use Rattle.std.specs.Prelude.{◌≡◌, ℕ, ◌+◌, ◌*◌, ◌/◌, ◌%◌, ◌^◌, ◌<◌}
 use Rattle.std.specs.Int.Bits.{bit_or}

@@ -1,7 +1,7 @@
--- The public sets of laws, one for each topic. Write
--- `#![tactic(auto, using(arbitrary_laws::proofs::Sets::bits))]` at the top of a file, or without the first `!`
--- on a function. docs/SETS.md has facts that each proves. The small sets of which they consist are next to their
--- lemmas, and have a few more laws: with all of them the search would run out of budget.
+-- The public sets of laws, one for each topic. Write `#![tactic(auto, using(arbitrary_laws::proofs::Sets::bits))]`
+-- at the top of a file, or `#[..]` on a function. docs/SETS.md has facts that each set proves. Each consists of
+-- small sets, which are next to their lemmas and have a few more laws: with all of them the search would run out
+-- of budget.
 use Rattle.arbitrary_base.proofs.LawProof.{in_range-tells, sums-associate}
 use Rattle.arbitrary_base.proofs.bit_lists.TwosComplement.{num-bits_residue, val-bits_in_range}
 use Rattle.arbitrary_base.proofs.bit_lists.UnsignedNumber.{length-bits}

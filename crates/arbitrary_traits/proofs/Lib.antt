@@ -1,2 +1,2 @@
--- The lemmas that several proofs of this crate share.
+-- The lemmas that several proofs of this crate use.
 pub mod Conversion

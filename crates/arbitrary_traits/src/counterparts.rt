@@ -1,4 +1,4 @@
-//! The unsigned and the signed type of one width, and how they relate.
+//! The unsigned and the signed type of one width, and how their numbers relate.
 
 ghost use Rattle.std.specs.Prelude.{◌≡◌};
 ghost use Rattle.std.proofs.Common.{refl};

@@ -1,6 +1,6 @@
 //! The traits `Integer`, `UnsignedInteger` and `SignedInteger`, with the contract of each call. `primitives` has
 //! the bodies for the primitives, and `arbitrary_core` those for `UInt` and `Int`. A call with one body for all
-//! types belongs to a trait that requires less, in `numbered` or in `arbitrary_calls`.
+//! types belongs to a trait with fewer parents, in `numbered` or in `arbitrary_calls`.
 
 ghost use Rattle.std.specs.Prelude.{◌≡◌, ◌≢◌, ◌<◌, ◌^◌, ◌+ℤ◌, ◌-ℤ◌, ◌*ℤ◌, ℤ, true, false, pos, neg_ℤ, Some, MatchResult, int_div, map, not};
 ghost use Rattle.std.specs.Ordering.{int_cmp, int_eq};
@@ -60,7 +60,7 @@ pub trait Integer: Numbered
     /// The signed type of the same width, over the signed storage of the same width.
     type SignedInteger;
 
-    // The numbers of the types around it.
+    // The numbers of the storage and of the unsigned counterpart.
     ghost underlying: { Self.UnderlyingType → ℤ };
 
     ghost unsigned_number: { Self.UnsignedInteger → ℤ };
@@ -117,7 +117,7 @@ pub trait Integer: Numbered
             InRange Self.IS_SIGNED Self.BITS y → unsigned_number value ≡ pattern
             → Self.number result ≡ y };
 
-    // A clone is the same value, and is always to be had.
+    // A clone is the same value, and cloning never fails.
     ghost clone_law: { (a b : Self) → Self.is_clone a b → b ≡ a };
 
     ghost infallible_law: { (a : Self) → Self.is_infallible a };
@@ -188,7 +188,7 @@ pub trait Integer: Numbered
         Self.not_gives a r → InRange Self.IS_SIGNED Self.BITS (number a)
         → number r ≡ val Self.IS_SIGNED (map not (list (number a))) };
 
-    // Each assigning form may be made where its operator may, and gives what that gives.
+    // Each assigning form has the condition and the result of its operator.
     ghost assign_law: { let agree = IsAssigned in
         agree Self.can_add Self.can_add_assign Self.add_gives Self.add_assign_gives
         × agree Self.can_sub Self.can_sub_assign Self.sub_gives Self.sub_assign_gives
@@ -203,7 +203,7 @@ pub trait Integer: Numbered
 pub trait UnsignedInteger: Integer {
     ghost unsigned_law: { Self.IS_SIGNED ≡ false };
 
-    // 1 is a number of it.
+    // The number 1 is in range.
     ghost one_law: { Self.valid → 1 < 2 ^ Self.BITS };
 }
 

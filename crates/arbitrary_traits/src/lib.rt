@@ -1,5 +1,5 @@
-//! The traits of integers of any width, and their impls for the primitives. In contracts a type is its sign and
-//! its width alone.
+//! The traits of integers of any width, and their impls for the primitives. A contract knows only the sign and the
+//! width of a type.
 #![tactic(auto)]
 
 pub mod counterparts;

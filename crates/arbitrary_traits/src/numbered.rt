@@ -1,5 +1,5 @@
-//! The trait `Numbered`: the width, the sign and the number of a value, and the conversions between any two such
-//! types, each written once. It requires little, so that a caller's proof loads little. `Integer`, which has the
+//! The trait `Numbered`: the width, the sign and the number of a value, and conversions between any two such types,
+//! each with one body. It has few parents, so the proof of a caller loads little. `Integer`, which has the
 //! operators, requires it.
 
 ghost use Rattle.std.specs.Prelude.{◌≡◌, ◌≤◌, ◌<◌, ◌%◌, ◌^◌, ◌||◌, ℕ, ℤ, Bool, true, false, pos, not, unsigned_abs};
@@ -23,7 +23,7 @@ pub trait Numbered: Copy + Sealed {
 
     ghost IS_SIGNED: { Bool };
 
-    // Whether the storage can keep numbers of this width.
+    // Whether the width is valid.
     ghost valid: { Type 0 };
 
     // The number of a value.
@@ -55,10 +55,10 @@ pub trait Numbered: Copy + Sealed {
         Self::masked_new(value)
     }
 
-    // Here and in `as_` to `as_isize` premises on signs and widths bring the equation, or the congruence
-    // where the number may change. `congruent` is for each equal `y`, so that no search opens it unasked. `congruent_to` is for
-    // what the number is congruent to at its own width. In `as_u8` to `as_isize` it requires an unsigned type, or the search would
-    // not compare a byte of a signed number.
+    // Here and in `as_` to `as_isize`, premises on signs and widths select the equation, or the congruence if the number can
+    // change. `congruent` is about every equal `y`, so that the search does not open it on its own. `congruent_to` is about
+    // each number to which this one is congruent at its own width. In `as_u8` to `as_isize` it requires an unsigned type:
+    // otherwise the search would not compare a byte of a signed number.
     /// The number that is congruent to that of `value` modulo `2 ^ BITS`: high bits are dropped,
     /// and the sign is extended. Requires a valid width.
     #[tactic(auto, using(crate::proofs::Conversion::conversions))]

@@ -1,5 +1,5 @@
-//! The primitive integers as integer types, by their calls as storages. Every width is valid, and every value is
-//! in range.
+//! The impls of `Numbered` and `Integer` for the primitive integers, by their calls as storages. Every width is
+//! valid, and every value is in range.
 
 ghost use Rattle.std.specs.Prelude.{◌≡◌, ◌≢◌, ◌+ℤ◌, ◌-ℤ◌, ◌*ℤ◌, ⊤, pos, Some, int_div, map, not};
 ghost use Rattle.std.specs.Ordering.{int_eq};
@@ -113,7 +113,7 @@ pub trait Primitive: BuiltinInteger
         Self.not_gives a r → InRange Self.SIGNED Self.WIDTH (number a)
         → number r ≡ val Self.SIGNED (map not (list (number a))) };
 
-    // Each assigning form may be made where its operator may, and gives what that gives.
+    // Each assigning form has the condition and the result of its operator.
     ghost assign_law: { let agree = IsAssigned in
         agree Self.can_add Self.can_add_assign Self.add_gives Self.add_assign_gives
         × agree Self.can_sub Self.can_sub_assign Self.sub_gives Self.sub_assign_gives
@@ -180,7 +180,7 @@ where
         value
     }
 
-    // The pattern is taken for its clause, that the number is in range.
+    // `pattern` ensures that the number is in range.
     fn try_new(value: T) -> Result<T, TryNewError> {
         let _pattern = value.pattern();
         Ok(value)

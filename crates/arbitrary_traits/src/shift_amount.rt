@@ -1,4 +1,4 @@
-//! Amounts of shifts.
+//! The types of the amount of a shift by `<<` and `>>`.
 
 ghost use Rattle.std.specs.Prelude.{◌≡◌, ◌^◌, ◌≤ℤ◌, ◌<ℤ◌, ℤ, pos};
 

@@ -1,5 +1,5 @@
-//! Unsigned integers, as the first version of the Rust crate had them. New code uses `Integer`, which has the
-//! same calls and also signed integers.
+//! Unsigned integers, as the first version of the Rust crate had them. New code uses `Integer`, which has the same
+//! calls, and signed integers.
 
 ghost use Rattle.std.specs.Prelude.{◌≡◌, ◌≤◌, ◌<◌, ◌%◌, ◌^◌, ℕ, pos, false, refl, unsigned_abs, MatchResult};
 ghost use Rattle.arbitrary_base.specs.Range.{lo, hi, InRange};

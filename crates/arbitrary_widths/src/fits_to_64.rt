@@ -1,4 +1,4 @@
-//! The storages whose numbers all fit in 8 to 64 bits (`most`).
+//! The impls of `FitsIn` at 8 to 64 bits, for each storage with at most as many bits (`most`).
 //! tools/short_names.py writes this file.
 
 ghost use Rattle.std.proofs.Common.{lit≤, le_trans};

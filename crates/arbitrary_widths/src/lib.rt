@@ -1,6 +1,6 @@
-//! The widths that a storage has room for, as a trait. So a function without arguments, such as std's `default`,
-//! can make a value of every valid type. `to_64` and `to_128` have the impls of `HasWidth`, with `room`;
-//! `fits_to_64` and `fits_to_128` those of `FitsIn`.
+//! Which widths fit a storage, as traits. With `HasWidth`, a function without arguments, such as std's `default`,
+//! can make a value at every valid width. `to_64` and `to_128` have its impls, and `fits_to_64` and `fits_to_128`
+//! those of `FitsIn`.
 #![tactic(auto)]
 
 ghost use Rattle.std.specs.Prelude.{◌≤◌};

@@ -1,4 +1,4 @@
-//! The least number of bits of a storage.
+//! Traits of the storages of at least 8, 16, 32, 64 and 128 bits, for the impls of `HasWidth`.
 
 ghost use Rattle.std.specs.Prelude.{◌≤◌};
 ghost use Rattle.std.proofs.Common.{lit≤};

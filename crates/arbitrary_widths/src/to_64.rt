@@ -1,4 +1,4 @@
-//! The widths from 1 to 64: each storage that has as many bits has room for them (`room`).
+//! The impls of `HasWidth` at 1 to 64 bits, for each storage with at least as many bits (`room`).
 //! tools/short_names.py writes this file.
 
 ghost use Rattle.std.proofs.Common.{lit≤, le_trans};

@@ -1,4 +1,5 @@
--- Fields in a word of 128 bits, and lists of puts into such fields. `Field` of `arbitrary_base` has the number of one field of a word.
+-- Fields in a word of 128 bits, and lists of puts into such fields. `Field` of `arbitrary_base` has the number of
+-- one field of any word.
 use Rattle.std.specs.Prelude.{◌≡◌, ℕ, ◌+◌, ◌-◌, ◌≤◌, ◌<◌, ◌^◌, ℤ, Bool, false, List, [], ◌∷◌, length, take, drop, get_or, pos, All, AllPairs, Contains, IsPermutation}
 use Rattle.std.specs.List.{fold, replace_range}
 use Rattle.arbitrary_int.specs.BitList.{bits, num, val}

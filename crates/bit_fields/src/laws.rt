@@ -1,4 +1,4 @@
-//! The laws of the fields of a word. The function proves its clauses, and does nothing.
+//! The laws of fields in a word, for callers' proofs. The function proves its clauses, and does nothing.
 
 ghost use Rattle.bit_fields.specs.BitField.{PutSetsItsBits, PutKeepsOtherBits, FieldAfterPut, PutsSetTheirBits, PutsKeepOtherBits, FieldAfterPuts, PutsInAnyOrder, DisjointPutsCommute};
 

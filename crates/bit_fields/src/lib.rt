@@ -49,7 +49,7 @@ impl Record {
         ensures congruent { Congruent F.BITS (pos (self.new.bits / 2 ^ start)) (F.number value) }
         ensures high { self.new.bits / 2 ^ (start + F.BITS) ≡ self.old.bits / 2 ^ (start + F.BITS) }
 
-        // What was there already changes nothing.
+        // A value that the field already has changes nothing.
         ensures same { let before = self.old.bits in
             HasNumber F.IS_SIGNED before start F.BITS (F.number value) → self.new.bits ≡ before }
 
@@ -64,7 +64,7 @@ impl Record {
 }
 
 /// The value's bits, with zeros above them.
-// A number of a type with no sign has none above, so nothing is masked there.
+// The pattern of an unsigned number has only zeros above, so nothing is masked.
 fn bits_alone<F: Numbered>(value: F) -> u128
     ensures value { result ≡ residue F.BITS (F.number value) }
     ensures short { result < 2 ^ F.BITS }

@@ -1,4 +1,5 @@
-//! Runs a list of steps that it reads as text from standard input, and writes the output. `bitrun_service` describes the text.
+//! Reads registers and steps as text from standard input, runs the steps, and writes the registers.
+//! `bitrun_service` describes the text.
 #![tactic(auto)]
 
 #[cfg(test)]
@@ -11,7 +12,7 @@ use std::io;
 use std::process::ExitCode;
 
 fn main(rt: HostRuntime) -> ExitCode {
-    // With no buffer, which nothing would be read into: `serve` reads chunks of its own.
+    // Without a buffer: `serve` reads in chunks.
     let mut reader = Watched::new(rt.stdin());
     let mut writer = Watched::new(io::writer(&rt));
     match serve(rt.alloc(), &mut reader, &mut writer) {

@@ -1,4 +1,4 @@
--- The digits of a number, the last ones first.
+-- The digits of a number, from the last to the first.
 use Rattle.std.proofs.Common.{◌≡◌, ℕ, ◌+◌, ◌*◌, ◌/◌, ◌%◌, ◌^◌, ◌<◌, ◌≤◌, [], ◌∷◌, ◌++◌, length, ℤ, pos, negsuc, false, true≢false, int_le, unsigned_abs, refl, sym, ap, ◌∙◌, arith, add-one, mul_assoc, length-append}
 use lib.Dec.{leb-zero}
 use Rattle.std.specs.Fmt.{decimal, signed_decimal}

@@ -1,4 +1,4 @@
--- What `serve` does.
+-- What `serve` reads, writes and returns.
 use Rattle.std.specs.Prelude.{◌≢◌, ℕ, ◌≤◌, ◌<◌, Bool, List, length, Option, IfSome, Result, IfErr, OnOk, IsErrOf, IsTrue, ⊤}
 use Rattle.std.specs.Io.KnownBytes.{Appends, Keeps, IsAtEnd}
 use Rattle.bitrun_service.specs.Output.{IsOutput}

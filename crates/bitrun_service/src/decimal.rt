@@ -1,4 +1,4 @@
-//! Numbers in decimal.
+//! Decimal text of numbers, appended to a text.
 
 ghost use Rattle.std.specs.Prelude.{◌≡◌, ◌≤◌, ◌<◌, ◌+◌, ◌*◌, ◌^◌, ◌++◌, ℕ, drop, length, decimal, unsigned_abs, OnOk};
 ghost use Rattle.std.specs.Fmt.{signed_decimal};

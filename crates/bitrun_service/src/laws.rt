@@ -1,6 +1,6 @@
 //! What follows from the definitions in `specs` alone. An input has at most one output and at most one first bad
-//! line, so "the output" in the contract of `serve` means one text. Nothing here runs. After a change to the
-//! definition of the output, these laws must still be proved.
+//! line, so "the output" in the contract of `serve` means one text. After a change of the definition of the output,
+//! these laws must still be proved. Nothing here runs.
 
 ghost use Rattle.std.specs.Prelude.{◌≡◌, ℕ, List};
 ghost use Rattle.bitrun_text.specs.Form.{BadLine};

@@ -1,5 +1,5 @@
-//! The output of an input: reads its lines, and runs the steps at the type that the first line names. `bitrun_text` reads the lines,
-//! `running` runs the steps at one type, and `serving` reads and writes the bytes.
+//! The output of an input: it reads the lines, and runs the steps at the type that the first line names.
+//! `bitrun_text` reads the words, `running` runs the steps at one type, and `serving` reads and writes the bytes.
 
 ghost use Rattle.std.specs.Prelude.{◌≡◌, ◌≤◌, length, map, filter, IfOk, IfErr, All};
 ghost use Rattle.bitrun_text.specs.Kind.{type_row, type_of, types_of};

@@ -1,4 +1,4 @@
-//! Runs the steps, and returns the text of the registers that they leave.
+//! Runs the steps at one type, and returns the text of the registers that they leave.
 
 ghost use Rattle.std.specs.Prelude.{◌≡◌, ◌≤◌, length, map, IfOk, All};
 ghost use Rattle.arbitrary_int.specs.Steps.{StepWithin};

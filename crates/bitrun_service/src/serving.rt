@@ -1,4 +1,4 @@
-//! Reads the input, and writes the output.
+//! `serve`: reads the input, and writes its output.
 
 ghost use Rattle.arbitrary_int.specs.Watched.{inner_of, has_failed};
 ghost use Rattle.bitrun_service.specs.Serving.{Serves};

@@ -1,5 +1,5 @@
-//! Reads the whole input, and writes the whole output, for `serving`. `output` computes the output. Only this module calls a reader or a
-//! writer. An input has at most 65,536 bytes, and no call is repeated after a failure.
+//! Reads the whole input, and writes the whole output, for `serving`. Only this module calls a reader or a writer.
+//! An input has at most 65,536 bytes, and no call is repeated after a failure.
 
 ghost use Rattle.std.specs.Prelude.{◌≡◌, ◌≤◌, vec_len, IfOk, IfErr, OnOk, OnErr, IfSome, IsTrue};
 ghost use Rattle.std.specs.Io.KnownBytes.{Appends, IsAtEnd};
@@ -29,7 +29,7 @@ pub fn read_all<'a, A: Allocator, R: Read>(
         (ReadFault (R.remaining (inner_of reader.old)) (has_failed reader.new)) }
 {
     let mut input = Vec::new(alloc);
-    // The C library clears a longer array by an instruction for each byte, as callgrind counts.
+    // The C library clears a longer array with an instruction for each byte, as callgrind counts.
     let mut chunk = [0u8; 2048];
     for _ in 0..LONGEST_INPUT + 1 {
         let Ok(count) = reader.read(&mut chunk) else {

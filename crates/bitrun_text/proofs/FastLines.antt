@@ -1,4 +1,4 @@
--- A line is the step whose name begins it and whose operands follow.
+-- A line names a step if it begins with the name of the step and its operands follow.
 use Rattle.std.proofs.Common.{◌≡◌, ℕ, suc, one-add, ◌+◌, ◌<◌, ◌≤◌, true, false, not, ◌&&◌, Bool, List, [], ◌∷◌, ◌++◌, length, take, drop, get_or, Some, option_map, bytes_eq, refl, sym, ap, ◌∙◌, inl, inr, arith}
 use Rattle.std.specs.List.{find, position_or_len, before_first}
 use Rattle.std.proofs.Math.Seq.{take-append_seam, drop-append_seam}

@@ -1,4 +1,4 @@
--- The first word and the first line of a text, and what remains.
+-- The first word and the first line of a text, and what remains after them.
 use Rattle.std.proofs.Common.{◌≡◌, ℕ, suc, ◌+◌, ◌-◌, ◌<◌, Bool, true, false, cond, not, List, [], ◌∷◌, ◌++◌, length, take, drop, get_or, map, filter, position, unwrap_or, eqb, eqb-true, false-eqb, refl, sym, ap, ◌∙◌, inl, inr, arith, one-add, suc-add, append-nil, drop_of_length-le, take_all}
 use Rattle.std.specs.List.{slice_split, onto_first, position_or_len, before_first, after_first}
 use Rattle.std.specs.Str.Lines.{lines_of_parts, strip_carriage_return}

@@ -1,4 +1,4 @@
--- One more line of a step.
+-- What one more line of a step changes.
 use Rattle.std.proofs.Common.{◌≡◌, ◌<◌, ◌+◌, ◌-◌, ℕ, suc, List, [], ◌∷◌, ◌++◌, length, filter, Some, None, is_some, true, sym, refl, ap, ◌∙◌, arith, append_assoc}
 use Rattle.std.specs.List.{AllZip, after_first}
 use Rattle.std.proofs.lemmas.List.Elements.{All-push}

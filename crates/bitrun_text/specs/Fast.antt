@@ -1,4 +1,4 @@
--- What the reader of steps in the fast form returns.
+-- What the reader of fast lines returns. Form.antt has the meaning of any line.
 use Rattle.std.specs.Prelude.{◌≡◌, ℕ, ◌<◌, ◌≤◌, true, List, [], take, drop, get_or, length, Some}
 use Rattle.std.specs.Char.{is_ascii_digit}
 use Rattle.std.specs.List.{position_or_len}

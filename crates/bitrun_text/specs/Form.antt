@@ -1,4 +1,4 @@
--- Which inputs have the form, and which line of another input is the first bad one.
+-- Which inputs are valid, and which line of another input is the first bad one.
 use Rattle.std.specs.Prelude.{◌≡◌, ℕ, zero, suc, ◌+◌, ◌-◌, ◌≤◌, ◌⊎◌, Bool, List, [], ◌∷◌, ◌++◌, length, take, drop, filter, Some, IsSome, IsSomeAnd, option_and_then, ℤ, slice_get, All}
 use Rattle.std.specs.List.{AllZip, AllByRecursion}
 use Rattle.arbitrary_int.specs.declared.steps.Step.{Step}

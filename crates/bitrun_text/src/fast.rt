@@ -1,5 +1,6 @@
-//! Steps in the usual form: the line begins with the name and ends with an LF. A line with one space between its words needs no call, so
-//! all of it stays in processor registers. If a function returns `None`, the caller reads the words of the line.
+//! Fast lines: steps that begin with the name and end with an LF. A line with one space between its words needs no
+//! call, so all of it stays in processor registers. If a function returns `None`, the caller reads the words of the
+//! line.
 
 ghost use Rattle.std.specs.Prelude.{◌≡◌, ◌≤◌, ◌<◌, ◌+◌, ◌-◌, ◌*◌, ◌^◌, [], true, length, take, drop, get_or, Some, IfSome};
 ghost use Rattle.arbitrary_int.specs.Steps.{StepWithin};
@@ -264,7 +265,7 @@ fn line_end(text: &[u8], at: usize) -> Option<usize>
 }
 
 /// The place after the blanks at the place.
-// In line, this loop would take processor registers from the numbers.
+// Inlined, this loop would take processor registers from the numbers.
 #[inline(never)]
 pub fn after_blanks(text: &[u8], start: usize) -> usize
     requires { start ≤ length text.now }
@@ -288,7 +289,7 @@ fn is_usual_blank(byte: u8) -> bool
     byte == b' ' || is_other_blank(byte)
 }
 
-// In line, the compiler would make one test of both.
+// Inlined, the compiler would merge both tests.
 #[inline(never)]
 fn is_other_blank(byte: u8) -> bool
     ensures { result ≡ is_blank byte }

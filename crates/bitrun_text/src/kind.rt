@@ -1,4 +1,4 @@
-//! The types of the registers, and the first line.
+//! The first line, and the types of registers that it names.
 
 ghost use Rattle.std.specs.Prelude.{◌≡◌};
 ghost use Rattle.bitrun_text.specs.Text.{Left};

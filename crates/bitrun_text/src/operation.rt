@@ -1,4 +1,4 @@
-//! The words of a step.
+//! The words of a step, and the step that they name. `fast` reads the usual form of a line.
 
 ghost use Rattle.std.specs.Prelude.{◌≡◌, ◌∷◌, ◌<◌, ◌^◌, Some, None, IfSome, MatchOption};
 ghost use Rattle.arbitrary_int.specs.Steps.{StepWithin};

@@ -51,7 +51,7 @@ pub fn steps<'a, A: Allocator>(
     ensures fault { IfErr result (StepsFault count lines.old.later) }
 {
     let mut line = lines.copy();
-    // A line of a step has 11 bytes or so: room for most of them, and not too much for other lines.
+    // A line of a step has about 11 bytes: this is room for most steps, and not too much for longer lines.
     let mut steps = Vec::with_capacity(alloc, line.text().len() / 16)?;
     let mut number = 2;
     loop {
@@ -123,7 +123,7 @@ fn after_indent(text: &[u8], at: usize) -> usize
 }
 
 /// The place after the lines at the place that have only an LF.
-// In line, it would take processor registers from the loop over the fast lines.
+// Inlined, it would take processor registers from the loop over the fast lines.
 #[inline(never)]
 fn after_empty_lines(text: &[u8], at: usize) -> usize
     requires { at ≤ length text.now }

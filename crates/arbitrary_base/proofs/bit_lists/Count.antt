@@ -1,4 +1,4 @@
--- Counts of bit lists, against std's counts of a number's digits.
+-- Counts of bit lists, compared with std's counts of a number's digits.
 use Rattle.std.proofs.Common.{◌≡◌, ℕ, zero, suc, ℤ, ◌+◌, ◌*◌, ◌^◌, ◌<◌, ◌≤◌, min, Bool, true, false, not, List, [], ◌∷◌, ◌++◌, reverse, length, refl, sym, ap, ◌∙◌, subst, arith, lt_of_lt_of_le}
 use Rattle.std.specs.Prelude.{map, pos, negsuc, unsigned_abs}
 use Rattle.std.specs.List.{count_by, suffix_len, prefix_len}

@@ -1,4 +1,4 @@
--- A field by plain arithmetic: the extracted number is the source, shifted down.
+-- A field in arithmetic: the extracted number is the source, shifted right and masked.
 use Rattle.std.specs.Prelude.{◌≡◌, ℕ, ℤ, Bool, true, false, pos, negsuc, neg_ℤ, ◌+◌, ◌/◌, ◌%◌, ◌^◌, ◌≤◌, ◌<◌, ◌-ℤ◌, ◌*ℤ◌, unsigned_abs, length, take, drop, replicate}
 use Rattle.std.specs.Int.{int_shr}
 use Rattle.std.proofs.Common.{arith, refl, ap, sym, ◌∙◌, length-drop, pow-add}

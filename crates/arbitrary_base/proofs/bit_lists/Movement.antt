@@ -1,4 +1,4 @@
--- Shifts, rotations, reversal and parts of bit lists.
+-- Shifts, rotations, the reversal and parts of bit lists, each alone. `Rotation` has them one after another.
 use Rattle.std.proofs.Common.{◌≡◌, ℕ, zero, suc, ◌+◌, ◌-◌, ◌*◌, ◌/◌, ◌%◌, ◌^◌, ◌≤◌, Bool, false, not, List, [], ◌∷◌, ◌++◌, reverse, length, take, drop, replicate, refl, sym, ap, ap₂, ◌∙◌, arith, length-append, length-drop, length-take, take-append-drop, drop-drop, take-take}
 use Rattle.std.specs.Prelude.{map}
 use Rattle.std.specs.List.{slice_rotate_right}

@@ -1,5 +1,5 @@
--- Shifts, rotations and reversal of bit lists, one after the other. `Movement` has each alone; `operations.RotateAndReverse` and
--- `operations.Shift` have the same for numbers.
+-- Shifts, rotations and the reversal of bit lists, one after another. `Movement` has each alone;
+-- `operations.RotateAndReverse` and `operations.Shift` have the same for numbers.
 use Rattle.std.specs.List.{slice_rotate_right}
 use Rattle.std.specs.Prelude.{Bool, List, [], drop, false, length, replicate, reverse, suc, take, true, zero, ℕ, ◌&&◌, ◌++◌, ◌+◌, ◌-◌, ◌∷◌, ◌≡◌, ◌≤◌}
 use Rattle.std.proofs.Common.{ap, ap₂, arith, length-drop, refl, sym, take-append-drop, ◌∙◌}

@@ -1,4 +1,4 @@
--- A number's bits and its residue, and the number of a type that has given bits.
+-- The bits of a number and its residue, and the number of a type that has given bits.
 use Rattle.std.proofs.Common.{◌≡◌, ℕ, zero, suc, ◌/◌, ◌%◌, ◌^◌, ◌≤◌, Bool, false, not, eqb, List, ◌∷◌, length, ℤ, pos, negsuc, refl, sym, ap, ap₂, ◌∙◌, arith}
 use Rattle.std.specs.Prelude.{unsigned_abs, map}
 use Rattle.arbitrary_base.specs.Range.{InRange}

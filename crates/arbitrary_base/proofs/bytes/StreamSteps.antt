@@ -1,4 +1,4 @@
--- One more read, and one more write.
+-- What one more read or write changes, for the loops of src/streams.rt.
 use Rattle.std.proofs.Common.{◌≡◌, ℕ, ◌+◌, ◌-◌, ◌≤◌, List, ◌++◌, length, take, drop, Option, sym, ap, ◌∙◌, subst, arith, length-append, length-take, take-add, take_all, length-drop, min}
 use Rattle.std.specs.Io.KnownBytes.{Appends, Consumes}
 use Rattle.arbitrary_base.specs.Streams.{AppendsBeginning}

@@ -1,5 +1,5 @@
--- A quotient of an exact product returns the other factor, and a quotient of a wrapped product does not. The
--- proofs of src/raised.rt use this for its test of a product. Quotient.antt has laws of quotients alone.
+-- A quotient of an exact product returns the other factor, and a quotient of a wrapped product does not. The test
+-- of a product in src/raised.rt uses this. Quotient.antt has laws of quotients alone.
 use Rattle.std.specs.Prelude.{◌≡◌, ◌≢◌, ◌↔◌, ℕ, ℤ, Bool, true, false, zero, suc, pos, negsuc, ◌+ℤ◌, ◌-ℤ◌, ◌*ℤ◌, ◌≤ℤ◌, ◌*◌, ◌/◌, ◌-◌, ◌^◌, ◌≤◌, ◌<◌, IsTrue, int_div, int_rem, unsigned_abs}
 use Rattle.std.specs.Ordering.{int_eq}
 use Rattle.std.proofs.lemmas.Bool.Decides.{Decides-int_eq}

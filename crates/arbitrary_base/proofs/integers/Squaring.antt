@@ -1,5 +1,5 @@
--- Why powers by squaring are right, and how many multiplications they need. The loop of the module `power` has
--- the record `Squaring` as its invariant. `Powers` has the laws of powers.
+-- Why powers by squaring are right, and how many multiplications they take. The loop of src/power.rt has the
+-- record `Squaring` as its invariant. `Powers` has the laws of powers.
 use Rattle.std.specs.Prelude.{◌≡◌, ℕ, ℤ, Bool, true, false, zero, suc, pos, negsuc, ◌*ℤ◌, ◌≤ℤ◌, ◌<ℤ◌, ◌+◌, ◌-◌, ◌*◌, ◌/◌, ◌%◌, ◌^◌, ◌≤◌, ◌<◌, unsigned_abs, int_lt, length, Option, Some, None, MatchOption, SomeIff, option_map}
 use Rattle.std.proofs.Common.{arith, ap, sym, subst, ◌∙◌, ⊎_elim, le_trans}
 use Rattle.std.proofs.lemmas.Int.{ints, unsigned_abs-mul}

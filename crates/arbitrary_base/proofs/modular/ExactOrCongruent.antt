@@ -1,4 +1,4 @@
--- A wrapped result by plain arithmetic: in range it is exact, and otherwise congruent.
+-- A wrapped result in arithmetic: exact if it is in range, and congruent otherwise.
 use Rattle.std.specs.Prelude.{◌≡◌, ℕ, ℤ, Bool, true, false, pos, ◌-◌, ◌^◌, ◌≤◌, ◌<◌, ◌-ℤ◌}
 use Rattle.std.proofs.Common.{arith, sym, subst, ◌∙◌}
 use Rattle.std.proofs.lemmas.Int.{ints}

@@ -1,4 +1,4 @@
--- Why the low bits of a result depend on the low bits of its sources alone.
+-- Why the low bits of a result depend only on the low bits of its sources.
 use Rattle.std.proofs.Common.{◌≡◌, ℕ, zero, suc, ◌+◌, ◌-◌, ◌%◌, ◌^◌, ◌≤◌, ◌<◌, Bool, false, not, ◌&&◌, ◌||◌, List, [], ◌∷◌, ◌++◌, length, take, replicate, ℤ, pos, ◌+ℤ◌, ◌-ℤ◌, ◌*ℤ◌, refl, sym, ap, ◌∙◌, arith, length-take, take-take}
 use Rattle.std.specs.Prelude.{map}
 use Rattle.std.specs.Bool.{beq}

@@ -1,6 +1,6 @@
--- Shifts and rotations by an amount of at most the width, as one opaque type, and the other operations as
--- `FixedWidth` states them for generic code. Their only premise is the width. If a result is an operand, it is
--- that operand's number of its own bits.
+-- Shifts and rotations by an amount of at most the width, which is an opaque type, and the other operations as
+-- `FixedWidth` states them for generic code. Their only premise is the width. If a law returns an operand, it
+-- names it as the number of the operand's bits, because that needs no premise on the range.
 use Rattle.std.specs.Bool.{beq}
 use Rattle.std.specs.List.{count_by, prefix_len, suffix_len}
 use Rattle.std.specs.Prelude.{Bool, List, false, length, negsuc, pos, replicate, reverse, take, true, ℕ, ℤ, ◌++◌, ◌-◌, ◌≡◌, ◌≤◌, ◌⊎◌}

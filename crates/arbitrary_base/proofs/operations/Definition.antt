@@ -1,4 +1,4 @@
--- What the word of each operation means, and the bits of its result.
+-- What the word of each operation of specs/Operation.antt means, and the bits of its result.
 use Rattle.std.specs.Bool.{beq}
 use Rattle.std.specs.List.{slice_rotate_right}
 use Rattle.std.specs.Prelude.{Bool, List, false, length, map, negsuc, not, pos, replicate, reverse, suc, true, zero, ℕ, ℤ, ◌&&◌, ◌*ℤ◌, ◌+ℤ◌, ◌-ℤ◌, ◌-◌, ◌^◌, ◌||◌, ◌∷◌, ◌≡◌, ◌≤◌}

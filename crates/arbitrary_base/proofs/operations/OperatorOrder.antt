@@ -1,6 +1,5 @@
--- The operators `!`, `&` and `|` and the order of numbers, as `FixedWidth` states them for generic code: a
--- complement mirrors its operand in the range. In an unsigned type, `&` is at most its operands, and `|` at
--- least.
+-- How `!`, `&` and `|` relate to the order, as `FixedWidth` states it for generic code: the complement mirrors the
+-- range. For an unsigned type, `&` is at most its operands, and `|` at least.
 use Rattle.std.specs.Prelude.{Bool, false, map, negsuc, not, pos, suc, true, zero, ℕ, ℤ, ◌+ℤ◌, ◌+◌, ◌-ℤ◌, ◌^◌, ◌≡◌, ◌≤ℤ◌, ◌≤◌}
 use Rattle.std.proofs.Common.{ap, arith, subst, sym, ◌∙◌}
 use Rattle.std.proofs.lemmas.Int.{ints}

@@ -1,4 +1,4 @@
--- Shifts by plain arithmetic: a product that wraps, and a quotient that rounds down.
+-- Shifts in arithmetic: a left shift is a product that wraps, and a right shift a quotient that rounds down.
 use Rattle.std.specs.Prelude.{◌≡◌, ℕ, ℤ, Bool, true, false, pos, negsuc, ◌+◌, ◌-◌, ◌*◌, ◌%◌, ◌^◌, ◌≤◌, ◌<◌, ◌+ℤ◌, ◌*ℤ◌, ◌≤ℤ◌, ◌<ℤ◌, unsigned_abs, int_div}
 use Rattle.std.specs.Int.{int_shr}
 use Rattle.std.proofs.Common.{arith, refl, sym, subst, ◌∙◌, mod-lt}

@@ -1,4 +1,4 @@
--- Results that stay in range.
+-- Why the results of `clamp` and of saturating arithmetic are in range, and the nearest to the exact result.
 use Rattle.std.specs.Prelude.{◌≡◌, ◌↔◌, ℕ, ℤ, Bool, true, false, not, pos, neg_ℤ, ◌+ℤ◌, ◌-ℤ◌, ◌*ℤ◌, ◌≤ℤ◌, ◌<ℤ◌, ◌+◌, ◌-◌, ◌%◌, ◌^◌, ◌≤◌, int_lt, int_div, IsTrue, Option, Some, None, SomeIff, option_map}
 use Rattle.std.specs.Option.{is_some}
 use mathlib.Core.Bool.{beq}

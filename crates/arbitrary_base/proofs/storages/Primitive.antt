@@ -1,4 +1,4 @@
--- How each primitive meets the laws: the impls cite these.
+-- Why each primitive meets the laws of `Storage`. The impls in src/storage cite these lemmas.
 use Rattle.std.specs.Prelude.{◌≡◌, ◌↔◌, ℕ, ℤ, Bool, true, false, suc, pos, negsuc, ◌+ℤ◌, ◌-ℤ◌, ◌*ℤ◌, ◌+◌, ◌*◌, ◌-◌, ◌/◌, ◌%◌, ◌^◌, ◌≤◌, ◌<◌, FitsSigned, IsTrue, Option, Some, None}
 use Rattle.std.specs.Int.{Width, w8, w16, w32, w64, w128, int_wrap, cast_signed, cast_unsigned, int_wrapping_add, int_wrapping_sub, int_wrapping_mul}
 use Rattle.std.specs.Bool.{FalseIff}

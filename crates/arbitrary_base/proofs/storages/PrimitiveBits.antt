@@ -1,5 +1,5 @@
--- How `& | ^ !` of the primitives, as std defines them, act on bit lists. The impls of `arbitrary_traits` use
--- these.
+-- How `& | ^ !` of the primitives, as std defines them, act on bit lists. The impls of `arbitrary_traits` cite
+-- these lemmas.
 use Rattle.std.specs.Prelude.{◌≡◌, ◌^◌, ℕ, ℤ, List, Bool, length, pos, true, false, map, not}
 use Rattle.std.specs.Int.{Width, bit_not, cast_signed, cast_unsigned, int_bit_and, int_bit_or, int_bit_xor, int_bit_not}
 use Rattle.std.specs.Int.Bits.{bit_and, bit_or, bit_xor}

@@ -1,5 +1,5 @@
--- What the operators of the primitives, as std defines them, state about numbers. The impls of
--- `arbitrary_traits` use these.
+-- What `+ - * /` and unary minus of the primitives, as std defines them, state about numbers. The impls of
+-- `arbitrary_traits` cite these lemmas.
 use Rattle.std.specs.Prelude.{◌≡◌, ◌≢◌, ◌-◌, ◌^◌, ◌<◌, ◌≤◌, ◌-ℤ◌, ℕ, ℤ, zero, suc, pos, negsuc, int_div, FitsSigned, true, false, nat_eq}
 use Rattle.std.specs.Int.{Width, IsNonZero}
 use Rattle.std.specs.Ordering.{int_eq}

@@ -1,4 +1,4 @@
--- Numbers shifted up to the storage's end, from B bits to W: multiples of 2 ^ (W - B).
+-- Numbers of B bits that are shifted up to the storage's W bits: multiples of 2 ^ (W - B).
 use Rattle.std.specs.Prelude.{◌≡◌, ◌↔◌, ℕ, ℤ, Bool, true, false, not, pos, neg_ℤ, ◌+ℤ◌, ◌-ℤ◌, ◌*ℤ◌, ◌≤ℤ◌, ◌<ℤ◌, ◌*◌, ◌-◌, ◌^◌, ◌≤◌, IsTrue, unsigned_abs}
 use Rattle.std.specs.Int.{int_shr}
 use Rattle.std.proofs.Common.{arith, refl, ap, sym, subst, ◌∙◌}

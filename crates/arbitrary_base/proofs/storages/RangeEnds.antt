@@ -1,4 +1,4 @@
--- The least and the greatest number of a type, and saturating results, as `num_traits` requires them.
+-- The least and the greatest number of a type, and saturating results, as `num_traits` states them.
 use Rattle.std.specs.Prelude.{◌≡◌, ◌↔◌, ◌≤ℤ◌, ◌<ℤ◌, ◌≤◌, ◌-◌, ℕ, ℤ, Bool, true, false, pos}
 use Rattle.std.specs.Int.{IsInRange}
 use Rattle.std.proofs.Common.{arith, ◌∙◌}

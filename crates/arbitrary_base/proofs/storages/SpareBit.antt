@@ -1,4 +1,4 @@
--- How the wrapped sum, difference or product of a storage determines the exact one.
+-- How the wrapped sum, difference or product in a storage determines the exact one.
 use Rattle.std.specs.Prelude.{◌≡◌, ◌↔◌, ℕ, suc, ℤ, Bool, true, false, not, ◌||◌, pos, ◌+ℤ◌, ◌-ℤ◌, ◌≤ℤ◌, ◌*◌, ◌-◌, ◌^◌, ◌≤◌, ◌<◌, IsTrue}
 use Rattle.std.proofs.Common.{arith, refl, ap, sym, subst, ◌∙◌, ⊎_elim}
 use Rattle.std.proofs.lemmas.Int.{ints}

@@ -1,4 +1,4 @@
-//! `u128` and `i128`.
+//! `u128` and `i128` as storages. tools/twins.py compares this file with those of the other widths.
 
 ghost use Rattle.std.specs.Prelude.{◌≡◌, if◌then◌else◌, true, pos, neg_ℤ, refl};
 ghost use Rattle.arbitrary_base.specs.Residue.{wrap};
@@ -188,8 +188,8 @@ impl Storage for i128 {
     }
 
     fn overflowing_mul(self, other: Self) -> (Self, bool) {
-        // The primitive's call multiplies the sizes for its flag and the numbers for its product. The
-        // sizes' product serves both, so that it alone is computed.
+        // The primitive's call multiplies the magnitudes for its flag, and the numbers for its product.
+        // Both follow from the product of the magnitudes, so this computes nothing else.
         let (size, _) = self.unsigned_abs().overflowing_mul(other.unsigned_abs());
         let (_, overflow) = self.overflowing_mul(other);
         (with_sign(size, (self < 0) != (other < 0)), overflow)

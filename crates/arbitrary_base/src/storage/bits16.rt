@@ -1,4 +1,4 @@
-//! `u16` and `i16`.
+//! `u16` and `i16` as storages. tools/twins.py compares this file with those of the other widths.
 
 ghost use Rattle.std.specs.Prelude.{refl};
 

@@ -1,4 +1,4 @@
-//! `u32` and `i32`.
+//! `u32` and `i32` as storages. tools/twins.py compares this file with those of the other widths.
 
 ghost use Rattle.std.specs.Prelude.{refl};
 

@@ -1,4 +1,4 @@
-//! `u64` and `i64`.
+//! `u64` and `i64` as storages. tools/twins.py compares this file with those of the other widths.
 
 ghost use Rattle.std.specs.Prelude.{refl};
 

@@ -1,4 +1,4 @@
-//! `u8` and `i8`.
+//! `u8` and `i8` as storages. tools/twins.py compares this file with those of the other widths.
 
 ghost use Rattle.std.specs.Prelude.{refl};
 

@@ -1,5 +1,5 @@
-//! `u1` to `u127`: `UInt` over the smallest primitive that has room. 8, 16, 32 and 64 bits are
-//! primitives already. tools/short_names.py writes this file.
+//! `u1` to `u127`: `UInt` over the smallest primitive that has room. At 8, 16, 32 and 64 bits there are
+//! primitives of these names. tools/short_names.py writes this file.
 
 use crate::unsigned::UInt;
 

@@ -1,5 +1,5 @@
-//! `BITS` of `Int` at 1 to 64 bits, over the smallest primitive that has room. Each is a constant that the
-//! compiler evaluates, for arrays, patterns and other constants too: one of a generic `impl` is not.
+//! `BITS` of `Int` at 1 to 64 bits, over the smallest primitive that has room. With one impl for each width, the
+//! compiler evaluates the constant, so it can be the length of an array, a pattern or part of another constant.
 //! tools/short_names.py writes this file.
 
 use crate::signed::Int;

@@ -1,5 +1,5 @@
-//! Equality and order of `Int`, by the number and not by its bits. `unsigned` has those of `UInt`, which stores
-//! its number.
+//! Equality and order of `Int`: those of the number, computed from the stored bits. `unsigned` has those of `UInt`,
+//! which stores its number.
 
 ghost use Rattle.std.specs.Prelude.{◌≡◌, ◌⊎◌, ◌≤ℤ◌, ◌<ℤ◌, ◌+ℤ◌, ◌-ℤ◌, ◌-◌, ◌^◌, pos};
 ghost use Rattle.std.specs.Int.{IsInRange};
@@ -16,7 +16,8 @@ use std::cmp::Ordering;
 
 /// The place of the number in the order: its bits minus those of the least number, in the unsigned
 /// storage.
-// Numbers below 0 stay in the lower half of their type's bits, and the others come to the top of the storage, so no sign is extended.
+// Negative numbers get the lower half of the places of the width, and the others places at the top of the storage. So no sign is
+// extended.
 fn place<T: BuiltinInteger + SignedStorage, const BITS: usize>(x: Int<T, BITS>) -> T::Unsigned
 where
     T::Unsigned: UnsignedOf<T>,
@@ -82,8 +83,8 @@ where
     }
 }
 
-// What `Ord` has under these names, with bounds in the contracts. The words of `Ord` make the search split by the sign of each number, so it does
-// not prove facts of three numbers. `UInt` has no sign to split by, and needs none of these.
+// `Ord` has these calls too. Here their contracts have bounds. With those of `Ord`, the search splits by the sign of each number, and
+// does not prove facts about three numbers. `UInt` has no sign, and needs none of these.
 impl<T: BuiltinInteger + SignedStorage, const BITS: usize> Int<T, BITS>
 where
     T::Unsigned: UnsignedOf<T>,

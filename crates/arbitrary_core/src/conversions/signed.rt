@@ -1,6 +1,5 @@
-//! std's `From` between `Int` and other signed integers, where the target contains each number. tools/twins.py
-//! compares this file with `unsigned`. If a number can be out of range, `from_` has a condition, and `try_new`
-//! tests it.
+//! std's `From` between `Int` and other signed integers, if the target contains each number. tools/twins.py
+//! compares this file with `unsigned`. For a target that does not, `from_` has a condition, and `try_new` tests it.
 
 ghost use Rattle.std.specs.Prelude.{◌≡◌, true};
 ghost use Rattle.arbitrary_base.specs.Range.{InRange};

@@ -1,6 +1,5 @@
-//! std's `From` between `UInt` and other unsigned integers, where the target contains each number.
-//! tools/twins.py compares this file with `signed`. If a number can be out of range, `from_` has a condition,
-//! and `try_new` tests it.
+//! std's `From` between `UInt` and other unsigned integers, if the target contains each number. tools/twins.py
+//! compares this file with `signed`. For a target that does not, `from_` has a condition, and `try_new` tests it.
 
 ghost use Rattle.std.specs.Prelude.{◌≡◌, pos, false};
 ghost use Rattle.arbitrary_base.specs.Range.{InRange};

@@ -1,4 +1,4 @@
-//! `Int` as text: the number in decimal.
+//! The decimal text of `Int`, which is that of the number.
 
 ghost use Rattle.std.specs.Prelude.{Some};
 ghost use Rattle.std.specs.Fmt.{signed_decimal};

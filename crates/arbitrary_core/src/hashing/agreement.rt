@@ -1,5 +1,4 @@
-//! Equality, order and hash agree, and are those of the number. Each function proves its clauses, and does
-//! nothing.
+//! Equality, order and hash agree: all are those of the number. Each function proves its clauses, and does nothing.
 
 ghost use Rattle.std.specs.Prelude.{◌≡◌, ◌↔◌, ℤ, IsTrue};
 ghost use Rattle.std.specs.declared.cmp.Ordering.TheVariants.{Equal};

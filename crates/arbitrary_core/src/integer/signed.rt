@@ -1,5 +1,5 @@
-//! `Int` as an integer type: the bodies of the required calls of `Integer`, and the laws. The trait in
-//! `arbitrary_traits` has the clauses. `unsigned` has the same for `UInt`.
+//! The impls of `Numbered` and `Integer` for `Int`: the bodies of the calls, and the laws. The trait has the
+//! clauses. `unsigned` has the same for `UInt`.
 
 ghost use Rattle.std.specs.Prelude.{refl};
 ghost use Rattle.std.specs.Int.{IsInRange};

@@ -1,5 +1,5 @@
-//! `UInt` as an integer type: the bodies of the required calls of `Integer`, and the laws. The trait in
-//! `arbitrary_traits` has the clauses. `signed` has the same for `Int`.
+//! The impls of `Numbered` and `Integer` for `UInt`: the bodies of the calls, and the laws. The trait has the
+//! clauses. `signed` has the same for `Int`.
 
 ghost use Rattle.std.specs.Prelude.{refl};
 ghost use Rattle.std.specs.Int.{IsInRange};

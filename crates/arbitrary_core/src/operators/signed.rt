@@ -1,6 +1,6 @@
-//! `+ - * /` and unary minus of `Int`. The precondition is that the exact result is in range, and that a divisor
-//! is not zero. `+` and `-` ensure the ranges of their operands. `*` ensures that the result is at most the
-//! product of the magnitudes, from which the check finds that the product fits.
+//! `+ - * /` and unary minus of `Int`, which require that the exact result is in range and that a divisor is not
+//! zero. `+` and `-` ensure the ranges of their operands. `*` ensures that the result is at most the product of the
+//! magnitudes, from which the check finds that the product fits.
 
 ghost use Rattle.std.specs.Prelude.{◌≡◌, ◌≢◌, ◌+ℤ◌, ◌-ℤ◌, ◌*ℤ◌, ◌*◌, ◌≤◌, neg_ℤ, pos, int_div, unsigned_abs};
 ghost use Rattle.arbitrary_base.specs.Range.{InRange};

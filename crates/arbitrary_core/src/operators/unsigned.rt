@@ -1,5 +1,5 @@
-//! `+ - * /` of `UInt`. The precondition is that the exact result is in range, and that a divisor is not zero.
-//! `+` and `-` ensure the ranges of their operands.
+//! `+ - * /` of `UInt`, which require that the exact result is in range and that a divisor is not zero. `+` and `-`
+//! ensure the ranges of their operands.
 
 ghost use Rattle.std.specs.Prelude.{◌≡◌, ◌≢◌, ◌+ℤ◌, ◌-ℤ◌, ◌*ℤ◌, pos, int_div};
 ghost use Rattle.arbitrary_base.specs.Range.{InRange};

@@ -1,5 +1,5 @@
-//! `Int` as binary, octal and hexadecimal text: the number if it is at least 0, otherwise the two's complement
-//! of the storage.
+//! Text of `Int` in the bases 2, 8 and 16: the number if it is at least 0, otherwise the two's complement of the
+//! storage.
 
 ghost use Rattle.std.specs.Prelude.{◌≤◌, ◌≤ℤ◌, pos, true, false, Some, None, cond, nat_le, unsigned_abs};
 ghost use Rattle.std.specs.Fmt.{WritesOnOk, digits};

@@ -1,4 +1,4 @@
-//! `UInt` as binary, octal and hexadecimal text: the number.
+//! Text of `UInt` in the bases 2, 8 and 16: the number.
 
 ghost use Rattle.std.specs.Prelude.{◌≤◌, true, false, Some, None, cond, nat_le, unsigned_abs};
 ghost use Rattle.std.specs.Fmt.{WritesOnOk, digits};

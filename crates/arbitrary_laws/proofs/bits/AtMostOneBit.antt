@@ -1,5 +1,5 @@
--- A number with at most one bit that is one, so 0 or a power of two: by `x & (x - 1) == 0` and by the count.
--- For callers: `#![tactic(auto, using(arbitrary_laws::proofs::bits::AtMostOneBit::at_most_one_bit))]`.
+-- A number with at most one bit that is one, which is 0 or a power of two: by `x & (x - 1) == 0`, and by the
+-- count. Callers name the set `at_most_one_bit`.
 use Rattle.std.specs.List.{count_by}
 use Rattle.std.specs.Prelude.{Bool, pos, suc, zero, ℕ, ℤ, ◌↔◌, ◌≡◌, ◌≢◌, ◌≤◌}
 use Rattle.std.proofs.Common.{ap, arith, refl, sym, ◌∙◌}

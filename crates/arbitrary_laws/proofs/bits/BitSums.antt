@@ -1,6 +1,5 @@
 -- `|`, `^` and `& !` as exact sums of `&` and the operands. A law that relates them to sums, differences and the
--- order is then linear arithmetic.
--- For callers: `#![tactic(auto, using(arbitrary_laws::proofs::bits::BitSums::bit_sums))]`.
+-- order is then linear arithmetic. Callers name the set `bit_sums`.
 use Rattle.std.specs.Prelude.{false, ℕ, ℤ, ◌+ℤ◌, ◌≡◌, ◌≤ℤ◌, ◌≤◌}
 use Rattle.std.proofs.Common.{arith, refl}
 use Rattle.std.proofs.lemmas.Bool.Decides.{Decides-int_eq}

@@ -1,6 +1,5 @@
 -- The complements of `^` and `|` in sums and differences, `&` and `& !` as a difference from `|`, and `^` by
--- carries.
--- For callers: `#![tactic(auto, using(arbitrary_laws::proofs::bits::ComplementParts::complement_parts))]`.
+-- carries. Callers name the set `complement_parts`.
 use Rattle.std.specs.Prelude.{Bool, negsuc, pos, ℕ, ℤ, ◌-ℤ◌, ◌≡◌, ◌≤◌}
 use Rattle.std.proofs.Common.{arith, subst, sym}
 use Rattle.std.proofs.lemmas.Bool.Decides.{Decides-int_eq}

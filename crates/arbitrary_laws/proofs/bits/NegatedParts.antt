@@ -1,5 +1,4 @@
--- Differences of two of `&`, `|` and `^` whose result is negated.
--- For callers: `#![tactic(auto, using(arbitrary_laws::proofs::bits::NegatedParts::negated_parts))]`.
+-- Differences of two of `&`, `|` and `^` whose result is negated. Callers name the set `negated_parts`.
 use Rattle.std.specs.Prelude.{Bool, pos, ℕ, ℤ, ◌-ℤ◌, ◌≡◌, ◌≤◌}
 use Rattle.std.proofs.Common.{arith}
 use Rattle.std.proofs.lemmas.Bool.Decides.{Decides-int_eq}

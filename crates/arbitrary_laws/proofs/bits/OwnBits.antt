@@ -1,5 +1,5 @@
--- A value that is the number of its own bits is in range. `&=`, `|=` and `^=` state the former of a value behind
--- `&mut`.
+-- A value that is the number of its own bits is in range. `&=`, `|=` and `^=` state the first fact about a value
+-- behind `&mut`.
 use Rattle.std.specs.Prelude.{◌≡◌, ◌≤◌, ℕ, ℤ, Bool}
 use Rattle.std.proofs.Common.{refl, sym, subst, ◌∙◌}
 use Rattle.arbitrary_base.specs.Range.{InRange}

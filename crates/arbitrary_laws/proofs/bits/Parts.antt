@@ -1,5 +1,5 @@
--- Numbers that a mask splits and joins, and one of `&`, `|`, `^` by the others. Identities.antt has the algebra
--- of these.
+-- Numbers that a mask splits and joins, and one of `&`, `|`, `^` in terms of the others. Identities.antt has the
+-- algebra of these.
 use Rattle.std.specs.Prelude.{◌≡◌, ℕ, ℤ, Bool, ◌≤◌}
 use Rattle.std.proofs.Common.{arith}
 use Rattle.arbitrary_base.specs.Range.{InRange}

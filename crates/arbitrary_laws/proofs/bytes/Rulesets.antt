@@ -1,4 +1,4 @@
--- Small sets of laws of bytes, each for one kind of goal. Sets.antt has the set of the whole topic.
+-- The small sets of this folder, each for one kind of goal. Sets.antt has the public set of the topic.
 use Rattle.arbitrary_laws.proofs.bytes.StreamBytes.{Borsh-told, bytes-compared, bytes-converted, bytes-spell, bytes-spell_signed, first-of_Borsh, first-of_Borsh_signed, number-of_Borsh, number-of_Borsh_signed, reverse-back}
 use Rattle.arbitrary_laws.proofs.numbers.TextLength.{length-of_text}
 use Rattle.std.proofs.lemmas.Bool.Decides.{Decides-int_eq}

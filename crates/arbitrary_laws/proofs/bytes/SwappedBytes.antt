@@ -1,6 +1,5 @@
 -- A number with its bytes in reverse order, under `&`, `|`, `^`, `!`, the reversal of its bits, their count, and
--- `==`.
--- For callers: `#![tactic(auto, using(arbitrary_laws::proofs::bytes::SwappedBytes::swapped_words))]`.
+-- `==`. Callers name the set `swapped_words`.
 use Rattle.std.specs.Bool.{beq}
 use Rattle.std.specs.Int.{bytes_low_first}
 use Rattle.std.specs.List.{count_by}

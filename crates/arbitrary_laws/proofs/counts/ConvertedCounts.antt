@@ -1,5 +1,5 @@
--- The counts of a converted number: to the type of its width with the other sign, and to a primitive.
--- For callers: `#![tactic(auto, using(arbitrary_laws::proofs::counts::ConvertedCounts::converted_counts))]`.
+-- The counts of a converted number: to the type of its width with the other sign, and to a primitive. Callers name
+-- the set `converted_counts`.
 use Rattle.std.specs.Int.{Width, cast_unsigned}
 use Rattle.std.specs.Int.Count.{count_trailing_zeros, under}
 use Rattle.std.specs.List.{count_by}

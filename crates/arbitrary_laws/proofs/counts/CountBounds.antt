@@ -1,5 +1,5 @@
--- More laws of counts: of `^`, of shifted numbers and of one bit, and the runs of a constant.
--- For callers: `#![tactic(auto, using(arbitrary_laws::proofs::counts::CountBounds::count_bounds))]`.
+-- More laws of counts: of `^`, of shifted numbers and of one bit, and the runs of a constant. Callers name the set
+-- `count_bounds`.
 use Rattle.std.specs.Bool.{beq}
 use Rattle.std.specs.List.{count_by, prefix_len, suffix_len}
 use Rattle.std.specs.Prelude.{Bool, List, [], drop, false, length, not, pos, replicate, reverse, suc, take, true, zero, ℕ, ℤ, ◌&&◌, ◌++◌, ◌+◌, ◌-◌, ◌<◌, ◌^◌, ◌||◌, ◌∷◌, ◌≡◌, ◌≤◌, ◌⊎◌}

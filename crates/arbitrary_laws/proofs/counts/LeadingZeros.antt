@@ -1,6 +1,5 @@
 -- The leading zeros of a constant, of a number below a power of two or at least 1, of the greater of two, and of
--- primitives.
--- For callers: `#![tactic(auto, using(arbitrary_laws::proofs::counts::LeadingZeros::leading_zeros))]`.
+-- primitives. Callers name the set `leading_zeros`.
 use Rattle.std.specs.Bool.{beq}
 use Rattle.std.specs.Int.Count.{count_leading_zeros}
 use Rattle.std.specs.List.{suffix_len}

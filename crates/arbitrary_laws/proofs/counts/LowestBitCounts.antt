@@ -1,6 +1,5 @@
--- The number of ones in a number's lowest set bit and in the zeros below it, and with its lowest zero filled;
--- and that bit by `^`.
--- For callers: `#![tactic(auto, using(arbitrary_laws::proofs::counts::LowestBitCounts::lowest_bit_counts))]`.
+-- The number of ones in a number's lowest set bit and in the zeros below it, and in the number with its lowest
+-- zero filled; and that bit by `^`. Callers name the set `lowest_bit_counts`.
 use Rattle.std.specs.Bool.{beq}
 use Rattle.std.specs.List.{count_by, prefix_len}
 use Rattle.std.specs.Prelude.{Bool, List, [], false, length, map, not, pos, replicate, true, ℕ, ℤ, ◌+◌, ◌-ℤ◌, ◌<◌, ◌^◌, ◌↔◌, ◌∷◌, ◌≡◌, ◌≢◌, ◌≤◌, ◌⊎◌}

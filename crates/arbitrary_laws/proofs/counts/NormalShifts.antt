@@ -1,5 +1,5 @@
 -- A number shifted right by its trailing zeros: the result is odd, and shifting it back returns the number.
--- For callers: `#![tactic(auto, using(arbitrary_laws::proofs::counts::NormalShifts::normal_shifts))]`.
+-- Callers name the set `normal_shifts`.
 use Rattle.std.specs.Bool.{beq}
 use Rattle.std.specs.List.{count_by, prefix_len}
 use Rattle.std.specs.Prelude.{Bool, List, [], drop, false, length, pos, replicate, suc, take, true, unsigned_abs, zero, ℕ, ℤ, ◌%◌, ◌++◌, ◌-◌, ◌∷◌, ◌≡◌, ◌≢◌, ◌≤◌}

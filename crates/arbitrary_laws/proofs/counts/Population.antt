@@ -1,5 +1,5 @@
--- The number of ones in `&`, `|`, `^` and `!` of two numbers, and in a sum of numbers that share no bit.
--- For callers: `#![tactic(auto, using(arbitrary_laws::proofs::counts::Population::population))]`.
+-- The number of ones in `&`, `|`, `^` and `!` of two numbers, and in a sum of numbers that share no bit. Callers
+-- name the set `population`.
 use Rattle.std.specs.Bool.{beq}
 use Rattle.std.specs.List.{count_by, prefix_len, suffix_len}
 use Rattle.std.specs.Prelude.{Bool, List, [], false, length, map, not, pos, true, ℕ, ℤ, ◌&&◌, ◌+◌, ◌↔◌, ◌∷◌, ◌≡◌, ◌≤◌}

@@ -1,4 +1,4 @@
--- Small sets of laws of counts, each for one kind of goal. Sets.antt has the set of the whole topic.
+-- The small sets of this folder, each for one kind of goal. Sets.antt has the public set of the topic.
 use Rattle.arbitrary_base.proofs.operations.PopulationAndRuns.{front-of_reversed, front_ones-of_not, front_zeros-of_not, popcount-of_and, popcount-of_and_or, popcount-of_left, popcount-of_not, popcount-of_reversed, popcount-of_zero, tail-of_reversed, tail_ones-of_not, tail_zeros-of_not}
 use Rattle.arbitrary_calls.proofs.counts.EndCounts.{front-of_highest, front-of_zero, no_ones-of_zero, popcount-of_highest, popcount-of_minus_one, tail-of_highest, tail-of_zero, zero-of_no_ones}
 use Rattle.arbitrary_laws.proofs.bits.Identities.{bitwise_not-zero, bitwise_not-zero_signed}

@@ -1,6 +1,5 @@
--- The runs of zeros and ones at the ends of `&`, `|` and `^` of two numbers and of a shifted number, and both
--- ends of one number with its count.
--- For callers: `#![tactic(auto, using(arbitrary_laws::proofs::counts::RunsOfTwo::runs_of_two))]`.
+-- The runs of zeros and ones at the ends of `&`, `|` and `^` of two numbers and of a shifted number, and both ends
+-- of one number with its count. Callers name the set `runs_of_two`.
 use Rattle.std.specs.Bool.{beq}
 use Rattle.std.specs.Int.{int_shr}
 use Rattle.std.specs.List.{count_by, prefix_len, suffix_len}

@@ -1,5 +1,4 @@
--- The trailing zeros of a multiple of a power of two.
--- For callers: `#![tactic(auto, using(arbitrary_laws::proofs::counts::TrailingZeros::trailing_zeros))]`.
+-- The trailing zeros of a multiple of a power of two. Callers name the set `trailing_zeros`.
 use Rattle.std.specs.Prelude.{◌≡◌, ◌⊎◌, ℕ, zero, suc, ◌≤◌, ◌<◌, ◌+◌, ◌*◌, ◌/◌, ◌%◌, ◌^◌}
 use Rattle.std.proofs.Common.{refl, sym, ◌∙◌, arith, inl, inr, mod-eq_of_lt, pow-suc}
 use Rattle.std.proofs.Math.Pow.{pow_mono}

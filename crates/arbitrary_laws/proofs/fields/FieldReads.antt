@@ -1,7 +1,6 @@
--- What a field of a primitive reads of a word made of `|` and masks: the same as of each part. So several fields
--- that are written at once, under masks and with constants in any order, are read back, and the other fields do
--- not change.
--- For callers: `#![tactic(auto, using(arbitrary_laws::proofs::fields::FieldReads::field_reads))]`.
+-- What you read from a field of a primitive whose word consists of `|` and masks: the same as from its parts. So
+-- several fields that are written at once, under masks and with constants in any order, are read back, and the
+-- other fields do not change. Callers name the set `field_reads`.
 use Rattle.std.specs.Prelude.{◌≡◌, ℕ, suc, ◌+◌, ◌-◌, ◌*◌, ◌/◌, ◌%◌, ◌^◌, ◌<◌}
 use Rattle.std.specs.Int.Bits.{bit_and, bit_or, or_add_and}
 use Rattle.std.proofs.Common.{sym, ap, ap₂, subst, ◌∙◌, arith, div-add-mod', mod-eq_of_lt}

@@ -1,9 +1,8 @@
--- Words of fields joined by `|`, as in registers, headers and instructions: in a primitive any number of fields,
--- the high one first or the low one first, with or without gaps, and with constants; in a `UInt` up to four,
--- because its calls state more. Each law is about one field and the bits on one side of it, so no law depends on
--- the number of fields. `ints` reads the numbers of these types without a case for each sign, which would be too
--- many for a word of fields.
--- For callers: `#![tactic(auto, using(arbitrary_laws::proofs::fields::JoinedWords::joined_words))]`.
+-- Words of fields joined by `|`, as in registers, headers and instructions. A primitive can have any number of
+-- fields, in either order, with gaps and constants; a `UInt` up to four, because its calls state more. Each law is
+-- about one field and the bits on one side of it, so no law depends on the number of fields. `ints` reads the
+-- numbers of these types without a case for each sign, of which a word of fields would have too many. Callers name
+-- the set `joined_words`.
 use Rattle.std.specs.Prelude.{◌≡◌, ℕ, zero, suc, ◌+◌, ◌-◌, ◌*◌, ◌/◌, ◌%◌, ◌^◌, ◌<◌}
 use Rattle.std.specs.Int.Bits.{bit_and, bit_or, bit_xor}
 use Rattle.std.proofs.Common.{sym, ap, ap₂, subst, ◌∙◌, arith, div-add-mod', mod-lt, inl, inr}

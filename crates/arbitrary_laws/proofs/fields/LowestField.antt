@@ -1,6 +1,5 @@
 -- The lowest field of a word that is joined by `|`: the congruence of the word, also for a signed field, and the
--- bits below a flag that a test sets above a field.
--- For callers: `#![tactic(auto, using(arbitrary_laws::proofs::fields::LowestField::lowest_fields))]`.
+-- bits below a flag above a field. Callers name the set `lowest_fields`.
 use Rattle.std.specs.Prelude.{◌≡◌, ℕ, ℤ, suc, false, pos, ◌+◌, ◌*◌, ◌%◌, ◌^◌, ◌<◌}
 use Rattle.std.specs.Int.Bits.{bit_or}
 use Rattle.std.proofs.Common.{arith, refl, ap, sym, subst, ◌∙◌, mod-eq_of_lt}

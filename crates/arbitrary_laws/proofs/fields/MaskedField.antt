@@ -1,7 +1,6 @@
 -- The bits of a number under a constant mask, shifted above other bits, such as
--- `((red & 0xF8) << 8) | ((green & 0xFC) << 3)`. The lowest place of the result is that of the mask's lowest
--- one, which is higher than the shift.
--- For callers: `#![tactic(auto, using(arbitrary_laws::proofs::fields::MaskedField::masked_fields))]`.
+-- `((red & 0xF8) << 8) | ((green & 0xFC) << 3)`. The lowest place of the result is that of the mask's lowest one,
+-- which is higher than the shift. Callers name the set `masked_fields`.
 use Rattle.std.specs.Prelude.{◌≡◌, ℕ, suc, ◌+◌, ◌*◌, ◌/◌, ◌%◌, ◌^◌, ◌<◌}
 use Rattle.std.specs.Int.Bits.{bit_and, bit_or}
 use Rattle.std.proofs.Common.{arith, ap, ap₂, sym, subst, ◌∙◌, mod-eq_of_lt, div-add-mod', pow-add}

@@ -1,6 +1,6 @@
 -- A number that is shifted left, also past the end of its type, with new bits joined below it by `|`:
 -- `(history << 1) | bit`; and two or three fields below a constant: `0xD000 | (x << 8) | (y << 4) | n`.
--- SideBySide.antt has the fields that lose no bit.
+-- SideBySide.antt has fields that lose no bit.
 use Rattle.std.specs.Prelude.{◌≡◌, ℕ, ◌+◌, ◌*◌, ◌/◌, ◌%◌, ◌^◌, ◌<◌}
 use Rattle.std.specs.Int.Bits.{bit_or}
 use Rattle.std.proofs.Common.{sym, ap, subst, ◌∙◌, arith, div-add-mod', mod-eq_of_lt}

@@ -1,6 +1,5 @@
 -- A field at a variable place k, written where a mask has cleared it: `(word & !(3 << k)) | (mode << k)`. It is
--- read back, and other fields do not change.
--- For callers: `#![tactic(auto, using(arbitrary_laws::proofs::fields::PlacedField::placed_fields))]`.
+-- read back, and other fields do not change. Callers name the set `placed_fields`.
 use Rattle.std.specs.Prelude.{◌≡◌, ◌⊎◌, ℕ, ℤ, suc, false, pos, unsigned_abs, ◌+◌, ◌-◌, ◌*◌, ◌/◌, ◌%◌, ◌^◌, ◌≤◌, ◌<◌}
 use Rattle.std.specs.Int.Bits.{bit_and, bit_or, or_add_and}
 use Rattle.std.proofs.Common.{refl, sym, ap, ap₂, ◌∙◌, arith, inl, inr, mod-eq_of_lt, mod-lt, mul-le-mul_right, pow-add}

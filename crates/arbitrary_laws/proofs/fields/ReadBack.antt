@@ -1,6 +1,5 @@
--- One of three fields that were joined by `|`, read back as a quotient and a remainder by `>>` and `as_`. A
--- field is a number times a power of two, as a left shift returns it. SideBySide.antt states what all of them
--- are together.
+-- One of three fields that were joined by `|`, read back as a quotient and a remainder by `>>` and `as_`. A field
+-- is a number times a power of two, as a left shift returns it. SideBySide.antt has their sum.
 use Rattle.std.specs.Prelude.{◌≡◌, ℕ, ◌+◌, ◌*◌, ◌/◌, ◌%◌, ◌^◌, ◌<◌}
 use Rattle.std.specs.Int.Bits.{bit_or}
 use Rattle.std.proofs.Common.{sym, ap, ◌∙◌, arith}

@@ -1,4 +1,4 @@
--- Small sets of laws of fields of a word, each for one kind of goal. Sets.antt has the set of the whole topic.
+-- The small sets of this folder, each for one kind of goal. Sets.antt has the public set of the topic.
 use Rattle.arbitrary_laws.proofs.Everyday.{or_three}
 use Rattle.arbitrary_laws.proofs.fields.EmptyWord.{with_field-of_nothing}
 use Rattle.arbitrary_laws.proofs.fields.JoinedWords.{words_read_back}

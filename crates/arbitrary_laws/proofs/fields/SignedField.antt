@@ -1,6 +1,5 @@
 -- Signed fields in a word that is joined by `|`, or written where a mask has cleared one: you read the number
--- whose bits you wrote, and write the bits that you read.
--- For callers: `#![tactic(auto, using(arbitrary_laws::proofs::fields::SignedField::signed_fields))]`.
+-- whose bits you wrote, and write the bits that you read. Callers name the set `signed_fields`.
 use Rattle.std.specs.Prelude.{◌≡◌, ℕ, ℤ, suc, true, false, pos, ◌+◌, ◌*◌, ◌/◌, ◌%◌, ◌^◌, ◌≤◌, ◌<◌}
 use Rattle.std.specs.Int.Bits.{bit_and, bit_or}
 use Rattle.std.proofs.Common.{arith, refl, ap, ap₂, sym, subst, ◌∙◌, mod-eq_of_lt}

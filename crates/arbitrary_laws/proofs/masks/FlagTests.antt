@@ -1,6 +1,5 @@
 -- A number under a constant mask with several ones, compared with a constant: each one of the mask is compared
--- alone. So a test of several flags is a test of each flag, by its place.
--- For callers: `#![tactic(auto, using(arbitrary_laws::proofs::masks::FlagTests::flag_tests))]`.
+-- alone. So a test of several flags is a test of each flag, by its place. Callers name the set `flag_tests`.
 use Rattle.std.specs.Int.Bits.{and_self, bit_and}
 use Rattle.std.specs.Ordering.{int_eq}
 use Rattle.std.specs.Prelude.{Bool, false, not, pos, suc, true, unsigned_abs, ℕ, ℤ, ◌%◌, ◌&&◌, ◌*ℤ◌, ◌*◌, ◌+ℤ◌, ◌+◌, ◌/◌, ◌<◌, ◌^◌, ◌≡◌, ◌≤ℤ◌, ◌≤◌}

@@ -1,6 +1,5 @@
--- The mask of the k lowest bits of a primitive, where k is variable, such as `(1 << k) - 1` or
--- `!(u32::MAX << k)`: the bits that it keeps, and those that its complement keeps.
--- For callers: `#![tactic(auto, using(arbitrary_laws::proofs::masks::LowMask::low_masks))]`.
+-- The mask of the k lowest bits of a primitive, where k is variable, such as `(1 << k) - 1` or `!(u32::MAX << k)`:
+-- the bits that it keeps, and those that its complement keeps. Callers name the set `low_masks`.
 use Rattle.std.specs.Prelude.{◌≡◌, ℕ, suc, ◌+◌, ◌-◌, ◌*◌, ◌/◌, ◌%◌, ◌^◌, ◌≤◌, ◌<◌}
 use Rattle.std.specs.Int.Bits.{bit_and, bit_or}
 use Rattle.std.proofs.Common.{ap, ap₂, ◌∙◌, arith, div-add-mod', mod-eq_of_lt, mod-lt}

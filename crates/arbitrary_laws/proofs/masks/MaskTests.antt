@@ -1,5 +1,5 @@
--- Two equal tests by `==` of two numbers: whether one has no bit outside the other, whether they share none,
--- whether they are equal, and whether neither has a bit, or both have each.
+-- Two tests by `==` of two numbers that are equal: whether one has no bit outside the other, whether they share
+-- none, whether they are equal, and whether neither has a bit, or both have each.
 use Rattle.std.specs.Ordering.{int_eq}
 use Rattle.std.specs.Prelude.{Bool, false, negsuc, pos, true, ℕ, ℤ, ◌&&◌, ◌-ℤ◌, ◌^◌, ◌≡◌, ◌≤ℤ◌, ◌≤◌}
 use Rattle.std.proofs.Common.{ap, ap₂, refl, subst, sym, ◌∙◌}

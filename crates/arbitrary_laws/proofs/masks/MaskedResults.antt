@@ -1,7 +1,6 @@
 -- The low bits of a sum, a difference or a product that wraps, under a constant mask, such as `(x + y) & 15`.
 -- Masks of the operands that keep these bits change nothing, and bits that are shifted past the mask are lost,
--- also under `|` and `^`.
--- For callers: `#![tactic(auto, using(arbitrary_laws::proofs::masks::MaskedResults::masked_results))]`.
+-- also under `|` and `^`. Callers name the set `masked_results`.
 use Rattle.std.specs.Prelude.{Bool, false, pos, ℕ, ℤ, ◌%◌, ◌*ℤ◌, ◌+ℤ◌, ◌+◌, ◌-ℤ◌, ◌-◌, ◌^◌, ◌≡◌, ◌≤ℤ◌, ◌≤◌}
 use Rattle.std.proofs.Common.{ap, arith, mod-eq_of_lt, subst, sym, ◌∙◌}
 use Rattle.std.proofs.lemmas.Bool.Decides.{Decides-int_eq}

@@ -1,6 +1,6 @@
--- A number under a constant mask is at most the mask, a multiple, and a sum of its digits. Bits that are cleared
--- and set under it stay so. WrittenMask.antt has the mask of the complement of a constant, and MaskDigits.antt
--- the quotients and remainders of the sum.
+-- A number under a constant mask: it is at most the mask, a multiple, and a sum of its digits. Bits that are
+-- cleared and set under it stay so. WrittenMask.antt has the mask of the complement of a constant, and
+-- MaskDigits.antt the quotients and remainders of the sum.
 use Rattle.std.specs.Bool.{beq}
 use Rattle.std.specs.Int.Bits.{bit_and}
 use Rattle.std.specs.Prelude.{Bool, false, int_lt, negsuc, not, pos, true, unsigned_abs, ℕ, ℤ, ◌%◌, ◌&&◌, ◌*◌, ◌+ℤ◌, ◌+◌, ◌-ℤ◌, ◌-◌, ◌/◌, ◌<◌, ◌^◌, ◌||◌, ◌≡◌, ◌≤ℤ◌, ◌≤◌}

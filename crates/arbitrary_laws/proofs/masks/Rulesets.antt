@@ -1,4 +1,4 @@
--- Small sets of laws of constant masks, each for one kind of goal. Sets.antt has the set of the whole topic.
+-- The small sets of this folder, each for one kind of goal. Sets.antt has the public set of the topic.
 use Rattle.arbitrary_base.proofs.operations.KnownMask.{and-congruent, and-within}
 use Rattle.arbitrary_laws.proofs.bits.Identities.{bitwise_and-highest, bitwise_and-minus_one, bitwise_and-zero, bitwise_or-zero, bitwise_xor-zero}
 use Rattle.arbitrary_laws.proofs.bits.OwnBits.{own_bits-in_range}

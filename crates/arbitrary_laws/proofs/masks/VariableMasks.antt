@@ -1,7 +1,6 @@
 -- The mask of the k lowest bits, where k is variable: `(1 << k) - 1`, wrapped or not, `!(max << k)` and
 -- `max >> (BITS - k)`. It keeps some bits of a number and clears the others. Each form is stated by the wrapped
--- one, `low s B k` below, so that a law of the mask is stated once.
--- For callers: `#![tactic(auto, using(arbitrary_laws::proofs::masks::VariableMasks::variable_masks))]`, and
+-- one, `low s B k` below, so that a law of the mask is stated once. Callers name the set `variable_masks`, and
 -- `variable_parts` for exact sums, differences and the order.
 use Rattle.std.specs.Int.{int_rem_euclid, int_shr}
 use Rattle.std.specs.Prelude.{Bool, false, neg_ℤ, negsuc, pos, true, ℕ, ℤ, ◌*ℤ◌, ◌*◌, ◌+ℤ◌, ◌+◌, ◌-ℤ◌, ◌-◌, ◌/◌, ◌<ℤ◌, ◌<◌, ◌^◌, ◌≡◌, ◌≤ℤ◌, ◌≤◌}

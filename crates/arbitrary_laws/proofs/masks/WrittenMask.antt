@@ -1,5 +1,5 @@
--- More laws of numbers under a constant mask. A number under a mask of at least 0 needs no range of its own, and
--- a negative mask clears.
+-- More laws of numbers under a constant mask: a number under a mask of at least 0 needs no range of its own, and a
+-- negative mask clears bits.
 use Rattle.std.specs.Int.Bits.{bit_and}
 use Rattle.std.specs.Prelude.{Bool, false, negsuc, pos, true, unsigned_abs, ℕ, ℤ, ◌%◌, ◌+ℤ◌, ◌-ℤ◌, ◌-◌, ◌<◌, ◌^◌, ◌≡◌, ◌≤ℤ◌, ◌≤◌}
 use Rattle.std.proofs.Common.{ap, arith, lt_of_le_of_lt, mod-eq_of_lt, refl, sym, ◌∙◌}

@@ -1,6 +1,5 @@
--- A conversion before a sum, a difference or a product whose low bits are used. Callers name the set at the end
--- of this file by `#[tactic(auto, using(arbitrary_laws::proofs::numbers::Conversions::conversions))]`. The
--- search finds only lemmas in a set.
+-- A conversion before a sum, a difference or a product whose low bits are used. Callers name the set `conversions`
+-- at the end of this file.
 use Rattle.std.specs.Prelude.{◌≡◌, ℕ, ℤ, zero, suc, Bool, false, pos, negsuc, unsigned_abs, ◌+ℤ◌, ◌-ℤ◌, ◌*ℤ◌, ◌+◌, ◌*◌, ◌/◌, ◌%◌, ◌^◌, ◌≤◌, ◌<◌}
 use Rattle.std.specs.Int.{Width, cast_signed, cast_unsigned}
 use Rattle.std.proofs.Common.{arith, refl, ap, sym, subst, ◌∙◌, div-add-mod', to_z-of_z}

@@ -1,6 +1,5 @@
--- The order of a quotient, its dividend, its divisor and other quotients, and of a product that is divided
--- again, such as a scaled number. Quotients round toward zero.
--- For callers: `#![tactic(auto, using(arbitrary_laws::proofs::numbers::QuotientOrder::quotient_order))]`.
+-- The order of a quotient, its dividend, its divisor and other quotients, and of a product that is divided again,
+-- such as a scaled number. Quotients round toward zero. Callers name the set `quotient_order`.
 use Rattle.std.specs.Prelude.{◌≡◌, ℕ, ℤ, zero, suc, pos, negsuc, int_div, ◌≤◌, ◌<◌, ◌*◌, ◌/◌, ◌≤ℤ◌, ◌<ℤ◌, ◌*ℤ◌}
 use Rattle.std.proofs.Common.{refl, ap, arith, div-le_self, le_trans, mul-le-mul}
 use Rattle.std.proofs.Math.Nat.{div-div-eq-div-mul, div-eq_of_lt, div-mul-le_self, le-div_iff_mul-le, le_refl, mul-div_cancel}

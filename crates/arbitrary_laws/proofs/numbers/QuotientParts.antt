@@ -1,7 +1,7 @@
--- The quotient of a dividend plus the divisor, of a negated number, a product or a quotient, quotients that are
--- 0, and two quotients in order whose divisors vary. `QuotientOrder` compares a quotient with its dividend. With
--- those laws, the search fails at a checked product and a negated dividend.
--- For callers: `#![tactic(auto, using(arbitrary_laws::proofs::numbers::QuotientParts::quotient_parts))]`.
+-- The quotient of a dividend plus the divisor, of a negated number, a product or a quotient, quotients that are 0,
+-- and two quotients in order whose divisors vary. `QuotientOrder` compares a quotient with its dividend; in one
+-- set with its laws, the search fails at a checked product and a negated dividend. Callers name the set
+-- `quotient_parts`.
 use Rattle.std.specs.Prelude.{int_div, neg_ℤ, negsuc, pos, suc, zero, ℕ, ℤ, ◌*◌, ◌+◌, ◌/◌, ◌<ℤ◌, ◌<◌, ◌≡◌, ◌≢◌, ◌≤ℤ◌, ◌≤◌}
 use Rattle.std.proofs.Common.{ap, arith, div-add-mod', le_trans, refl, sym, ◌∙◌}
 use Rattle.std.proofs.Math.Nat.{div-eq_of_lt, le-div_iff_mul-le}

@@ -1,6 +1,5 @@
 -- A number minus its quotient times the divisor, `x - (x / y) * y`, is the remainder, and its range is known. If
--- signed, the divisor is above 0.
--- For callers: `#![tactic(auto, using(arbitrary_laws::proofs::numbers::Remainders::remainders))]`.
+-- signed, the divisor is above 0. Callers name the set `remainders`.
 use Rattle.std.specs.Prelude.{int_div, int_rem, neg_ℤ, negsuc, pos, suc, unsigned_abs, ℕ, ℤ, ◌%◌, ◌*ℤ◌, ◌*◌, ◌+ℤ◌, ◌+◌, ◌/◌, ◌<ℤ◌, ◌<◌, ◌≡◌, ◌≤ℤ◌, ◌≤◌}
 use Rattle.std.proofs.Common.{arith, div-add-mod', mod-lt, refl}
 use Rattle.std.proofs.Math.Nat.{mod-le}

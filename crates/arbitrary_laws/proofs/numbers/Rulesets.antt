@@ -1,4 +1,4 @@
--- Small sets of laws of quotients, each for one kind of goal. Sets.antt has the set of the whole topic.
+-- The small sets of this folder, each for one kind of goal. Sets.antt has the public set of the topic.
 use Rattle.arbitrary_base.proofs.integers.Powers.{power-one, power-zero}
 use Rattle.arbitrary_base.proofs.modular.Residue.{wrap-of_in_range}
 use Rattle.arbitrary_base.proofs.operations.PowerAndQuotient.{quotient-self}

@@ -1,5 +1,5 @@
--- A type with at least as many bits and the same sign contains each number, where the widths are not known.
--- For callers: `#![tactic(auto, using(arbitrary_laws::proofs::numbers::WiderRanges::wider_ranges))]`.
+-- A type with at least as many bits and the same sign contains each number, also at widths that are not known.
+-- Callers name the set `wider_ranges`.
 use Rattle.std.specs.Prelude.{◌≡◌, ℕ, Bool, true, false, ◌≤◌, ◌-◌, ◌^◌, ◌≤ℤ◌}
 use Rattle.std.proofs.Common.{arith, refl, subst}
 use Rattle.std.proofs.lemmas.Int.{ints}

@@ -1,4 +1,4 @@
--- Small sets of laws of orders and tests, each for one kind of goal. Sets.antt has the set of the whole topic.
+-- The small sets of this folder, each for one kind of goal. Sets.antt has the public set of the topic.
 use Rattle.arbitrary_base.proofs.operations.BitsAndSums.{or-above}
 use Rattle.arbitrary_base.proofs.operations.Bitwise.{bitwise_and-commutes, bitwise_or-commutes, bitwise_xor-commutes}
 use Rattle.arbitrary_base.proofs.operations.WrappedRing.{wrapped_sum-commutes}

@@ -1,4 +1,4 @@
--- The order of a signed number and its `&` or `|` with another, which depends on the two signs alone. Order.antt
+-- The order of a signed number and its `&` or `|` with another, which depends only on the two signs. Order.antt
 -- has unsigned numbers.
 use Rattle.std.specs.Prelude.{pos, true, ℕ, ℤ, ◌<ℤ◌, ◌↔◌, ◌≤ℤ◌, ◌≤◌, ◌⊎◌}
 use Rattle.std.proofs.Common.{arith, refl}

@@ -1,6 +1,5 @@
 -- The bits of a signed or unsigned number by their places: bits of a result, one bit that is set, cleared or
--- toggled, and bits that are tested by `x & (1 << k)` and by `(x >> k) & 1`.
--- For callers: `#![tactic(auto, using(arbitrary_laws::proofs::places::BitPlaces::bit_places))]`.
+-- toggled, and bits that are tested by `x & (1 << k)` and by `(x >> k) & 1`. Callers name the set `bit_places`.
 use Rattle.std.specs.Prelude.{◌≡◌, ◌≢◌, ◌⊎◌, ℕ, ℤ, zero, suc, Bool, true, false, not, ◌&&◌, ◌||◌, ◌==◌, List, ◌∷◌, ◌++◌, drop, get_or, length, replicate, take, pos, unsigned_abs, ◌≤◌, ◌<◌, ◌-◌, ◌*◌, ◌/◌, ◌%◌, ◌^◌, ◌-ℤ◌}
 use Rattle.std.specs.Bool.{beq}
 use Rattle.std.specs.Ordering.{int_eq}

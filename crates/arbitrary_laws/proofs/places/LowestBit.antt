@@ -1,6 +1,5 @@
 -- The lowest bit of a number that is one. `x & (x - 1)` clears it, so a power of two becomes 0, and `x & -x`
--- clears the others.
--- For callers: `#![tactic(auto, using(arbitrary_laws::proofs::places::LowestBit::lowest_bits))]`.
+-- clears the others. Callers name the set `lowest_bits`.
 use Rattle.std.specs.Bool.{beq}
 use Rattle.std.specs.List.{count_by, prefix_len}
 use Rattle.std.specs.Prelude.{Bool, List, [], false, length, map, not, pos, replicate, suc, take, true, zero, ℕ, ℤ, ◌++◌, ◌+◌, ◌-ℤ◌, ◌-◌, ◌<◌, ◌↔◌, ◌∷◌, ◌≡◌, ◌≢◌, ◌≤◌}

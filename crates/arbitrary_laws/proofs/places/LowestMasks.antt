@@ -1,6 +1,5 @@
 -- The masks made from the lowest bit that is one, and how they relate: `x & -x`, `x & (x - 1)`, `!x & (x - 1)`,
--- `x ^ (x - 1)`.
--- For callers: `#![tactic(auto, using(arbitrary_laws::proofs::places::LowestMasks::lowest_masks))]`.
+-- `x ^ (x - 1)`. Callers name the set `lowest_masks`.
 use Rattle.std.specs.Prelude.{Bool, pos, ℕ, ℤ, ◌-ℤ◌, ◌≡◌, ◌≤◌}
 use Rattle.std.proofs.Common.{ap, arith, subst, sym, ◌∙◌}
 use Rattle.std.proofs.lemmas.Bool.Decides.{Decides-int_eq}

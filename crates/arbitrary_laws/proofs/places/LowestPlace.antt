@@ -1,5 +1,5 @@
--- The lowest bit of a sum, a difference or a product, by the lowest bits of its operands.
--- For callers: `#![tactic(auto, using(arbitrary_laws::proofs::places::LowestPlace::lowest_place))]`.
+-- The lowest set bit of a sum, a difference or a product, from the lowest set bits of its operands. Callers name
+-- the set `lowest_place`.
 use Rattle.std.specs.Prelude.{Bool, negsuc, pos, suc, unsigned_abs, zero, ℕ, ℤ, ◌%◌, ◌*ℤ◌, ◌+ℤ◌, ◌-ℤ◌, ◌/◌, ◌≡◌, ◌≤◌, ◌⊎◌}
 use Rattle.std.proofs.Common.{ap, arith, inl, inr, refl, subst, sym, ◌∙◌}
 use Rattle.std.proofs.lemmas.Bool.Decides.{Decides-int_eq}

@@ -1,7 +1,6 @@
 -- The bits of shifted, rotated and converted numbers, and of constants: each is a bit of the operand at another
--- place. So a law of shifts, rotations, constant masks and conversions, also nested, is proved as those of
--- `& | ^ !` in BitByBit.antt are.
--- For callers: `#![tactic(auto, using(arbitrary_laws::proofs::places::MovedBits::moved_bits))]`.
+-- place. So the laws of shifts, rotations, constant masks and conversions, also nested, have proofs like those of
+-- `& | ^ !` in BitByBit.antt. Callers name the set `moved_bits`.
 use Rattle.std.specs.Prelude.{Bool, List, drop, false, get_or, length, negsuc, not, pos, replicate, suc, take, true, zero, ℕ, ℤ, ◌%◌, ◌*◌, ◌+◌, ◌-◌, ◌/◌, ◌<ℤ◌, ◌<◌, ◌==◌, ◌^◌, ◌≡◌, ◌≤ℤ◌, ◌≤◌, ◌⊎◌}
 use Rattle.std.proofs.Common.{ap, arith, div-add-mod', inl, inr, length-drop, pow-add, pow-suc, refl, subst, sym, true≢false, ◌∙◌}
 use Rattle.std.proofs.Math.Nat.{div-div-eq-div-mul, div-eq_of_lt-le, pow-le-pow_right}

@@ -1,7 +1,5 @@
--- The numbers `1 << k` and `(1 << k) - 1`: how they relate, the zeros and ones at their ends, and a number's
--- parts above place k and below it.
--- For callers: `#![tactic(auto, using(arbitrary_laws::proofs::places::OneBits::one_bits))]`, and
--- `one_bit_counts` for the zeros and ones.
+-- The numbers `1 << k` and `(1 << k) - 1`: how they relate, the zeros and ones at their ends, and a number's parts
+-- above place k and below it. Callers name the set `one_bits`, and `one_bit_counts` for the zeros and ones.
 use Rattle.std.specs.Bool.{beq}
 use Rattle.std.specs.List.{prefix_len, suffix_len}
 use Rattle.std.specs.Ordering.{int_cmp, int_eq, is_lt}

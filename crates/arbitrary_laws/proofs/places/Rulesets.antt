@@ -1,4 +1,4 @@
--- Small sets of laws of bits at their places, each for one kind of goal. Sets.antt has the set of the whole topic.
+-- The small sets of this folder, each for one kind of goal. Sets.antt has the public set of the topic.
 use Rattle.arbitrary_base.proofs.integers.Ring.{pos-unsigned_abs}
 use Rattle.arbitrary_laws.proofs.bits.OwnBits.{own_bits-in_range}
 use Rattle.arbitrary_laws.proofs.masks.NumberUnderMask.{and-by_complement, and-of_cleared, and-of_set, or-by_and}

@@ -1,6 +1,5 @@
--- Bits at variable places: one set and another cleared, the lowest of a rotated number, and a shifted number
--- that is reversed and converted.
--- For callers: `#![tactic(auto, using(arbitrary_laws::proofs::places::VariablePlaces::variable_places))]`.
+-- Bits at variable places: one set and another cleared, the lowest of a rotated number, and a shifted number that
+-- is reversed and converted. Callers name the set `variable_places`.
 use Rattle.std.specs.Prelude.{Bool, List, [], drop, false, length, not, pos, replicate, suc, take, true, zero, ℕ, ℤ, ◌++◌, ◌<◌, ◌^◌, ◌∷◌, ◌≡◌, ◌≢◌, ◌≤◌}
 use Rattle.std.proofs.Common.{ap, ap₂, arith, length-drop, refl, subst, sym, ◌∙◌}
 use Rattle.std.proofs.lemmas.Bool.Decides.{Decides-int_eq}

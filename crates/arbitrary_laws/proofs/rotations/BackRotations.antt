@@ -1,5 +1,5 @@
--- A rotation to the right by a variable amount as one to the left by the width minus the amount.
--- For callers: `#![tactic(auto, using(arbitrary_laws::proofs::rotations::BackRotations::back_rotations))]`.
+-- A rotation to the right by a variable amount as one to the left by the width minus the amount. Callers name the
+-- set `back_rotations`.
 use Rattle.std.specs.Prelude.{Bool, suc, zero, ℕ, ℤ, ◌%◌, ◌*◌, ◌+◌, ◌-◌, ◌/◌, ◌<◌, ◌≡◌, ◌≤◌, ◌⊎◌}
 use Rattle.std.proofs.Common.{ap, arith, div-add-mod', inl, inr, sym, ◌∙◌}
 use Rattle.std.proofs.Math.Nat.{div-eq_of_lt-le, mod-eq_of_lt}

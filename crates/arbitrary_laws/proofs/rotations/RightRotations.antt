@@ -1,6 +1,5 @@
 -- Rotations to the right with other operations, and two rotations in either order, by constant and variable
--- amounts.
--- For callers: `#![tactic(auto, using(arbitrary_laws::proofs::rotations::RightRotations::right_rotations))]`.
+-- amounts. Callers name the set `right_rotations`.
 use Rattle.std.specs.List.{slice_rotate_right}
 use Rattle.std.specs.Prelude.{Bool, List, length, ℕ, ℤ, ◌+◌, ◌-◌, ◌≡◌, ◌≤◌}
 use Rattle.std.proofs.Common.{ap, arith, inl, inr, sym, ◌∙◌}

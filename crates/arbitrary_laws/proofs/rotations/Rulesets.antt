@@ -1,4 +1,4 @@
--- Small sets of laws of rotations and reversals, each for one kind of goal. Sets.antt has the set of the whole topic.
+-- The small sets of this folder, each for one kind of goal. Sets.antt has the public set of the topic.
 use Rattle.arbitrary_base.proofs.operations.Bitwise.{bitwise_or-commutes, bitwise_xor-commutes}
 use Rattle.arbitrary_base.proofs.operations.RotateAndReverse.{reversed-and, reversed-not, reversed-not_zero, reversed-or, reversed-rotated_left, reversed-shifted_left, reversed-xor, reversed-zero, rotated_left-and, rotated_left-none, rotated_left-not, rotated_left-not_zero, rotated_left-or, rotated_left-xor, rotated_left-zero, rotated_right-as_left, rotated_right-none}
 use Rattle.arbitrary_base.proofs.operations.WrappedRing.{wrapped_sum-commutes}

@@ -1,5 +1,5 @@
 -- Foldings by `x ^ (x >> k)` commute, so that a Gray code is decoded by foldings in the order of a program.
--- For callers: `#![tactic(auto, using(arbitrary_laws::proofs::shifts::FoldingOrder::folding_orders))]`.
+-- Callers name the set `folding_orders`.
 use Rattle.std.specs.Prelude.{false, ℕ, ℤ, ◌≡◌, ◌≤◌}
 use Rattle.std.proofs.Common.{ap, sym, ◌∙◌}
 use Rattle.std.proofs.lemmas.Bool.Decides.{Decides-int_eq}

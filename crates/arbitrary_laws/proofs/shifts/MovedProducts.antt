@@ -1,5 +1,5 @@
--- Left shifts by constant and variable amounts, with products, negation and other left shifts.
--- For callers: `#![tactic(auto, using(arbitrary_laws::proofs::shifts::MovedProducts::moved_products))]`.
+-- Left shifts by constant and variable amounts, with products, negation and other left shifts. Callers name the
+-- set `moved_products`.
 use Rattle.std.specs.Int.{int_shr}
 use Rattle.std.specs.Prelude.{Bool, negsuc, pos, ℕ, ℤ, ◌+◌, ◌/◌, ◌^◌, ◌≡◌, ◌≤◌}
 use Rattle.std.proofs.Common.{ap, arith, inl, inr, pow-add, sym, ◌∙◌}

@@ -1,4 +1,4 @@
--- Small sets of laws of shifts, each for one kind of goal. Sets.antt has the set of the whole topic.
+-- The small sets of this folder, each for one kind of goal. Sets.antt has the public set of the topic.
 use Rattle.arbitrary_base.proofs.modular.Residue.{wrap-of_in_range}
 use Rattle.arbitrary_base.proofs.operations.Shift.{left_right-mask_not, right_left-mask_not, shifted_left-and, shifted_left-difference, shifted_left-none, shifted_left-or, shifted_left-sum, shifted_left-xor, shifted_left-zero, shifted_right-and, shifted_right-none, shifted_right-not, shifted_right-or, shifted_right-xor, shifted_right-zero}
 use Rattle.arbitrary_laws.proofs.bits.Identities.{bitwise_not-zero, bitwise_not-zero_signed, bitwise_xor-undoes, bitwise_xor-zero}

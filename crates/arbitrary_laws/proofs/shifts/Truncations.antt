@@ -1,6 +1,6 @@
 -- The low bits of a result, which a conversion to a narrower type keeps, are those of the same operation on the
--- low bits; and a rotation or a reversal of a number that is converted to the other sign.
--- For callers: `#![tactic(auto, using(arbitrary_laws::proofs::shifts::Truncations::truncations))]`.
+-- low bits; and a rotation or a reversal of a number that is converted to the other sign. Callers name the set
+-- `truncations`.
 use Rattle.std.specs.List.{slice_rotate_right}
 use Rattle.std.specs.Prelude.{Bool, List, reverse, ℕ, ℤ, ◌<◌, ◌≡◌, ◌≤◌}
 use Rattle.std.proofs.Common.{ap, sym, ◌∙◌}

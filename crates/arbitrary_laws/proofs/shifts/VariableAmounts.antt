@@ -1,7 +1,7 @@
--- All laws of shifts and rotations by variable amounts: RightRotations.antt, VariableMasks.antt,
--- MovedProducts.antt and VariablePlaces.antt have them by topic. It also has a left shift before a conversion to
--- a narrower type, and a right shift as a quotient, which a wider type contains.
--- For callers: `#![tactic(auto, using(arbitrary_laws::proofs::shifts::VariableAmounts::variable_amounts))]`.
+-- All laws of shifts and rotations by variable amounts, which RightRotations.antt, VariableMasks.antt,
+-- MovedProducts.antt and VariablePlaces.antt have by topic. It also has a left shift before a conversion to a
+-- narrower type, and a right shift as a quotient, which a wider type contains. Callers name the set
+-- `variable_amounts`.
 use Rattle.std.proofs.lemmas.Bool.Decides.{Decides-int_eq}
 use Rattle.arbitrary_base.proofs.operations.Bitwise.{bitwise_or-commutes, bitwise_xor-commutes}
 use Rattle.arbitrary_base.proofs.operations.RotateAndReverse.{reversed-rotated_left, rotated_right-none}

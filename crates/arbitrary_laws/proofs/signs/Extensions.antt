@@ -1,6 +1,5 @@
--- `&`, `|`, `^` and right shifts of numbers that a narrower type of the same sign also contains have the same
--- result there, and so have a signed primitive's own operators.
--- For callers: `#![tactic(auto, using(arbitrary_laws::proofs::signs::Extensions::extensions))]`.
+-- `&`, `|`, `^` and right shifts of numbers that fit in a narrower type of the same sign: they have the same
+-- result there, and so have a signed primitive's own operators. Callers name the set `extensions`.
 use Rattle.std.specs.Int.{Width, cast_unsigned, int_shr, w128, w16, w32, w64, w8}
 use Rattle.std.specs.Int.Bits.{and_lt, bit_and, bit_or, bit_xor}
 use Rattle.std.specs.Prelude.{Bool, FitsSigned, false, negsuc, pos, suc, true, zero, ℕ, ℤ, ◌*ℤ◌, ◌+ℤ◌, ◌-◌, ◌/◌, ◌<ℤ◌, ◌<◌, ◌^◌, ◌≡◌, ◌≤ℤ◌, ◌≤◌, ◌⊎◌}

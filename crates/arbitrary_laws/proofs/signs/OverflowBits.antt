@@ -1,5 +1,5 @@
--- An overflow of a sum or a difference, computed from the signs of its operands and of the wrapped result.
--- For callers: `#![tactic(auto, using(arbitrary_laws::proofs::signs::OverflowBits::overflow_bits))]`.
+-- An overflow of a sum or a difference, computed from the signs of its operands and of the wrapped result. Callers
+-- name the set `overflow_bits`.
 use Rattle.std.specs.Bool.{beq}
 use Rattle.std.specs.Ordering.{int_cmp, is_lt}
 use Rattle.std.specs.Prelude.{not, pos, true, ℕ, ℤ, ◌+ℤ◌, ◌-ℤ◌, ◌-◌, ◌<ℤ◌, ◌^◌, ◌↔◌, ◌≡◌, ◌≤ℤ◌, ◌≤◌, ◌⊎◌}

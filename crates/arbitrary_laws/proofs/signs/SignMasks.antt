@@ -1,7 +1,6 @@
--- A number under a mask that is -1 or 0, such as a sign mask `x >> (BITS - 1)`, its complement or a chosen
--- number: the absolute value, the lesser and the greater of two. `SignWord` has the sign mask alone. These laws
--- are about any such mask, so they also hold for its complement.
--- For callers: `#![tactic(auto, using(arbitrary_laws::proofs::signs::SignMasks::sign_masks))]`.
+-- A number under a mask that is -1 or 0, such as a sign mask `x >> (BITS - 1)`, its complement or a chosen number:
+-- the absolute value, the lesser and the greater of two. `SignWord` has the sign mask alone. Callers name the set
+-- `sign_masks`.
 use Rattle.std.specs.Prelude.{neg_ℤ, negsuc, pos, true, ℕ, ℤ, ◌+ℤ◌, ◌+◌, ◌-ℤ◌, ◌<ℤ◌, ◌^◌, ◌≡◌, ◌≤ℤ◌, ◌≤◌, ◌⊎◌}
 use Rattle.std.proofs.Common.{ap, arith, inl, inr, refl, subst, sym, ◌∙◌}
 use Rattle.std.proofs.lemmas.Bool.Decides.{Decides-int_eq}

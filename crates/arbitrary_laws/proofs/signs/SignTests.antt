@@ -1,8 +1,7 @@
 -- The sign of an expression on bits of two numbers and their difference or sum decides their order, their
--- equality, or an overflow. The search does not find these laws itself: it would split each number by its sign
--- and each difference by how it wraps. So each law has one whole formula, proved by the highest bits of its
--- parts.
--- For callers: `#![tactic(auto, using(arbitrary_laws::proofs::signs::SignTests::sign_tests))]`.
+-- equality, or an overflow. Each law has one whole formula, proved from the highest bits of its parts. The search
+-- would split each number by its sign and each difference by how it wraps, and find no proof. Callers name the set
+-- `sign_tests`.
 use Rattle.std.specs.Bool.{beq}
 use Rattle.std.specs.Ordering.{int_cmp, int_eq, is_ge, is_le, is_lt}
 use Rattle.std.specs.Prelude.{Bool, List, false, get_or, int_lt, length, map, not, pos, true, ℕ, ℤ, ◌&&◌, ◌+ℤ◌, ◌-ℤ◌, ◌-◌, ◌<ℤ◌, ◌||◌, ◌↔◌, ◌≡◌, ◌≤ℤ◌, ◌≤◌}

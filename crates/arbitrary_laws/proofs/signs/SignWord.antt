@@ -1,5 +1,5 @@
--- The sign mask of a number, `x >> (BITS - 1)`: -1 below 0, otherwise 0; and a number under it.
--- For callers: `#![tactic(auto, using(arbitrary_laws::proofs::signs::SignWord::signs))]`.
+-- The sign mask of a number, `x >> (BITS - 1)`, which is -1 for a number below 0 and otherwise 0; and a number
+-- under it. Callers name the set `signs`.
 use Rattle.std.specs.Prelude.{neg_ℤ, negsuc, pos, true, ℕ, ℤ, ◌+◌, ◌-ℤ◌, ◌-◌, ◌/◌, ◌<ℤ◌, ◌<◌, ◌^◌, ◌≡◌, ◌≤ℤ◌, ◌⊎◌}
 use Rattle.std.proofs.Common.{ap, arith, inl, inr, refl, ◌∙◌}
 use Rattle.std.proofs.Math.Nat.{div-eq_of_lt-le}

@@ -1,6 +1,5 @@
--- A signed number with its sign bit toggled, `x ^ min_value()`, read as an unsigned number: the numbers are from
--- 0 up, in the same order.
--- For callers: `#![tactic(auto, using(arbitrary_laws::proofs::signs::TurnedSigns::turned_signs))]`.
+-- A signed number with its sign bit toggled, `x ^ min_value()`, read as an unsigned number: the numbers are from 0
+-- up, in the same order. Callers name the set `turned_signs`.
 use Rattle.std.specs.Cmp.{int_ranks}
 use Rattle.std.specs.Ordering.{int_cmp}
 use Rattle.std.specs.Prelude.{false, neg_ℤ, pos, suc, true, unsigned_abs, zero, ℕ, ℤ, ◌*◌, ◌+ℤ◌, ◌-ℤ◌, ◌-◌, ◌^◌, ◌≡◌, ◌≤◌}

@@ -1,6 +1,5 @@
--- The zigzag code of a number, which stores the sign in the lowest bit: `((x << 1) ^ (x >> 11)).to_unsigned()`
--- of an `i12`.
--- For callers: `#![tactic(auto, using(arbitrary_laws::proofs::signs::ZigZag::zigzag))]`.
+-- The zigzag code of a number, which stores the sign in the lowest bit: `((x << 1) ^ (x >> 11)).to_unsigned()` of
+-- an `i12`. Callers name the set `zigzag`.
 use Rattle.std.specs.Prelude.{false, neg_ℤ, negsuc, pos, true, ℕ, ℤ, ◌*ℤ◌, ◌+◌, ◌-ℤ◌, ◌<ℤ◌, ◌≡◌, ◌≤ℤ◌, ◌⊎◌}
 use Rattle.std.proofs.Common.{ap, ap₂, arith, inl, inr, refl, ◌∙◌}
 use Rattle.std.proofs.lemmas.Bool.Decides.{Decides-int_eq}

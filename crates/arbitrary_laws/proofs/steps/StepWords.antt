@@ -1,5 +1,5 @@
--- The sums, differences and products of steps, in the words of the calls and of the sets of laws. So a set that
--- is named with `steps` proves facts about steps as it proves those about calls.
+-- The sums, differences and products of steps, in the words of the calls and of the sets of laws. So another set
+-- that is named with `steps` also proves facts about steps.
 use Rattle.std.specs.Prelude.{◌≡◌, ℕ, ℤ, Bool, ◌+ℤ◌, ◌-ℤ◌, ◌*ℤ◌}
 use Rattle.std.proofs.Common.{sym}
 use Rattle.arbitrary_base.specs.Residue.{wrap}

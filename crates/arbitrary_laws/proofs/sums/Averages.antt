@@ -1,6 +1,6 @@
--- The mean of two numbers by their bits, where no sum overflows, signed and unsigned. Rounded down it is the
--- shared bits plus half of the bits that only one has. Rounded up it is the bits of either, minus that half.
--- For callers: `#![tactic(auto, using(arbitrary_laws::proofs::sums::Averages::averages))]`.
+-- The mean of two numbers from their bits, signed and unsigned, in which no sum overflows. Rounded down, it is the
+-- shared bits plus half of the bits that only one has. Rounded up, it is the bits of either, minus that half.
+-- Callers name the set `averages`.
 use Rattle.std.specs.Prelude.{Bool, pos, ℕ, ℤ, ◌*ℤ◌, ◌+ℤ◌, ◌-ℤ◌, ◌≡◌, ◌≤ℤ◌, ◌≤◌}
 use Rattle.std.proofs.Common.{arith, refl, ◌∙◌}
 use Rattle.std.proofs.lemmas.Int.{ints}

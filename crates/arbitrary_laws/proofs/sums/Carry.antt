@@ -1,4 +1,4 @@
--- Sums and differences by the bits that two numbers share and those that only one has: the carries and the
+-- Sums and differences from the bits that two numbers share and those that only one has: the carries and the
 -- borrows. BitsBesideSums.antt has sums of results of `&`, `|` and `^`.
 use Rattle.std.specs.Prelude.{Bool, map, not, pos, ℕ, ℤ, ◌+ℤ◌, ◌≡◌, ◌≤◌}
 use Rattle.std.proofs.Common.{ap, arith, subst, ◌∙◌}

@@ -1,5 +1,5 @@
--- The congruence of several operations that wrap, also products, at any width, known or not.
--- For callers: `#![tactic(auto, using(arbitrary_laws::proofs::sums::CongruentChains::congruent_chains))]`.
+-- The congruence of several operations that wrap, also products, at any width, known or not. Callers name the set
+-- `congruent_chains`.
 use Rattle.std.specs.Prelude.{◌≡◌, ℕ, ℤ, Bool, ◌≤◌, ◌+ℤ◌, ◌-ℤ◌, ◌*ℤ◌}
 use Rattle.std.proofs.Common.{ap, arith, subst, ◌∙◌}
 use Rattle.std.proofs.lemmas.Int.{ints}

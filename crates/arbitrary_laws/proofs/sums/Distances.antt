@@ -1,6 +1,5 @@
--- The distance of two signed numbers as an unsigned number: the difference wraps, and its bits are read without
--- a sign.
--- For callers: `#![tactic(auto, using(arbitrary_laws::proofs::sums::Distances::distances))]`.
+-- The distance of two signed numbers as an unsigned number: the difference wraps, and its bits are read without a
+-- sign. Callers name the set `distances`.
 use Rattle.std.specs.Prelude.{◌≡◌, ℕ, ℤ, true, false, ◌≤◌, ◌≤ℤ◌, ◌<ℤ◌, ◌-ℤ◌}
 use Rattle.std.proofs.Common.{arith, ◌∙◌}
 use Rattle.std.proofs.lemmas.Int.{ints}

@@ -1,6 +1,5 @@
--- Sums, differences and products that wrap, of numbers that were converted or wrapped before: each is that of
--- the numbers themselves, and exact if that is in range.
--- For callers: `#![tactic(auto, using(arbitrary_laws::proofs::sums::ExactSums::exact_sums))]`.
+-- Sums, differences and products that wrap, of numbers that were converted or wrapped before: each is that of the
+-- numbers themselves, and exact if that is in range. Callers name the set `exact_sums`.
 use Rattle.std.specs.Prelude.{◌≡◌, ℕ, ℤ, Bool, ◌≤◌, ◌+ℤ◌, ◌-ℤ◌, ◌*ℤ◌}
 use Rattle.std.proofs.Common.{sym, ap, ◌∙◌}
 use Rattle.std.proofs.lemmas.Bool.Decides.{Decides-int_eq}

@@ -1,5 +1,5 @@
--- A shifted number and one below its lowest place share no bit, so `|` and `^` are their sum.
--- For callers: `#![tactic(auto, using(arbitrary_laws::proofs::sums::LowSums::low_sums))]`.
+-- A shifted number and one below its lowest place share no bit, so `|` and `^` are their sum. Callers name the set
+-- `low_sums`.
 use Rattle.std.specs.Int.{int_shr}
 use Rattle.std.specs.Prelude.{Bool, negsuc, pos, ℕ, ℤ, ◌+ℤ◌, ◌/◌, ◌<ℤ◌, ◌<◌, ◌^◌, ◌≡◌, ◌≤ℤ◌, ◌≤◌}
 use Rattle.std.proofs.Common.{ap, arith, refl, sym, ◌∙◌}

@@ -1,4 +1,4 @@
--- Small sets of laws of sums, differences and products that wrap, each for one kind of goal. Sets.antt has the set of the whole topic.
+-- The small sets of this folder, each for one kind of goal. Sets.antt has the public set of the topic.
 use Rattle.arbitrary_base.proofs.integers.Powers.{power-one, power-zero}
 use Rattle.arbitrary_base.proofs.modular.Residue.{wrap-of_in_range}
 use Rattle.arbitrary_base.proofs.operations.BitsAndSums.{difference-of_or_and, sum-of_disjoint, sum-of_or_and}

@@ -1,6 +1,5 @@
 -- Nested sums and differences that clamp, of unsigned types; and a number that tests compare with the ends of a
--- range.
--- For callers: `#![tactic(auto, using(arbitrary_laws::proofs::sums::Saturations::saturations))]`.
+-- range. Callers name the set `saturations`.
 use Rattle.std.specs.Prelude.{◌≡◌, ◌⊎◌, ℕ, ℤ, false, pos, ◌≤◌, ◌≤ℤ◌, ◌<ℤ◌, ◌+ℤ◌, ◌-ℤ◌}
 use Rattle.std.proofs.Common.{sym, ap, ◌∙◌, arith, inl, inr}
 use Rattle.std.proofs.lemmas.Bool.Decides.{Decides-int_eq}

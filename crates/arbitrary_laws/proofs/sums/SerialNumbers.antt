@@ -1,5 +1,5 @@
--- Serial numbers, which wrap: the difference that wraps, in both directions.
--- For callers: `#![tactic(auto, using(arbitrary_laws::proofs::sums::SerialNumbers::serial_numbers))]`.
+-- Serial numbers, which wrap: the difference that wraps, in both directions. Callers name the set
+-- `serial_numbers`.
 use Rattle.std.specs.Prelude.{◌≡◌, ℕ, ℤ, Bool, true, false, pos, ◌≤◌, ◌^◌, ◌<ℤ◌, ◌+ℤ◌, ◌-ℤ◌}
 use Rattle.std.proofs.Common.{arith, ◌∙◌, subst, refl, sym}
 use Rattle.std.proofs.lemmas.Bool.Decides.{Decides-int_eq}

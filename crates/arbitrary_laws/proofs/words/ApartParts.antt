@@ -1,4 +1,4 @@
--- Parts of a word that share no bit: what `|` and `^` make of them is their sum, in any order and number.
+-- Parts of a word that share no bit: `|` and `^` of them are their sum, in any order and number.
 use Rattle.std.specs.Prelude.{◌≡◌, ℕ, suc, ◌+◌, ◌-◌, ◌*◌, ◌/◌, ◌%◌, ◌^◌, ◌<◌, ◌≤◌}
 use Rattle.std.specs.Int.Bits.{bit_and, bit_or, bit_xor, xor_add_and}
 use lib.Arith.{mod-mul}

@@ -1,4 +1,4 @@
--- The lowest one of a number, as a power of two that computes where the number is written out.
+-- The lowest one of a number, as a power of two that computes for a literal.
 use Rattle.std.specs.Prelude.{◌≡◌, ℕ, zero, suc, ◌+◌, ◌-◌, ◌*◌, ◌/◌, ◌%◌, ◌^◌, ◌<◌}
 use Rattle.std.specs.Int.Bits.{bit_and, bit_xor}
 use lib.Bits.{and_self, and_shifted, xor_self, xor_shifted}

@@ -1,4 +1,5 @@
--- The lowest one of a primitive by the count of the zeros below it, as `x & x.wrapping_neg() == 1 << x.trailing_zeros()`.
+-- The lowest one of a primitive and the count of the zeros below it, as in
+-- `x & x.wrapping_neg() == 1 << x.trailing_zeros()`.
 use Rattle.std.specs.Prelude.{◌≡◌, ℕ, zero, suc, ◌+◌, ◌-◌, ◌*◌, ◌/◌, ◌%◌, ◌^◌, ◌<◌}
 use Rattle.std.specs.Int.Bits.{bit_and}
 use lib.Count.{count_trailing_zeros, under}

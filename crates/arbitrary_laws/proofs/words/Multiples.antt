@@ -1,4 +1,4 @@
--- A number whose low bits are 0, by a `requires`, a product or a mask, with a number that has no others.
+-- A number whose low bits are 0, by a `requires`, a product or a mask, with a number that has only low bits.
 use Rattle.std.specs.Prelude.{◌≡◌, ℕ, suc, ◌+◌, ◌-◌, ◌*◌, ◌/◌, ◌%◌, ◌^◌, ◌<◌}
 use Rattle.std.specs.Int.Bits.{bit_and}
 use lib.Bits.{and_shifted}

@@ -1,5 +1,5 @@
--- Carry, overflow and borrow by bits of a primitive or a `UInt`: what one bit of `&`, `|`, `^` and `!` has to do with that bit of the operands,
--- as inequalities, so that sums and differences decide it.
+-- Carry, overflow and borrow from bits of a primitive or a `UInt`: how one bit of `&`, `|`, `^` and `!` depends on
+-- that bit of the operands, as inequalities, so that sums and differences decide it.
 use Rattle.std.specs.Prelude.{◌≡◌, ℕ, zero, suc, ◌+◌, ◌-◌, ◌*◌, ◌/◌, ◌%◌, ◌^◌, ◌<◌, ◌≤◌}
 use Rattle.std.specs.Int.Bits.{bit_and, bit_or, bit_xor, or_add_and, xor_add_and}
 use Rattle.std.specs.Int.{bit_at}

@@ -1,4 +1,5 @@
--- A number under a written mask is the sum of what the mask's runs of ones let through, each as a quotient and a remainder.
+-- A number under a literal mask is the sum of the parts under the mask's runs of ones, each as a quotient and a
+-- remainder.
 use Rattle.std.specs.Prelude.{◌≡◌, ℕ, zero, suc, ◌+◌, ◌-◌, ◌*◌, ◌/◌, ◌%◌, ◌^◌, ◌<◌, min}
 use Rattle.std.specs.Int.Bits.{bit_and, bit_or, bit_xor, or_add_and, xor_add_and}
 use Rattle.std.specs.Int.{bit_at}

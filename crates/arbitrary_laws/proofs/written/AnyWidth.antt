@@ -1,5 +1,5 @@
--- Written numbers at a width that is not known: they are in range where the width has room for their digits.
--- For callers: `#![tactic(auto, using(arbitrary_laws::proofs::written::AnyWidth::any_width))]`.
+-- Literals at a width that is not known: they are in range if the width has room for their digits. Callers name
+-- the set `any_width`.
 use Rattle.std.specs.Prelude.{false, negsuc, pos, suc, true, zero, ℕ, ◌-◌, ◌<◌, ◌^◌, ◌≤◌}
 use Rattle.std.proofs.Common.{arith}
 use Rattle.std.proofs.Math.Nat.{mod_self}

@@ -1,4 +1,4 @@
--- The bytes of a number that is written out, so that what their order gives computes.
+-- The bytes of a literal, so that the calls on bytes compute.
 use Rattle.std.specs.Prelude.{◌≡◌, ℕ, pos, negsuc, false, ◌*◌, ◌%◌, ◌^◌, ◌≤◌}
 use Rattle.std.specs.Int.{bytes_low_first}
 use Rattle.std.proofs.Common.{refl, sym, ◌∙◌, arith}

@@ -1,4 +1,4 @@
--- For callers: what the calls give on numbers that are written out, as the examples of a documentation are.
+-- What the calls return for literals, as in the examples of a documentation, for callers.
 use Rattle.arbitrary_laws.proofs.counts.Rulesets.{known_counts}
 use Rattle.arbitrary_laws.proofs.written.KnownBytes.{known_bytes}
 use Rattle.arbitrary_laws.proofs.written.Rulesets.{known_numbers}

@@ -1,4 +1,4 @@
--- How many bits of a number that is written out are one.
+-- How many bits of a literal are one.
 use Rattle.std.specs.List.{count_by}
 use Rattle.std.specs.Prelude.{pos, suc, zero, ℕ, ◌%◌, ◌+◌, ◌/◌, ◌<◌, ◌==◌, ◌^◌, ◌≡◌, ◌≤◌}
 use Rattle.std.proofs.Common.{ap, ap₂, arith, pow-suc, refl, ◌∙◌}

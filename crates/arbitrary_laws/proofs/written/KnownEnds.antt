@@ -1,4 +1,5 @@
--- The counts of a number that is written out, also of one below 0 and of one with its highest bit set: a complement has ones for zeros.
+-- The counts of a literal, also of one below 0 and of one with its highest bit set: its complement has ones for
+-- zeros.
 use Rattle.std.specs.Bool.{beq}
 use Rattle.std.specs.List.{count_by, prefix_len, suffix_len}
 use Rattle.std.specs.Prelude.{false, negsuc, pos, suc, true, zero, ℕ, ◌%◌, ◌+◌, ◌-◌, ◌/◌, ◌<◌, ◌==◌, ◌^◌, ◌∷◌, ◌≡◌, ◌≤ℤ◌, ◌≤◌}

@@ -1,5 +1,5 @@
--- What the operations give on numbers that are written out, positive and negative, by the low digits of these. The definitions are
--- `abbrev`s, so that they compute at such a number.
+-- What the operations return for literals, positive and negative, from their low digits. The definitions are
+-- `abbrev`s, so that they compute for a literal.
 use Rattle.std.specs.Prelude.{◌≡◌, ℕ, ℤ, Bool, true, false, List, length, zero, suc, pos, negsuc, ◌+◌, ◌-◌, ◌*◌, ◌/◌, ◌%◌, ◌^◌, ◌≤◌, ◌<◌, ◌≤ℤ◌, map, not, reverse, nat_lt, if◌then◌else◌}
 use Rattle.std.specs.Int.{reverse_bits_onto}
 use Rattle.std.specs.Int.Bits.{bit_and, bit_or, bit_xor}

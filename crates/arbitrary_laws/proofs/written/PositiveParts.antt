@@ -1,5 +1,6 @@
--- The laws of WrittenParts.antt on written numbers above 0, where a number of a `u12` that is not written out, some `pos n`, is none of them:
--- of two such numbers the search would make a third, and so on. Wide sets have these in place of those, and laws on 0.
+-- The laws of WrittenParts.antt for literals above 0. They do not apply to a number of a `u12`, some `pos n`: from
+-- two such numbers the search would make a third, and so on. Wide sets have these laws in place of those, and laws
+-- of 0.
 use Rattle.std.specs.Prelude.{◌≡◌, ℕ, ℤ, suc, Bool, pos, ◌≤◌, ◌≤ℤ◌}
 use Rattle.std.specs.Int.Bits.{bit_and, bit_or, bit_xor}
 use Rattle.arbitrary_base.specs.Range.{hi}

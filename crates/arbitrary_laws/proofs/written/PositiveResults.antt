@@ -1,6 +1,6 @@
--- Written numbers above 0 that two operations bring together: their sum and their product, as `(x + 3) * 5` has them, and what of a turned number
--- a mask leaves, as `(x ^ 0x55) & 0x0F`. As in PositiveParts.antt, the numbers that are not written out are none of them.
--- For callers: `#![tactic(auto, using(arbitrary_laws::proofs::written::PositiveResults::positive_results))]`.
+-- Literals above 0 that two operations combine: their sum and their product, as in `(x + 3) * 5`, and the masked
+-- part of an inverted number, as in `(x ^ 0x55) & 0x0F`. As in PositiveParts.antt, they apply only to literals.
+-- Callers name the set `positive_results`.
 use Rattle.std.specs.Int.Bits.{bit_and}
 use Rattle.std.specs.Prelude.{Bool, false, pos, suc, true, ℕ, ℤ, ◌*◌, ◌+◌, ◌≡◌, ◌≤ℤ◌, ◌≤◌}
 use Rattle.std.proofs.Common.{ap₂, arith, ◌∙◌}

@@ -1,4 +1,4 @@
--- Written numbers that follow each other under `& | ^` are one: `(x | 0x0F) | 0xF0` is `x | 0xFF`, and so are the parts of a number
+-- Two literals in a row under `& | ^` are one: `(x | 0x0F) | 0xF0` is `x | 0xFF`, and so are the parts of a number
 -- under two masks.
 use Rattle.std.specs.Int.Bits.{bit_and, bit_or, bit_xor}
 use Rattle.std.specs.Prelude.{Bool, pos, ℕ, ℤ, ◌≡◌, ◌≤ℤ◌, ◌≤◌}

@@ -1,4 +1,5 @@
-//! The operators of the integers of 128 bits.
+//! The laws of the operators of `u128` and `i128`. tools/twins.py compares this file with those of the other
+//! widths.
 
 ghost use Rattle.std.specs.Prelude.{◌+◌, ◌*◌, ◌+ℤ◌, ◌-ℤ◌, ◌*ℤ◌, pos, neg_ℤ, refl};
 ghost use Rattle.std.specs.Int.{w128};

@@ -1,4 +1,4 @@
-//! The operators of the integers of 16 bits.
+//! The laws of the operators of `u16` and `i16`. tools/twins.py compares this file with those of the other widths.
 
 ghost use Rattle.std.specs.Prelude.{◌+◌, ◌*◌, ◌+ℤ◌, ◌-ℤ◌, ◌*ℤ◌, pos, neg_ℤ, refl};
 ghost use Rattle.std.specs.Int.{w16};

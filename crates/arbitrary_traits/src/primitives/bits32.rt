@@ -1,4 +1,4 @@
-//! The operators of the integers of 32 bits.
+//! The laws of the operators of `u32` and `i32`. tools/twins.py compares this file with those of the other widths.
 
 ghost use Rattle.std.specs.Prelude.{◌+◌, ◌*◌, ◌+ℤ◌, ◌-ℤ◌, ◌*ℤ◌, pos, neg_ℤ, refl};
 ghost use Rattle.std.specs.Int.{w32};

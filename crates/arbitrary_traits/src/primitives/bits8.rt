@@ -1,4 +1,4 @@
-//! The operators of the integers of 8 bits.
+//! The laws of the operators of `u8` and `i8`. tools/twins.py compares this file with those of the other widths.
 
 ghost use Rattle.std.specs.Prelude.{◌+◌, ◌*◌, ◌+ℤ◌, ◌-ℤ◌, ◌*ℤ◌, pos, neg_ℤ, refl};
 ghost use Rattle.std.specs.Int.{w8};

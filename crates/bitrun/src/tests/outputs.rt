@@ -1,4 +1,4 @@
-//! The output and the status for an input.
+//! The output and the status for each of several inputs.
 use arbitrary_int::Watched;
 use bitrun_service::serving::{serve, serve_in};
 use bitrun_text::fault::Fault;

@@ -1,5 +1,5 @@
--- For `multiply` in src/power.rt, a reply for each of its three ways: with a bit to spare by `checked::mul`, at 128 bits by factors of 64
--- (Squaring.antt), else by `checked_mul`.
+-- For `multiply` in src/power.rt, in its three cases: with a bit to spare by `checked::mul`, at 128 bits for
+-- factors of 64 bits (Squaring.antt), and otherwise by `checked_mul`.
 use Rattle.std.proofs.Common.{◌≡◌, ℕ, arith, sym, subst, refl, ◌∙◌}
 use Rattle.arbitrary_base.specs.Range.{InRange}
 use Rattle.std.specs.Prelude.{◌*ℤ◌, Some, SomeIff, option_map}

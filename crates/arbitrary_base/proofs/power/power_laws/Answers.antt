@@ -1,4 +1,4 @@
--- For `power_laws` in src/power.rt: each clause is a lemma of Powers.antt, where they are proved.
+-- For `power_laws` in src/power.rt: each clause is a lemma of integers/Powers.antt.
 use Rattle.arbitrary_base.proofs.integers.Powers.{power-add, power-mul}
 use Rattle.arbitrary_base.proofs.power.power_laws.Goals as goal
 

@@ -1,5 +1,5 @@
--- For `lower` in src/raised.rt: a shift down that copies the sign, stated on numbers. The lemmas of `lower` and `raise` are in
--- storages/RaisedNumber.antt; `add` and `mul` use both.
+-- For `lower` in src/raised.rt: a right shift that copies the sign, stated for numbers. The lemmas are in
+-- storages/RaisedNumber.antt.
 use Rattle.arbitrary_base.proofs.storages.RaisedNumber.{lower-value}
 use Rattle.arbitrary_base.proofs.raised.lower.Goals as goal
 

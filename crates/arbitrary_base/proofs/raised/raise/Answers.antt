@@ -1,5 +1,5 @@
--- For `raise` in src/raised.rt: in range the shift up loses no bit, so it is a product by a power of two. The lemmas of `raise` and `lower`
--- are in storages/RaisedNumber.antt; `add` and `mul` use both.
+-- For `raise` in src/raised.rt: in range, the left shift loses no bit, so it is a product with a power of two. The
+-- lemmas are in storages/RaisedNumber.antt.
 use Rattle.arbitrary_base.proofs.storages.RaisedNumber.{raise-value}
 use Rattle.arbitrary_base.proofs.raised.raise.Goals as goal
 

@@ -1,5 +1,5 @@
--- For `mul` in src/saturating.rt, at its two ways: a storage of at most 16 bits clamps the exact product, so it is in range. Past that `end`
--- gives an end of the range. The lemmas are in storages/Clamp.antt; `value` is proved by the set on the function.
+-- For `mul` in src/saturating.rt: a storage of at most 16 bits clamps the exact product, and a wider one returns
+-- the exact product or an end of the range. The lemmas are in storages/Clamp.antt.
 use Rattle.std.proofs.Common.{ℤ, ◌∙◌, sym, subst, to_z-of_z}
 use Rattle.std.specs.Int.{w64}
 use Rattle.arbitrary_base.specs.Range.{InRange}

@@ -1,5 +1,5 @@
--- For `clamped` in src/small.rt: a number above the high end gives that end, and one between the ends is left. Below the low end the search
--- proves it by itself. The lemmas on the ends are in storages/SixteenBits.antt. The name of each goal is the prover's: leave it.
+-- For `clamped` in src/small.rt: a number above the greatest one becomes that, and one between the ends stays. The
+-- search proves the case below the least one. The lemmas are in storages/SixteenBits.antt.
 use Rattle.std.proofs.Common.{◌∙◌, to_z-of_z}
 use Rattle.std.specs.Int.{w64}
 use Rattle.arbitrary_base.proofs.storages.SixteenBits.{end-high, between-ends}

@@ -1,4 +1,4 @@
--- For `truncated` in src/truncation.rt: with a sign by two shifts, without one by a mask.
+-- For `truncated` in src/truncation.rt: a signed type takes two shifts, and an unsigned one a mask.
 use Rattle.std.proofs.Common.{sym, ◌∙◌}
 use Rattle.arbitrary_base.proofs.modular.Truncation.{masked-number, InRange-of_wrap}
 use Rattle.arbitrary_base.proofs.storages.RaisedNumber.{shifted-back}

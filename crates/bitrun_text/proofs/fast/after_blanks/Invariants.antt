@@ -1,4 +1,5 @@
--- The invariant of the loop over the blanks: the reader may skip them. Each iteration ends nearer to the end of the text.
+-- The invariant of the loop over the blanks: the blanks before the place do not change the step. Each iteration
+-- comes nearer to the end of the text.
 use Rattle.std.proofs.Common.{◌≡◌, ◌≤◌, ◌<◌, ◌-◌, length, drop}
 use Rattle.bitrun_text.specs.Text.{left_of}
 use Rattle.bitrun_text.specs.Fast.{Ends}

@@ -1,4 +1,5 @@
--- The loop over the empty lines: those already passed have no step, and each is one byte. Each iteration ends nearer to the end.
+-- The invariant of the loop over the empty lines: those before the place have no step, and each is one byte. Each
+-- iteration comes nearer to the end of the text.
 use Rattle.std.proofs.Common.{◌≡◌, ◌≤◌, ◌+◌, ◌-◌, ℕ, List, length, drop}
 use Rattle.arbitrary_int.specs.declared.steps.Step.{Step}
 use Rattle.bitrun_text.specs.Text.{word_lines}

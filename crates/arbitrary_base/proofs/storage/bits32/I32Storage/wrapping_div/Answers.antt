@@ -1,5 +1,5 @@
--- For `wrapping_div` of `i32` in src/storage/bits32.rt: std's quotient is the exact one, wrapped, by integers/Quotient.antt. The signed storages
--- of 8, 16, 64 and 128 bits have the same proof at their width, so change all five alike.
+-- For `wrapping_div` of `i32` in src/storage/bits32.rt: std's quotient is the exact one, wrapped, by
+-- integers/Quotient.antt. The storages of 8, 16, 64 and 128 bits have the same proof: change all five.
 use Rattle.std.proofs.Common.{◌∙◌, rules, to_z-of_z}
 use Rattle.std.specs.Prelude.{FitsSigned}
 use Rattle.std.specs.Int.{w32, int_wrapping_div}

@@ -1,5 +1,5 @@
--- For `from_pattern` of `i8` in src/storage/bits8.rt: the cast to a sign gives the number of the pattern. The signed storages of 16, 32 and
--- 64 bits have the same reply at their width.
+-- For `from_pattern` of `i8` in src/storage/bits8.rt: the cast to a signed type returns the number of the pattern.
+-- The storages of 16, 32 and 64 bits have the same proof.
 use Rattle.std.proofs.Common.{◌∙◌, rules, to_z-of_z}
 use Rattle.std.specs.Prelude.{FitsSigned}
 use Rattle.std.specs.Int.{w8}

@@ -1,5 +1,5 @@
--- For `<<` of `Int` in src/shifting/signed.rt: it moves the stored bits and makes no number, so StoredBits.antt leads from the list of bits to
--- the number. Under unsigned/ the same goal is about the number at once. The laws of moved lists are in arbitrary_base.
+-- For `<<` of `Int` in src/shifting/signed.rt: it shifts the stored bits, so StoredBits.antt leads from the list
+-- of bits to the number. For `UInt`, under unsigned/, the number itself is shifted.
 use Rattle.std.specs.Prelude.{◌≡◌, ◌≤◌, ◌<◌, length, unsigned_abs}
 use Rattle.std.proofs.Common.{arith, ap, ◌∙◌, sym}
 use Rattle.std.proofs.lemmas.Int.{ints}

@@ -1,5 +1,6 @@
--- For `>>` of `Int` in src/shifting/signed.rt: it makes the number first, since the sign fills from above. Each plain clause is then one lemma
--- of ShiftAsProduct.antt in arbitrary_base. Under unsigned/ is the same with one quotient in place of `low` and `high`.
+-- For `>>` of `Int` in src/shifting/signed.rt: it first makes the number, because copies of the sign come in. Each
+-- plain clause is then one lemma of ShiftAsProduct.antt in arbitrary_base. For `UInt`, under unsigned/, one
+-- quotient replaces `low` and `high`.
 use Rattle.std.specs.Prelude.{◌≡◌, ◌<◌, unsigned_abs}
 use Rattle.std.proofs.Common.{arith, ap, sym, ◌∙◌}
 use Rattle.std.proofs.lemmas.Int.{ints}

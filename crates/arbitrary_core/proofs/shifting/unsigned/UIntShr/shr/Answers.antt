@@ -1,5 +1,5 @@
--- For `>>` of `UInt` in src/shifting/unsigned.rt: the number in its storage is shifted there, and a lemma of the base has it as a quotient. That of
--- `Int`, under signed/, leads from the stored bits.
+-- For `>>` of `UInt` in src/shifting/unsigned.rt: the storage shifts the number, which is a quotient by a lemma of
+-- arbitrary_base. For `Int`, under signed/, the proof begins at the stored bits.
 use Rattle.std.specs.Prelude.{◌≡◌, ◌<◌, unsigned_abs}
 use Rattle.std.proofs.Common.{arith, ap, sym, ◌∙◌}
 use Rattle.std.proofs.lemmas.Int.{ints}
