@@ -5,17 +5,17 @@ use Rattle.std.specs.Int.{int_div_euclid}
 use Rattle.std.specs.List.{zip}
 use Rattle.arbitrary_base.specs.Residue.{wrap}
 
--- the lowest k bits of x in two's complement: whether x is odd, then those of its half, rounded down
+-- the lowest k bits of x in two's complement: whether x is odd, then the bits of its half, rounded down
 unfoldable pub bits : ℕ → ℤ → List Bool
 bits zero x = []
 bits (suc k) x = (unsigned_abs x % 2 == 1) ∷ bits k (int_div_euclid x (pos 2))
 
--- the number from 0 up that has these bits
+-- the unsigned number with these bits
 abbrev pub num : List Bool → ℕ
 num [] = 0
 num (b ∷ l) = (if b then 1 else 0) + 2 * num l
 
--- the number of the type of length l that has these bits
+-- the number with these bits, at the width of their count; s is true if the type is signed
 unfoldable pub val : Bool → List Bool → ℤ
 val s l = wrap s (length l) (pos (num l))
 
@@ -36,10 +36,10 @@ bits_xor l m = map (λ (p : Bool × Bool). not (beq p.0 p.1)) (zip l m)
 abbrev pub shl : List Bool → ℕ → List Bool
 shl l k = replicate k false ++ take (length l - k) l
 
--- l without its first k items, then k times f
+-- l without its first k items, then f repeated k times
 abbrev pub shr : List Bool → ℕ → Bool → List Bool
 shr l k f = drop k l ++ replicate k f
 
--- what a right shift brings in: zeros, or the last item, which is the sign, where the type has one
+-- the bit that a right shift brings in: the last item, which is the sign, for a signed type, and otherwise 0
 abbrev pub fill : Bool → List Bool → Bool
 fill s l = s && get_or l (length l - 1) false

@@ -5,7 +5,7 @@ use Rattle.std.specs.Prelude.{◌≡◌, ℕ, ℤ, pos, ◌+◌, ◌/◌, ◌%�
 abbrev pub field : ℕ → ℕ → ℕ → ℤ
 field word start width = pos (word / 2 ^ start % 2 ^ width)
 
--- z is in B bits of x, from bit `start` on; the bits under them are `below`, and those over them `above`
+-- B bits of x, from bit `start` on, are the number z; the lower bits are `below`, and the higher bits `above`
 pub record IsField (start B : ℕ) (x z : ℤ) : Type 0 where
   pub below : ℕ
   pub above : ℤ

@@ -58,13 +58,13 @@ WrappedProductsDistribute = (s : Bool) (B : ℕ) (x y z : ℤ) → wrap s B (x *
 
 -- ---- checked and overflowing results
 
--- what is exact or none is the wrapped number, but for an overflow
+-- a checked result is the wrapped number, and none exactly if there is an overflow
 abbrev pub CheckedTellsOverflow : Type 0
 CheckedTellsOverflow = (s : Bool) (B : ℕ) (x : ℤ) (checked : Option ℤ) (wrapped : ℤ) (overflow : Bool) → 1 ≤ B
     → SomeIff checked (InRange s B x) x → wrapped ≡ wrap s B x → (IsTrue overflow ↔ ¬ (InRange s B x))
     → checked ≡ (if overflow then None else Some wrapped)
 
--- and a quotient that is exact or none, but for a divisor of zero and an overflow
+-- a checked quotient is the wrapped one, and none exactly if the divisor is zero or there is an overflow
 abbrev pub CheckedQuotientTellsOverflow : Type 0
 CheckedQuotientTellsOverflow = (s : Bool) (B : ℕ) (x y : ℤ) (checked : Option ℤ) (wrapped : ℤ) (overflow : Bool) → 1 ≤ B
     → SomeIff checked ((y ≢ pos 0) × InRange s B (int_div x y)) (int_div x y)
@@ -104,7 +104,7 @@ EndRunsFit = (b : Bool) (l : List Bool) → suffix_len (beq b) l ≤ length l
 abbrev pub ExtractionComposes : Type 0
 ExtractionComposes = (s t A B : ℕ) (l : List Bool) → t + A ≤ B → take A (drop t (take B (drop s l))) ≡ take A (drop (s + t) l)
 
--- a field of a word of W bits is what is extracted from it
+-- a field of a word of W bits is the number that is extracted from it
 abbrev pub FieldIsExtracted : Type 0
 FieldIsExtracted = (W start width word : ℕ) → 1 ≤ width → start + width ≤ W → word < 2 ^ W
     → val false (take width (drop start (bits W (pos word)))) ≡ field word start width
@@ -149,7 +149,7 @@ LeftShiftsKeepLowBits = (s t : Bool) (A B k : ℕ) (x : ℤ) → A ≤ B → k <
 abbrev pub ByteReversalUndoesItself : Type 0
 ByteReversalUndoesItself = (l : List ℕ) → reverse (reverse l) ≡ l
 
--- the bytes of a number have that number
+-- the number of the bytes of a number is that number
 abbrev pub ValueOfBytes : Type 0
 ValueOfBytes = (s : Bool) (n : ℕ) (x : ℤ) → 1 ≤ n → InRange s (8 * n) x → wrap s (8 * n) (pos (bytes_number (bytes n x))) ≡ x
 
@@ -168,7 +168,7 @@ BorshIsUnique = (s : Bool) (B : ℕ) (x y : ℤ) → 1 ≤ B → InRange s B x �
 
 -- ---- sums and products of many numbers
 
--- what all items leave is the last of the partial results
+-- the total of all items is the last of the partial results
 abbrev pub TotalIsTheLastPartial : Type 0
 TotalIsTheLastPartial = (op : ℤ → ℤ → ℤ) (first : ℤ) (l : List ℤ) → last_or None (first ∷ scan op op first l) ≡ Some (fold op first l)
 

@@ -34,11 +34,11 @@ bitwise_not s B x = val s (map not (bits B x))
 unfoldable pub shifted_left : Bool → ℕ → ℤ → ℕ → ℤ
 shifted_left s B x k = val s (shl (bits B x) k)
 
--- copies of the sign come in, or zeros where the type has none
+-- copies of the sign come in for a signed type, and otherwise zeros
 unfoldable pub shifted_right : Bool → ℕ → ℤ → ℕ → ℤ
 shifted_right s B x k = val s (shr (bits B x) k (fill s (bits B x)))
 
--- the lowest bit comes first, so the number turns left if its list turns right
+-- the list has the lowest bit first, so a rotation of the number to the left is one of the list to the right
 unfoldable pub rotated_left : Bool → ℕ → ℤ → ℕ → ℤ
 rotated_left s B x k = val s (slice_rotate_right (bits B x) k)
 

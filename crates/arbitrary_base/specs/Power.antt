@@ -2,7 +2,7 @@
 use Rattle.std.specs.Prelude.{◌≡◌, ℕ, ◌+◌, ℤ, ◌*ℤ◌}
 use Rattle.std.specs.Int.{int_pow}
 
--- the product of two exponents' powers is the power of their sum
+-- the product of two powers of one base is the power with the sum of the exponents
 abbrev pub PowersOfSums : Type 0
 PowersOfSums = (x : ℤ) (m n : ℕ) → int_pow x m *ℤ int_pow x n ≡ int_pow x (m + n)
 

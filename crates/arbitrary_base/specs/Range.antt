@@ -20,7 +20,7 @@ pub record InRange (s : Bool) (B : ℕ) (x : ℤ) : Type 0 where
 unfoldable pub in_range : Bool → ℕ → ℤ → Bool
 in_range s B x = int_le (lo s B) x && int_le x (hi s B)
 
--- the end of the range: the low one where the flag is set
+-- an end of the range: the least number if the flag is true, and otherwise the greatest
 abbrev pub range_end : Bool → ℕ → Bool → ℤ
 range_end s B true = lo s B
 range_end s B false = hi s B

@@ -14,10 +14,10 @@ has_failed w = w.failed
 abbrev pub failures_of : {D : Type 0} → Watched D → ℕ
 failures_of w = w.failures
 
--- between the two moments no call failed
+-- from the first moment to the second, no call failed
 abbrev pub NoFailure : {D : Type 0} → Watched D → Watched D → Type 0
 NoFailure old new = (has_failed new ≡ has_failed old) × (failures_of new ≡ failures_of old)
 
--- between the two moments a call failed
+-- from the first moment to the second, a call failed
 abbrev pub Failure : {D : Type 0} → Watched D → Watched D → Type 0
 Failure old new = IsTrue (has_failed new) × (failures_of new ≢ failures_of old)

@@ -4,7 +4,7 @@ use Rattle.arbitrary_int.specs.Steps.{meaning}
 use Rattle.arbitrary_int.specs.declared.steps.Step.{Step}
 use Rattle.arbitrary_int.specs.declared.steps.Stop.{Stop}
 
--- the same run, seen from k steps before
+-- the same ending, with the places counted from k steps before
 abbrev pub later : ℕ → List ℤ × Result ⊤ Stop → List ℤ × Result ⊤ Stop
 later k (regs, Ok u) = (regs, Ok u)
 later k (regs, Err stop) = (regs, Err (record { at = k + stop.at; why = stop.why }))

@@ -19,7 +19,7 @@ use Rattle.arbitrary_int.specs.declared.steps.Step.TheVariants.{Two, One, By}
 use Rattle.arbitrary_int.specs.declared.steps.Why.{Why}
 use Rattle.arbitrary_int.specs.declared.steps.Why.TheVariants.{Refused, ZeroDivisor}
 
--- what an operation makes of the numbers x and y
+-- the result of an operation on the numbers x and y
 abbrev pub two_meaning : Bool → ℕ → TwoOp → ℤ → ℤ → Result ℤ Why
 two_meaning s B WrappingAdd x y = Ok (wrap s B (x +ℤ y))
 two_meaning s B WrappingSub x y = Ok (wrap s B (x -ℤ y))
@@ -37,13 +37,13 @@ two_meaning s B And x y = Ok (bitwise_and s B x y)
 two_meaning s B Or x y = Ok (bitwise_or s B x y)
 two_meaning s B Xor x y = Ok (bitwise_xor s B x y)
 
--- what an operation makes of the number x
+-- the result of an operation on the number x
 abbrev pub one_meaning : Bool → ℕ → OneOp → ℤ → Result ℤ Why
 one_meaning s B Not x = Ok (bitwise_not s B x)
 one_meaning s B ReverseBits x = Ok (reversed s B x)
 one_meaning s B WrappingNeg x = Ok (wrap s B (pos 0 -ℤ x))
 
--- what an operation makes of the number x by an amount
+-- the result of an operation on the number x and an amount
 abbrev pub by_meaning : Bool → ℕ → ByOp → ℤ → ℕ → Result ℤ Why
 by_meaning s B WrappingShl x amount = Ok (shifted_left s B x (amount % B))
 by_meaning s B WrappingShr x amount = Ok (shifted_right s B x (amount % B))
@@ -53,7 +53,7 @@ by_meaning s B RotateLeft x amount = Ok (rotated_left s B x (amount % B))
 by_meaning s B RotateRight x amount = Ok (rotated_right s B x (amount % B))
 by_meaning s B SaturatingPow x amount = Ok (clamp s B (int_pow x amount))
 
--- what the step makes of its sources
+-- the result of the step's operation on its sources
 abbrev pub result_of : Bool → ℕ → Step → List ℤ → Result ℤ Why
 result_of s B (Two op to left right) regs = two_meaning s B op (get_or regs left (pos 0)) (get_or regs right (pos 0))
 result_of s B (One op to src) regs = one_meaning s B op (get_or regs src (pos 0))
@@ -65,7 +65,7 @@ target_of (Two op to left right) = to
 target_of (One op to src) = to
 target_of (By op to src amount) = to
 
--- the registers with the result at their place, or why there is none
+-- the registers after the step, or why it has no result
 abbrev pub meaning : Bool → ℕ → Step → List ℤ → Result (List ℤ) Why
 meaning s B step regs = result_map_both (set regs (target_of step)) (λ why. why) (result_of s B step regs)
 

@@ -8,7 +8,7 @@ use Rattle.arbitrary_int.specs.declared.steps.Step.{Step}
 use Rattle.arbitrary_int.specs.declared.steps.Step.TheVariants.{Two, One, By}
 use Rattle.arbitrary_int.specs.declared.steps.Stop.{Stop}
 
--- the step is a low-bit step of the width B: the low bits of what it gives depend on the low bits of its sources alone
+-- the step is a low-bit step of the width B: the low bits of its result depend only on the low bits of its sources
 abbrev pub IsLowBit : ℕ → Step → Type 0
 IsLowBit B (Two WrappingAdd to left right) = Unit {0}
 IsLowBit B (Two WrappingSub to left right) = Unit {0}
@@ -34,7 +34,7 @@ abbrev pub carried_out : Result ⊤ Stop → List Step → List Step
 carried_out (Ok u) steps = steps
 carried_out (Err stop) steps = take stop.at steps
 
--- each number of the sign s and the width A is one of the sign t and the width B
+-- each number of the type with the sign s and the width A is also one of the type with the sign t and the width B
 pub record RangeWithin (s : Bool) (A : ℕ) (t : Bool) (B : ℕ) : Type 0 where
   pub low : lo t B ≤ℤ lo s A
   pub high : hi s A ≤ℤ hi t B

@@ -23,7 +23,7 @@ abbrev pub ending_text : Result ⊤ Stop → List ℕ
 ending_text (Ok u) = codes "done"
 ending_text (Err stop) = codes "stopped at " ++ decimal stop.at ++ codes ": " ++ cause_text stop.why
 
--- the registers with one space between, and how the run ended, each on its line
+-- a line of the registers with one space between two of them, and a line that says how the run ended
 abbrev pub output_text : List ℤ × Result ⊤ Stop → List ℕ
 output_text run = join_with_byte 32 (map signed_decimal run.0) ++ 10 ∷ (ending_text run.1 ++ 10 ∷ [])
 
@@ -47,7 +47,7 @@ pub record IsOutput (input text : List ℕ) : Type 0 where
 abbrev pub after_space : ℤ → List ℕ
 after_space x = 32 ∷ signed_decimal x
 
--- the output of the lines from the second on, where the first names a type of the sign s and the width B, and a way to write a run
+-- the output of the lines from the second on; the first line gives the sign s and the width B of the type, and `write`
 pub record IsOutputAt (s : Bool) (B : ℕ) (write : List ℤ × Result ⊤ Stop → List ℕ) (second : List (List ℕ)) (later : List (List (List ℕ))) (text : List ℕ) : Type 0 where
   pub registers : List ℤ
   pub steps : List Step

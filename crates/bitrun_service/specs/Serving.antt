@@ -7,8 +7,8 @@ use Rattle.arbitrary_int.specs.Streams.{AppendsBeginning}
 use Rattle.bitrun_text.specs.declared.fault.Fault.{Fault}
 use Rattle.bitrun_text.specs.declared.fault.Fault.TheVariants.{Line, TooLong, Read, Write}
 
--- `held` is the input, all that the reader held before, and `left` what it holds afterwards; `before` and `after` are
--- what the writer took; the flags are whether a call failed. An input with an output has no bad line, as
+-- `held` is the input, all bytes of the reader before, and `left` are its bytes afterwards; `before` and `after` are the
+-- bytes that the writer has accepted; the flags are whether a call failed. An input with an output has no bad line, as
 -- `laws::every_line_is_fine` states
 pub record Serves (held left : Option (List ℕ)) (reader_failed : Bool) (before after : Option (List ℕ)) (writer_failed : Bool) (result : Result ⊤ Fault) : Type 0 where
   -- what is written is the output, and nothing else

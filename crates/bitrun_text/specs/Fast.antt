@@ -15,7 +15,7 @@ words_at text at = (left_of (drop at text)).words
 abbrev pub later_at : List ℕ → ℕ → List (List (List ℕ))
 later_at text at = (left_of (drop at text)).later
 
--- no word goes on where the text begins
+-- no word continues at the beginning of the text
 abbrev pub Ends : List ℕ → Type 0
 Ends text = position_or_len ends_word text ≡ 0
 
@@ -32,7 +32,7 @@ pub record BeginsWithDigits (text : List ℕ) (number : ℕ) (rest : List ℕ) :
   pub reads : Reads text count number
   pub follows : rest ≡ drop count text
 
--- so it does after blanks
+-- the same, after blanks
 pub record BeginsWithNumber (text : List ℕ) (number : ℕ) (rest : List ℕ) : Type 0 where
   pub solid : List ℕ
   pub same : left_of solid ≡ left_of text

@@ -11,19 +11,19 @@ use Rattle.bitrun_text.specs.declared.fault.Fault.{Fault}
 use Rattle.bitrun_text.specs.declared.fault.Fault.TheVariants as faults
 use Rattle.bitrun_text.specs.declared.kind.Kind.{Kind}
 
--- the lines are one that names the type, one whose words are numerals of the registers, each in range, and one
--- for each step, where lines without words are left out
+-- the first line names the type, the second has the numbers of the registers, each in range, and each later line
+-- that has words is a step
 pub record Form (lines : List (List (List ℕ))) (kind : Kind) (registers : List ℤ) (steps : List Step) : Type 0 where
   pub names_kind : option_and_then kind_named (slice_get lines 0) ≡ Some kind
   pub holds_registers : IsSomeAnd (slice_get lines 1) (λ words. AllZip (λ word x. value_named (type_row (type_of kind)).1 (type_row (type_of kind)).2 word ≡ Some x) words registers)
   pub names_steps : AllZip (λ words step. step_named (length registers) words ≡ Some step) (filter has_items (drop 2 lines)) steps
 
--- with some lines after them these lines are of the form
+-- some lines after these lines make a valid text
 unfoldable pub BeginsForm : List (List (List ℕ)) → Type 0
 BeginsForm lines = (more : List (List (List ℕ))) × (kind : Kind) × (registers : List ℤ) × (steps : List Step) × Form (lines ++ more) kind registers steps
 
--- the first bad line, counted from 1: the lines before it begin the form, and with it they don't; or it is missing, and is the first
--- or the second
+-- the first bad line, counted from 1: the lines before it begin a valid text, and with it they do not; or the first or the second
+-- line is missing
 pub record BadLine (input : List ℕ) (line : ℕ) : Type 0 where
   pub before : BeginsForm (take (line - 1) (word_lines input))
   pub bad : BeginsForm (take line (word_lines input)) → (line ≡ length (word_lines input) + 1) × (line ≤ 2)
@@ -39,7 +39,7 @@ abbrev pub HasStepForm : ℕ → List (List ℕ) → Type 0
 HasStepForm count [] = Unit {0}
 HasStepForm count (word ∷ words) = IsSome (step_named count (word ∷ words))
 
--- the word is a numeral of x, and a type of the sign s and the width B has x
+-- the word writes the number x, which is in range of the type with the sign s and the width B
 abbrev pub IsValue : Bool → ℕ → List ℕ → ℤ → Type 0
 IsValue s B word x = value_named s B word ≡ Some x
 
@@ -47,7 +47,7 @@ IsValue s B word x = value_named s B word ≡ Some x
 abbrev pub IsStep : ℕ → List (List ℕ) → Step → Type 0
 IsStep count words step = step_named count words ≡ Some step
 
--- the first item without P has i items before it
+-- i items come before the first item without P
 abbrev pub FirstBad : {X : Type 0} → (X → Type 0) → List X → ℕ → Type 0
 FirstBad P [] i = ⊥
 FirstBad P (x ∷ xs) zero = P x → ⊥
@@ -61,7 +61,7 @@ pub record ReadSoFar (count : ℕ) (all : List (List (List ℕ))) (steps : List 
   pub counted : number + length left ≡ 2 + length all
   pub start : 2 ≤ number
 
--- what the lines after the second may give in place of steps
+-- the faults that the lines after the second can have
 abbrev pub StepsFault : ℕ → List (List (List ℕ)) → Fault → Type 0
 StepsFault count later (faults.Line k) = (i : ℕ) × (k ≡ i + 3) × FirstBad (HasStepForm count) later i
 StepsFault count later faults.Memory = Unit {0}
@@ -69,7 +69,7 @@ StepsFault count later faults.TooLong = ⊥
 StepsFault count later faults.Read = ⊥
 StepsFault count later faults.Write = ⊥
 
--- what the lines from the second on may give: the second is bad, or it isn't and a later one is
+-- the faults that the lines from the second on can have: the second is bad, or a later one is
 abbrev pub LinesFault : Bool → ℕ → List (List ℕ) → List (List (List ℕ)) → Fault → Type 0
 LinesFault s B second later (faults.Line k) = ((k ≡ 2) × (HasRegistersForm s B second → ⊥))
     ⊎ (HasRegistersForm s B second × StepsFault (length second) later (faults.Line k))
@@ -78,7 +78,7 @@ LinesFault s B second later faults.TooLong = ⊥
 LinesFault s B second later faults.Read = ⊥
 LinesFault s B second later faults.Write = ⊥
 
--- what an input may give in place of a program
+-- the faults that an input can have
 abbrev pub FormFault : List ℕ → Fault → Type 0
 FormFault input (faults.Line k) = BadLine input k
 FormFault input faults.Memory = Unit {0}

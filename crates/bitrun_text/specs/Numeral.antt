@@ -6,11 +6,11 @@ use Rattle.std.specs.Str.Parse.{digits_value}
 use Rattle.arbitrary_int.specs.Range.{in_range}
 use Rattle.bitrun_text.specs.Text.{has_items}
 
--- what one or more decimal digits write
+-- the number that one or more decimal digits write
 unfoldable pub number_in : List ℕ → Option ℕ
 number_in word = if has_items word && all_ascii_digits word then Some (digits_value 10 word) else None
 
--- what one or more decimal digits write, perhaps after a minus sign
+-- the number that one or more decimal digits write, with or without a minus sign before them
 unfoldable pub integer_in : List ℕ → Option ℤ
 integer_in [] = None
 integer_in (byte ∷ bytes) = if byte == 45 then option_map (λ n. neg_ℤ (pos n)) (number_in bytes) else option_map pos (number_in (byte ∷ bytes))
@@ -19,7 +19,7 @@ integer_in (byte ∷ bytes) = if byte == 45 then option_map (λ n. neg_ℤ (pos 
 unfoldable pub number_below : ℕ → List ℕ → Option ℕ
 number_below limit word = option_and_then (λ n. if nat_lt n limit then Some n else None) (number_in word)
 
--- the number that a word is a numeral of, if the type has it
+-- the number that a word writes, if it is in range
 unfoldable pub value_named : Bool → ℕ → List ℕ → Option ℤ
 value_named s B word = option_and_then (λ x. then_some (in_range s B x) x) (integer_in word)
 
@@ -30,7 +30,7 @@ abbrev pub first_number : ℕ → List (List ℕ) → Option (ℕ × List (List 
 first_number limit [] = None
 first_number limit (word ∷ words) = option_map (λ n. (n, words)) (number_below limit word)
 
--- more than a type of 120 bits has
+-- there is no number, or it is out of range of each type of 120 bits
 abbrev pub IsFar : Option ℤ → Type 0
 IsFar None = ⊤
 IsFar (Some x) = 2 ^ 120 ≤ unsigned_abs x

@@ -47,6 +47,6 @@ step_named count (word ∷ operands) = option_and_then (λ operation. step_with 
 
 -- ---- what the parts of the reader say
 
--- the step, where no words are left
+-- the step, if no words are left
 abbrev pub at_end : List (List ℕ) → Step → Option Step
 at_end words step = if length words == 0 then Some step else None
