@@ -1,15 +1,14 @@
 #!/usr/bin/env python3
 """calls_table.py [BINARY] [--only WORD]
 
-Prints the instructions of one call, compared with three other implementations. Callgrind counts a function that makes the call alone, on
-numbers in their storage, without its return. BINARY is the program of crates/bench_calls, by default crates/bench_calls/out/bench_calls, which
-`rt run` leaves there.
+Prints the instructions of each call in a function of its own, here and in three other implementations, whose figures and their origin are in
+calls_peers.txt. Callgrind counts the function with the functions that it calls, without its return, on numbers in their storage. BINARY is the
+program of crates/bench_calls, by default crates/bench_calls/out/bench_calls, which `rt run` leaves there.
 
-There are fourteen calls and six types. Most calls have operands whose result is in range, and operands whose result is out of range.
-calls_peers.txt has the figures of the other implementations, and says how they were counted. Those of this library are counted again, with
-the functions that the function calls. Two kinds of rows count in no mean. The powers of the other implementations had operands of other sizes,
-which change the cost. Products of 120 bits by `checked_mul` and `saturating_mul` branch on the sizes. Half of the operands at the ends are next
-to the least number, where an unsigned result is in range. A function of the program need not pass 128 bits as C does, which can save moves.
+There are fourteen calls and six types. Most calls have operands whose result is in range, and operands whose result is out of range. The means
+leave out two kinds of rows whose cost depends on the size of the operands: powers, for which the other implementations had operands of other
+sizes, and products of 120 bits by `checked_mul` and `saturating_mul`. Half of the operands at the ends are next to the least number, where an
+unsigned result is in range. A function of the program need not pass 128 bits as C does, which can save moves.
 """
 import argparse
 import math
@@ -76,11 +75,10 @@ def main():
     rows = [row for row in lines if options.only in ' '.join(row)]
     with ThreadPoolExecutor(os.cpu_count()) as pool:
         counts = list(pool.map(lambda row: instructions(os.path.abspath(options.binary), words_of(*row[:3])), rows))
-    print('| Call | Type | Operands | now | before | crate | `_BitInt` | C | to the best |')
-    print('|---|---|---|---:|---:|---:|---:|---:|---:|')
+    print('| Call | Type | Operands | here | crate | `_BitInt` | C | to the best |\n|---|---|---|---:|---:|---:|---:|---:|')
     ratios = {'u': [], 'i': []}
     for row, count in zip(rows, counts):
-        best = min(float(figure) for figure in row[4:] if figure != '-')
+        best = min(float(figure) for figure in row[3:] if figure != '-')
         if row[0] != 'saturating_pow' and not (row[1].endswith('120') and row[0] in ('checked_mul', 'saturating_mul')):
             ratios[row[1][0]].append(count / best)
         print(f'| `{row[0]}` | `{row[1]}` | {row[2]} | {count:.1f} | ' + ' | '.join(row[3:]) + f' | {count / best:.2f} |')

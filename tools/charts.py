@@ -3,8 +3,9 @@
 
 Fails unless the pictures in docs/pictures are what it draws, and layout.py accepts them. It draws two charts of the tables in
 tools/measured.txt, a put into a record, the square of `run` and `run_wide`, and the layers of crates.txt. It also fails unless the rows of
-the tables in docs/PERFORMANCE.md are those of tools/measured.txt, or follow from them. With --write it draws the pictures and writes these
-tables. The background is transparent, and the colours are readable on a light and on a dark page.
+the tables in docs/PERFORMANCE.md are those of tools/measured.txt, or follow from them, and unless the figures of the Rust crate there are those of
+tools/loops_peers.txt. With --write it draws the pictures and writes these tables. The background is transparent, and the colours are readable on
+a light and on a dark page.
 """
 import math
 import re
@@ -15,7 +16,7 @@ from pathlib import Path
 import layout
 
 ROOT = Path(__file__).resolve().parent.parent
-MEASURED = ROOT / 'tools/measured.txt'
+MEASURED, PEERS = ROOT / 'tools/measured.txt', ROOT / 'tools/loops_peers.txt'
 PAGE = ROOT / 'docs/PERFORMANCE.md'
 # The first cells of the heads of tables.
 CALL, PROGRAM = 'Call in a loop, an element', 'Program, an item'
@@ -296,6 +297,14 @@ def page_tables(page):
     return '\n'.join(kept) + '\n', wrong
 
 
+def peers():
+    """What is wrong with the stored figures of the Rust crate in loops: they are those of loops_peers.txt."""
+    lines = (line.split() for line in PEERS.read_text().splitlines() if line.startswith('loop '))
+    crate = {(call, kind): figure for _, call, kind, figure in lines}
+    stored = {(row[CALL].strip('`'), row['Type'].strip('`')): row['crate'] for row in rows_of(CALL)}
+    return [f'{MEASURED}: not as in {PEERS}: {key}' for key in sorted(crate.keys() | stored.keys()) if crate.get(key) != stored.get(key)]
+
+
 def row_key(row):
     """What names a row: its first cell, and the type in its second."""
     return tuple(row[:2]) if len(row) > 2 and row[1].startswith('`') else (row[0],)
@@ -311,6 +320,7 @@ def main():
     if is_writing:
         PAGE.write_text(page)
         wrong = page_tables(page)[1]
+    wrong += peers()
     for name, picture_text in drawn.items():
         file = PICTURES / name
         wrong += [f'{file}: {fault}' for fault in layout.faults(picture_text)]

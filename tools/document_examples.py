@@ -3,8 +3,9 @@
 
 Fails unless the gate proves or runs what the documents show. The examples in docs/CALLS.md and the table "In Rust you wrote" in
 docs/DIFFERENCES.md must be tests. The functions in the README and in docs/PROVING.md must be in crates/pages, and each line that these two pages
-call refused must be an edit there. What these pages quote of the prover's words must be in a line `says:` of an edit. docs/SETS.md must list every public set and group of laws, and each fact there must be in a crate that is
-proved. With --write the script writes the tests from the tables; run `rt fmt` in their crates afterwards.
+call refused must be an edit there. What these pages quote of the prover's words must be in a line `says:` of an edit. docs/SETS.md must list
+every public set and group of laws, and each fact there must be in a crate that is proved. With --write the script writes the tests from the
+tables; run `rt fmt` in their crates afterwards.
 """
 import re
 import sys

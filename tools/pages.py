@@ -14,11 +14,11 @@ import names
 
 ROOT = Path(__file__).resolve().parent.parent
 WORDS = {
-    'README.md': 1100, 'CONTRIBUTING.md': 850, 'CHANGELOG.md': 300, 'docs/ARCHITECTURE.md': 500, 'docs/CALLS.md': 3150, 'docs/DECISIONS.md': 2000,
-    'docs/DIFFERENCES.md': 1550, 'docs/GLOSSARY.md': 750, 'docs/PERFORMANCE.md': 1200, 'docs/PROVED.md': 900, 'docs/PROVING.md': 2500,
-    'docs/SETS.md': 700,
+    'README.md': 850, 'CONTRIBUTING.md': 800, 'CHANGELOG.md': 250, 'docs/ARCHITECTURE.md': 450, 'docs/CALLS.md': 3150, 'docs/DECISIONS.md': 1350,
+    'docs/DIFFERENCES.md': 1500, 'docs/GLOSSARY.md': 750, 'docs/PERFORMANCE.md': 950, 'docs/PROVED.md': 850, 'docs/PROVING.md': 2450,
+    'docs/SETS.md': 750,
 }
-ALL_WORDS = 16000
+ALL_WORDS = 14000
 README_LINES = 90
 SENTENCE = 30
 
