@@ -265,7 +265,8 @@ def summary():
     def shown(kinds):
         calls = [(number(row['ratio']), f'{row[CALL]} of {row["Type"]}') for row in rows_of(CALL) if row['Type'].strip('`') in kinds]
         most, worst = max(calls)
-        return f'{mean([share for share, _ in calls]):.2f}; worst {most:.2f} ({worst})'
+        average = f'{mean([share for share, _ in calls]):.2f}'
+        return average if len(kinds) == 1 else f'{average}; worst {most:.2f} ({worst})'
     return [
         ['unsigned calls in loops', shown(['u7', 'u14', 'u120'])],
         *([f'of these `{kind}`', shown([kind])] for kind in ('u7', 'u14', 'u120')),

@@ -1,3 +1,4 @@
+-- The definitions that contracts cite, in this crate and above.
 pub mod Range
 pub mod Residue
 pub mod Field

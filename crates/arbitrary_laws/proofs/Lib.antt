@@ -1,3 +1,4 @@
+-- The laws for callers, one folder for each topic. Sets.antt has the public sets.
 pub mod Everyday
 pub mod Sets
 pub mod bits

@@ -1,3 +1,4 @@
+-- Laws of `&`, `|`, `^` and `!`.
 pub mod AtMostOneBit
 pub mod BitByBit
 pub mod BitSums

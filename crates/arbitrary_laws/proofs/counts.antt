@@ -1,3 +1,4 @@
+-- Laws of counts of ones and zeros.
 pub mod ConvertedCounts
 pub mod CountBounds
 pub mod LeadingZeros

@@ -1,3 +1,4 @@
+-- Laws of fields in a word: joined, written and read back.
 pub mod EmptyWord
 pub mod FieldReads
 pub mod JoinedFields

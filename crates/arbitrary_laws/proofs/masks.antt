@@ -1,3 +1,4 @@
+-- Laws of numbers under constant and variable masks.
 pub mod FlagTests
 pub mod LowMask
 pub mod MaskTests

@@ -1,3 +1,4 @@
+-- Laws of conversions, quotients, remainders and text.
 pub mod Conversions
 pub mod QuotientAndCube
 pub mod QuotientOrder

@@ -1,3 +1,4 @@
+-- Laws of `<`, `<=` and `==` of results.
 pub mod EqualResults
 pub mod Order
 pub mod SignedOrder

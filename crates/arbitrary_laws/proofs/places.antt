@@ -1,3 +1,4 @@
+-- Laws of single bits, at constant and variable places.
 pub mod BitPlaces
 pub mod BitTests
 pub mod LowestBit

@@ -1,3 +1,4 @@
+-- Laws of rotations and reversals.
 pub mod BackRotations
 pub mod RightRotations
 pub mod RotatedLists

@@ -1,3 +1,4 @@
+-- Laws of shifts.
 pub mod FoldingOrder
 pub mod MovedProducts
 pub mod ShiftPairs

@@ -1,3 +1,4 @@
+-- Laws of signs: as masks, in comparisons, and of overflow.
 pub mod Extensions
 pub mod OverflowBits
 pub mod SignExtensions

@@ -1,3 +1,4 @@
+-- Laws of lists of steps and of ranges.
 pub mod StepWords
 pub mod RangeNumbers
 pub mod Rulesets

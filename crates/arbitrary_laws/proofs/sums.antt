@@ -1,3 +1,4 @@
+-- Laws of sums, differences and products that wrap.
 pub mod Averages
 pub mod CongruentChains
 pub mod Distances

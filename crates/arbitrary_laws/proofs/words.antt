@@ -1,3 +1,4 @@
+-- Laws of words of fields under constant masks, as quotients and remainders.
 pub mod LowestOne
 pub mod LowestZeros
 pub mod WrittenMasks

@@ -1,3 +1,4 @@
+-- Laws of literals.
 pub mod AnyWidth
 pub mod KnownBytes
 pub mod KnownCalls
