@@ -7,8 +7,8 @@ ghost use Rattle.arbitrary_base.specs.BitList.{bits as bit_list, val};
 use crate::storage::Storage;
 use crate::truncation::from_low_bits;
 
-/// The number whose bits are `bits` bits of `source`, from bit `start_bit` on. Requires that
-/// `source` has all of them.
+/// The number whose bits are `bits` bits of `source`, from bit `start_bit` on. The source must have
+/// all of them.
 pub fn extract<S: Storage, T: Storage>(source: S, start_bit: usize, bits: usize) -> T
     requires width { 1 ≤ bits }
     requires storage { bits ≤ T.WIDTH }

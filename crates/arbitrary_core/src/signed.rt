@@ -76,8 +76,8 @@ where
         1 <= BITS && BITS <= T::WIDTH
     }
 
-    /// The value of a number. Requires a valid width, which `is_valid_width` tests, and a number in
-    /// range, which `try_new` tests.
+    /// The value with this number, which must be in range: `try_new` tests it. Requires a valid
+    /// width, which `is_valid_width` tests.
     #[tactic(auto, using(crate::proofs::StoredBits::stored))]
     pub fn new(value: T) -> Self
         requires width { IsInRange 1 T.WIDTH BITS }
@@ -100,7 +100,8 @@ where
         Int::<T, BITS>::new(value)
     }
 
-    /// The value of a number, or an error exactly if it is out of range. Requires a valid width.
+    /// The value with this number, or an error exactly if it is out of range. Requires a valid
+    /// width.
     pub fn try_new(value: T) -> Result<Self, TryNewError>
         requires width { IsInRange 1 T.WIDTH BITS }
         ensures { MatchResult result
@@ -146,8 +147,8 @@ where
         self.bits
     }
 
-    /// The value with these bits. Requires a valid width, and bits below `2 ^ BITS`, which
-    /// `try_from_bits` tests.
+    /// The value with these bits, which must be below `2 ^ BITS`: `try_from_bits` tests it.
+    /// Requires a valid width.
     #[tactic(auto, using(crate::proofs::StoredBits::stored))]
     pub const fn from_bits(bits: T::Unsigned) -> Self
         requires width { IsInRange 1 T.WIDTH BITS }
@@ -267,7 +268,7 @@ where
         Int::<T, R>::new(self.value())
     }
 
-    /// The value of an `i8`. Requires a valid width, and a number in range.
+    /// The value with the number of this `i8`, which must be in range. Requires a valid width.
     pub fn from_i8(value: i8) -> Self
         requires width { IsInRange 1 T.WIDTH BITS }
         requires value_in_range { InRange T.SIGNED BITS value }
@@ -276,7 +277,7 @@ where
         Int::<T, BITS>::new(cast(value, BITS))
     }
 
-    /// The value of an `i16`. Requires a valid width, and a number in range.
+    /// The value with the number of this `i16`, which must be in range. Requires a valid width.
     pub fn from_i16(value: i16) -> Self
         requires width { IsInRange 1 T.WIDTH BITS }
         requires value_in_range { InRange T.SIGNED BITS value }
@@ -285,7 +286,7 @@ where
         Int::<T, BITS>::new(cast(value, BITS))
     }
 
-    /// The value of an `i32`. Requires a valid width, and a number in range.
+    /// The value with the number of this `i32`, which must be in range. Requires a valid width.
     pub fn from_i32(value: i32) -> Self
         requires width { IsInRange 1 T.WIDTH BITS }
         requires value_in_range { InRange T.SIGNED BITS value }
@@ -294,7 +295,7 @@ where
         Int::<T, BITS>::new(cast(value, BITS))
     }
 
-    /// The value of an `i64`. Requires a valid width, and a number in range.
+    /// The value with the number of this `i64`, which must be in range. Requires a valid width.
     pub fn from_i64(value: i64) -> Self
         requires width { IsInRange 1 T.WIDTH BITS }
         requires value_in_range { InRange T.SIGNED BITS value }
@@ -303,7 +304,7 @@ where
         Int::<T, BITS>::new(cast(value, BITS))
     }
 
-    /// The value of an `i128`. Requires a valid width, and a number in range.
+    /// The value with the number of this `i128`, which must be in range. Requires a valid width.
     pub fn from_i128(value: i128) -> Self
         requires width { IsInRange 1 T.WIDTH BITS }
         requires value_in_range { InRange T.SIGNED BITS value }

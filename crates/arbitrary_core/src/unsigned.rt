@@ -60,8 +60,8 @@ impl<T: UnsignedStorage, const BITS: usize> UInt<T, BITS> {
         1 <= BITS && BITS <= T::WIDTH
     }
 
-    /// The value of a number. Requires a valid width, which `is_valid_width` tests, and a number in
-    /// range, which `try_new` tests.
+    /// The value with this number, which must be in range: `try_new` tests it. Requires a valid
+    /// width, which `is_valid_width` tests.
     pub const fn new(value: T) -> Self
         requires width { IsInRange 1 T.WIDTH BITS }
         requires value_in_range { InRange T.SIGNED BITS (T.number value) }
@@ -80,7 +80,8 @@ impl<T: UnsignedStorage, const BITS: usize> UInt<T, BITS> {
         UInt::new(value)
     }
 
-    /// The value of a number, or an error exactly if it is out of range. Requires a valid width.
+    /// The value with this number, or an error exactly if it is out of range. Requires a valid
+    /// width.
     pub fn try_new(value: T) -> Result<Self, TryNewError>
         requires width { IsInRange 1 T.WIDTH BITS }
         ensures { MatchResult result
@@ -138,7 +139,7 @@ impl<T: UnsignedStorage, const BITS: usize> UInt<T, BITS> {
         UInt::new(extraction::extract(value, start_bit, BITS))
     }
 
-    /// The value of a `u8`. Requires a valid width, and a number in range.
+    /// The value with the number of this `u8`, which must be in range. Requires a valid width.
     #[tactic(auto, using(arbitrary_base::proofs::storages::CheckedSum::fitting))]
     pub fn from_u8(value: u8) -> Self
         requires width { IsInRange 1 T.WIDTH BITS }
@@ -148,7 +149,7 @@ impl<T: UnsignedStorage, const BITS: usize> UInt<T, BITS> {
         UInt::new(cast(value, BITS))
     }
 
-    /// The value of a `u16`. Requires a valid width, and a number in range.
+    /// The value with the number of this `u16`, which must be in range. Requires a valid width.
     #[tactic(auto, using(arbitrary_base::proofs::storages::CheckedSum::fitting))]
     pub fn from_u16(value: u16) -> Self
         requires width { IsInRange 1 T.WIDTH BITS }
@@ -158,7 +159,7 @@ impl<T: UnsignedStorage, const BITS: usize> UInt<T, BITS> {
         UInt::new(cast(value, BITS))
     }
 
-    /// The value of a `u32`. Requires a valid width, and a number in range.
+    /// The value with the number of this `u32`, which must be in range. Requires a valid width.
     #[tactic(auto, using(arbitrary_base::proofs::storages::CheckedSum::fitting))]
     pub fn from_u32(value: u32) -> Self
         requires width { IsInRange 1 T.WIDTH BITS }
@@ -168,7 +169,7 @@ impl<T: UnsignedStorage, const BITS: usize> UInt<T, BITS> {
         UInt::new(cast(value, BITS))
     }
 
-    /// The value of a `u64`. Requires a valid width, and a number in range.
+    /// The value with the number of this `u64`, which must be in range. Requires a valid width.
     #[tactic(auto, using(arbitrary_base::proofs::storages::CheckedSum::fitting))]
     pub fn from_u64(value: u64) -> Self
         requires width { IsInRange 1 T.WIDTH BITS }
@@ -178,7 +179,7 @@ impl<T: UnsignedStorage, const BITS: usize> UInt<T, BITS> {
         UInt::new(cast(value, BITS))
     }
 
-    /// The value of a `u128`. Requires a valid width, and a number in range.
+    /// The value with the number of this `u128`, which must be in range. Requires a valid width.
     #[tactic(auto, using(arbitrary_base::proofs::storages::CheckedSum::fitting))]
     pub fn from_u128(value: u128) -> Self
         requires width { IsInRange 1 T.WIDTH BITS }

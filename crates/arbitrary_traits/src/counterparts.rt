@@ -5,8 +5,8 @@ ghost use Rattle.std.proofs.Common.{refl};
 
 use crate::integer::{Integer, SignedInteger, UnsignedInteger};
 
-/// The unsigned type of the same width as `S`, between which `to_unsigned` and `from_unsigned` of
-/// `S` convert. Generic code requires it by `S::UnsignedInteger: UnsignedCounterpart<S>`.
+/// The unsigned type of the same width as `S`, to which `to_unsigned` of `S` converts. Generic code
+/// requires it by `S::UnsignedInteger: UnsignedCounterpart<S>`.
 pub trait UnsignedCounterpart<S: Integer<UnsignedInteger = Self>>: UnsignedInteger {
     ghost width_law: { Self.BITS ≡ S.BITS };
 

@@ -80,13 +80,15 @@ pub trait Integer: Numbered
         requires { Self.valid }
         ensures { Self.number result ≡ pos 0 };
 
-    /// The value of a number. Requires a valid width, and a number in range, which `try_new` tests.
+    /// The value with this number, which must be in range: `try_new` tests it. Requires a valid
+    /// width.
     fn new(value: Self::UnderlyingType) -> Self
         requires width { Self.valid }
         requires value_in_range { InRange Self.IS_SIGNED Self.BITS (underlying value) }
         ensures { Self.number result ≡ underlying value };
 
-    /// The value of a number, or an error exactly if it is out of range. Requires a valid width.
+    /// The value with this number, or an error exactly if it is out of range. Requires a valid
+    /// width.
     fn try_new(value: Self::UnderlyingType) -> Result<Self, TryNewError>
         requires { Self.valid }
         ensures { let given = underlying value in MatchResult result

@@ -43,8 +43,8 @@ pub trait Numbered: Copy + Sealed {
         ensures undo { (y : ℤ) → let low = residue 128 y in
             InRange IS_SIGNED BITS y → pattern ≡ low → number result ≡ y };
 
-    /// The same number, of any other type. Requires a valid width, and a number in range of this
-    /// type.
+    /// The same number, of any other type, which must be in range of this one. Requires a valid
+    /// width.
     final fn from_<T: Numbered>(value: T) -> Self
         requires width { valid }
         requires value_in_range { let given = T.number value in

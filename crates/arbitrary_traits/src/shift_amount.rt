@@ -10,7 +10,7 @@ pub trait ShiftAmount: Sealed + Copy {
     // The number of a value.
     ghost amount: { Self → ℤ };
 
-    /// The amount. Requires a number from 0 to `2 ^ 64 - 1`.
+    /// The amount, which must be from 0 to `2 ^ 64 - 1`.
     fn to_amount(self) -> usize
         requires low { pos 0 ≤ℤ amount self }
         requires high { amount self <ℤ pos (2 ^ 64) }

@@ -42,7 +42,8 @@ pub trait Number: UnsignedInteger + Integer<UnderlyingType = <Self as Number>::U
         <Self as Integer>::max_value()
     }
 
-    /// The value of a number. Requires a valid width, and a number in range, which `try_new` tests.
+    /// The value with this number, which must be in range: `try_new` tests it. Requires a valid
+    /// width.
     final fn new(value: <Self as Number>::UnderlyingType) -> Self
         requires width { Self.valid }
         requires value_in_range { InRange Self.IS_SIGNED Self.Numbered.BITS
@@ -52,7 +53,8 @@ pub trait Number: UnsignedInteger + Integer<UnderlyingType = <Self as Number>::U
         <Self as Integer>::new(value)
     }
 
-    /// The value of a number, or an error exactly if it is out of range. Requires a valid width.
+    /// The value with this number, or an error exactly if it is out of range. Requires a valid
+    /// width.
     final fn try_new(value: <Self as Number>::UnderlyingType) -> Result<Self, TryNewError>
         requires { Self.valid }
         ensures { let given = Self.underlying value in MatchResult result
@@ -71,8 +73,8 @@ pub trait Number: UnsignedInteger + Integer<UnderlyingType = <Self as Number>::U
         <Self as Integer>::value(self)
     }
 
-    /// The same number, of any other unsigned type. Requires a valid width, and a number in range
-    /// of this type.
+    /// The same number, of any other unsigned type, which must be in range of this one. Requires a
+    /// valid width.
     final fn from_<T: Number>(value: T) -> Self
         requires width { Self.valid }
         requires value_in_range { InRange Self.IS_SIGNED Self.Numbered.BITS (T.number value) }
