@@ -3,8 +3,8 @@
 
 Checks names and lengths. A module of specs/ must have the name of the module of src/ whose contracts cite it. SHARED lists the modules of
 specs/ that several modules of src/ use. A folder of proofs/ with Answers.antt must have the name of a module or an item of src/, so no proof
-outlives its module. A line of a clause, or of a ghost member of a library, has at most 100 columns. A file has at most 400 lines, unless LONG
-lists it. The subject of the last commit has at most 72 columns. The script prints what breaks a rule, and fails if it prints anything.
+outlives its module. A line of a clause, or of a ghost member of a library, has at most 100 columns. A file has at most 400 lines. The
+subject of the last commit has at most 72 columns. The script prints what breaks a rule, and fails if it prints anything.
 """
 import re
 import subprocess
@@ -15,8 +15,6 @@ CRATES = Path(__file__).resolve().parent.parent / 'crates'
 COLUMNS = 100
 LINES = 400
 SUBJECT = 72
-# A trait of one topic whose laws belong together.
-LONG = ['arbitrary_calls/src/fixed_width.rt']
 # the words of several modules, or of a crate above
 SHARED = {
     'arbitrary_base': ['Range', 'Residue', 'Field', 'BitList', 'Operation', 'Assigned', 'Order'],
@@ -66,7 +64,7 @@ def main():
     wrong = [line for crate in LIBRARIES for line in misnamed(crate)]
     for file in sorted([*CRATES.glob('*/*/**/*.rt'), *CRATES.glob('*/*/**/*.antt')]):
         count = file.read_text().count('\n')
-        if count > LINES and 'out' not in file.parts and str(file.relative_to(CRATES)) not in LONG:
+        if count > LINES and 'out' not in file.parts:
             wrong.append(f'{file}: {count} lines')
     wrong += [line for file in sorted(CRATES.glob('*/src/**/*.rt')) for line in too_long(file)]
     subject = subprocess.check_output(['git', 'log', '-1', '--no-merges', '--format=%s'], cwd=CRATES, text=True).strip()

@@ -54,7 +54,6 @@ FIGURES = [
     (r'processors of (\S+) GHz', *source(MEASURED, r'processors of (\S+) GHz')),
     (r'one `FixedWidth`\s+type takes (\S+) seconds', *source(MEASURED, r'one `FixedWidth` type \| (\S+)')),
     (r'over two (\d\.\d)', *source(MEASURED, r'two `FixedWidth` types \| (\S+)')),
-    (r'`BitwiseOperators`\s+type (\d\.\d)', *source(MEASURED, r'one `BitwiseOperators` type \| (\S+)')),
     (r'two `Integer`\s+types (\d\.\d)', *source(MEASURED, r'two `Integer` types \| (\S+)')),
     (r'`wadd` costs (\d+) instructions', *source(MEASURED, r'`wadd`, .*? \| (\d+)')),
     (r'ordinary Rust (\d+) to', *source(MEASURED, r'`wadd`, .* (\d+) to')),

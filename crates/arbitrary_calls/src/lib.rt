@@ -1,7 +1,6 @@
 //! The calls of integers of fixed width, for `UInt` and `Int`.
 #![tactic(auto)]
 
-pub mod bitwise;
 pub mod calls;
 pub mod extraction;
 pub mod fixed_width;

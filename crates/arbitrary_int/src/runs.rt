@@ -8,7 +8,7 @@ ghost use Rattle.arbitrary_int.specs.Runs.{RunOf};
 ghost use Rattle.arbitrary_int.specs.Widths.{RangeWithin, carried_out, IsCheckedArithmetic};
 
 use crate::steps::{ByOp, OneOp, Step, Stop, TwoOp, Why};
-use arbitrary_calls::bitwise::BitwiseOperators;
+use arbitrary_calls::fixed_width::FixedWidth;
 use arbitrary_traits::integer::Integer;
 
 /// Whether each register number of the steps is below `n`.
@@ -43,7 +43,7 @@ fn is_zero<R: Integer>(x: R) -> bool
 }
 
 /// The quotient, wrapped, or a stop if the divisor is zero.
-fn wrapping_quotient<R: BitwiseOperators>(x: R, y: R) -> Result<R, Why>
+fn wrapping_quotient<R: FixedWidth>(x: R, y: R) -> Result<R, Why>
     ensures { let meant = two_meaning R.IS_SIGNED R.BITS TwoOp.WrappingDiv in MatchResult result
         (λ v. meant (R.number x) (R.number y) ≡ Ok (R.number v))
         (λ why. meant (R.number x) (R.number y) ≡ Err why) }
@@ -56,7 +56,7 @@ fn wrapping_quotient<R: BitwiseOperators>(x: R, y: R) -> Result<R, Why>
 }
 
 /// The quotient, clamped, or a stop if the divisor is zero.
-fn saturating_quotient<R: BitwiseOperators>(x: R, y: R) -> Result<R, Why>
+fn saturating_quotient<R: FixedWidth>(x: R, y: R) -> Result<R, Why>
     ensures { let meant = two_meaning R.IS_SIGNED R.BITS TwoOp.SaturatingDiv in MatchResult result
         (λ v. meant (R.number x) (R.number y) ≡ Ok (R.number v))
         (λ why. meant (R.number x) (R.number y) ≡ Err why) }
@@ -70,7 +70,7 @@ fn saturating_quotient<R: BitwiseOperators>(x: R, y: R) -> Result<R, Why>
 
 /// The result of an operation on two values.
 #[tactic(auto, using(crate::proofs::StepLemmas::results))]
-fn two<R: BitwiseOperators>(op: TwoOp, x: R, y: R) -> Result<R, Why>
+fn two<R: FixedWidth>(op: TwoOp, x: R, y: R) -> Result<R, Why>
     ensures { MatchResult result
         (λ v. two_meaning R.IS_SIGNED R.BITS op (R.number x) (R.number y) ≡ Ok (R.number v))
         (λ why. two_meaning R.IS_SIGNED R.BITS op (R.number x) (R.number y) ≡ Err why) }
@@ -95,7 +95,7 @@ fn two<R: BitwiseOperators>(op: TwoOp, x: R, y: R) -> Result<R, Why>
 }
 
 /// The negated number, wrapped.
-fn negated<R: BitwiseOperators>(x: R) -> R
+fn negated<R: FixedWidth>(x: R) -> R
     ensures { R.number result ≡ wrap R.IS_SIGNED R.BITS (pos 0 -ℤ R.number x) }
 {
     // ensures that the width is valid
@@ -105,7 +105,7 @@ fn negated<R: BitwiseOperators>(x: R) -> R
 
 /// The result of an operation on one value.
 #[tactic(auto, using(crate::proofs::StepLemmas::results))]
-fn one<R: BitwiseOperators>(op: OneOp, x: R) -> R
+fn one<R: FixedWidth>(op: OneOp, x: R) -> R
     ensures { one_meaning R.IS_SIGNED R.BITS op (R.number x) ≡ Ok (R.number result) }
 {
     match op {
@@ -117,7 +117,7 @@ fn one<R: BitwiseOperators>(op: OneOp, x: R) -> R
 
 /// The result of an operation on one value and an amount.
 #[tactic(auto, using(crate::proofs::StepLemmas::results))]
-fn by<R: BitwiseOperators>(op: ByOp, x: R, amount: u32) -> Result<R, Why>
+fn by<R: FixedWidth>(op: ByOp, x: R, amount: u32) -> Result<R, Why>
     ensures { MatchResult result
         (λ v. by_meaning R.IS_SIGNED R.BITS op (R.number x) amount ≡ Ok (R.number v))
         (λ why. by_meaning R.IS_SIGNED R.BITS op (R.number x) amount ≡ Err why) }
@@ -135,7 +135,7 @@ fn by<R: BitwiseOperators>(op: ByOp, x: R, amount: u32) -> Result<R, Why>
 
 /// The result of the step's operation on its sources.
 #[tactic(auto, using(crate::proofs::StepLemmas::sources))]
-fn step_result<R: BitwiseOperators>(step: &Step, registers: &[R]) -> Result<R, Why>
+fn step_result<R: FixedWidth>(step: &Step, registers: &[R]) -> Result<R, Why>
     requires { StepWithin (length registers.now) step.now }
     ensures { MatchResult result
         (λ v. result_of R.IS_SIGNED R.BITS step.now (map R.number registers.now) ≡ Ok (R.number v))
@@ -171,7 +171,7 @@ fn target(step: &Step) -> usize
 
 /// Carries out one step. If it stops, nothing is written.
 #[tactic(auto, using(crate::proofs::StepLemmas::writes))]
-fn apply<R: BitwiseOperators>(step: &Step, registers: &mut [R]) -> Result<(), Why>
+fn apply<R: FixedWidth>(step: &Step, registers: &mut [R]) -> Result<(), Why>
     requires { StepWithin (length registers.old) step.now }
     ensures { let meant = meaning R.IS_SIGNED R.BITS step.now in MatchResult result
         (λ _. meant (map R.number registers.old) ≡ Ok (map R.number registers.new))
@@ -191,7 +191,7 @@ fn apply<R: BitwiseOperators>(step: &Step, registers: &mut [R]) -> Result<(), Wh
 /// products and quotients, the steps that were carried out leave the same numbers, with no stop, at
 /// every type whose range contains that of `R`.
 #[tactic(auto, using(crate::proofs::RunLemmas::runs))]
-pub fn run<R: BitwiseOperators>(steps: &[Step], registers: &mut [R]) -> Result<(), Stop>
+pub fn run<R: FixedWidth>(steps: &[Step], registers: &mut [R]) -> Result<(), Stop>
     requires { All (StepWithin (length registers.old)) steps.now }
     ensures registers { let before = map R.number registers.old in
         map R.number registers.new ≡ (RunOf R.IS_SIGNED R.BITS steps.now before).0 }

@@ -3,7 +3,6 @@
 pub use arbitrary_base::storage::{
     BuiltinInteger, SignedOf, SignedStorage, Storage, UnsignedOf, UnsignedStorage,
 };
-pub use arbitrary_calls::bitwise::BitwiseOperators;
 pub use arbitrary_calls::calls::FixedWidthCalls;
 pub use arbitrary_calls::calls::counts::CountCalls;
 pub use arbitrary_calls::calls::products::ProductCalls;

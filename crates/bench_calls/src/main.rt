@@ -16,7 +16,7 @@ ghost use Rattle.std.specs.Prelude.{◌≤◌};
 use crate::rounds::Operands;
 use crate::runs::run_program;
 use crate::steps::run_steps;
-use arbitrary_calls::bitwise::BitwiseOperators;
+use arbitrary_calls::fixed_width::FixedWidth;
 use arbitrary_core::aliases::signed::{i7, i14, i120};
 use arbitrary_core::aliases::unsigned::{u7, u14, u120};
 use std::fmt::Display;
@@ -94,7 +94,7 @@ fn measure_fixed(rt: &impl Print, name: &str, call: &str, limit: u32, passes: u3
 }
 
 /// Operands for calls in functions of their own: moved toward 0, or next to the ends of the range.
-fn chosen<V: BitwiseOperators>(limit: u32, places: Option<u32>) -> Operands<V>
+fn chosen<V: FixedWidth>(limit: u32, places: Option<u32>) -> Operands<V>
     requires width { V.valid }
     requires some { 1 ≤ limit }
 {

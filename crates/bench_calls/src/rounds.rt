@@ -3,7 +3,7 @@
 
 ghost use Rattle.std.specs.Prelude.{◌≤◌};
 
-use arbitrary_calls::bitwise::BitwiseOperators;
+use arbitrary_calls::fixed_width::FixedWidth;
 use arbitrary_calls::calls::FixedWidthCalls;
 use arbitrary_traits::numbered::Numbered;
 
@@ -81,7 +81,7 @@ impl<V: FixedWidthCalls> Operands<V> {
     }
 }
 
-impl<V: BitwiseOperators> Operands<V> {
+impl<V: FixedWidth> Operands<V> {
     /// Values next to the ends of the range, those of a pair next to the same end.
     pub fn at_ends(&mut self)
         requires { V.valid }

@@ -10,7 +10,7 @@ ghost use Rattle.bitrun_text.specs.Form.{IsStep, IsValue, LinesFault, FormFault}
 ghost use Rattle.bitrun_service.specs.Output.{output_text, wide_output_text, text_for, IsOutput, IsOutputAt};
 
 use crate::running::{run_text, wide_run_text};
-use arbitrary_int::traits::{BitwiseOperators, Integer, Numbered};
+use arbitrary_int::traits::{FixedWidth, Integer, Numbered};
 use arbitrary_int::{Step, i1, i7, i14, i120, u1, u7, u14, u120};
 use bitrun_text::fault::Fault;
 use bitrun_text::kind::{Kind, RegisterType, WidePair, kind_named};
@@ -104,7 +104,7 @@ fn wide_output_of<'a, A: Allocator>(
 }
 
 /// The output of the lines from the second on, with registers of the type `R`.
-fn output_at<'a, R: BitwiseOperators, A: Allocator>(
+fn output_at<'a, R: FixedWidth, A: Allocator>(
     alloc: &'a A,
     lines: &mut Cursor,
 ) -> Result<Vec<u8, &'a A>, Fault>
@@ -121,7 +121,7 @@ fn output_at<'a, R: BitwiseOperators, A: Allocator>(
 }
 
 /// The output of the lines from the second on, with registers of the type `W`, and their low bits at the type `N`.
-fn wide_output_at<'a, W: BitwiseOperators, N: Integer, A: Allocator>(
+fn wide_output_at<'a, W: FixedWidth, N: Integer, A: Allocator>(
     alloc: &'a A,
     lines: &mut Cursor,
 ) -> Result<Vec<u8, &'a A>, Fault>

@@ -6,12 +6,12 @@ ghost use Rattle.arbitrary_int.specs.Runs.{RunOf};
 ghost use Rattle.bitrun_service.specs.Output.{output_text, wide_output_text};
 
 use crate::printing::{push_output, push_wide_output};
-use arbitrary_int::traits::{BitwiseOperators, Integer, Numbered};
+use arbitrary_int::traits::{FixedWidth, Integer, Numbered};
 use arbitrary_int::{Step, run, run_wide};
 use std::alloc::{AllocError, Allocator};
 
 /// Runs the steps, and returns the text of the registers and of how the run ended.
-pub(crate) fn run_text<'a, R: BitwiseOperators, A: Allocator>(
+pub(crate) fn run_text<'a, R: FixedWidth, A: Allocator>(
     alloc: &'a A,
     steps: &[Step],
     registers: &mut [R],
@@ -30,7 +30,7 @@ pub(crate) fn run_text<'a, R: BitwiseOperators, A: Allocator>(
 
 /// Runs the steps on the wide registers, and returns the text of these, of their low bits, and of
 /// how the run ended.
-pub(crate) fn wide_run_text<'a, W: BitwiseOperators, N: Integer, A: Allocator>(
+pub(crate) fn wide_run_text<'a, W: FixedWidth, N: Integer, A: Allocator>(
     alloc: &'a A,
     steps: &[Step],
     wide: &mut [W],

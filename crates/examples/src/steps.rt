@@ -26,7 +26,7 @@ pub fn run_tested<R: FixedWidth>(steps: &[Step], registers: &mut [R]) -> Option<
 
 /// Runs the steps on registers of two types of one sign and one width, which have the same numbers. Both runs
 /// leave the same numbers and end alike, whatever primitives keep them.
-pub fn run_in_both<A: BitwiseOperators, B: BitwiseOperators>(
+pub fn run_in_both<A: FixedWidth, B: FixedWidth>(
     steps: &[Step],
     left: &mut [A],
     right: &mut [B],

@@ -61,7 +61,7 @@ fn popcount(pattern: u128, bits: u32) -> u32 {
 }
 
 /// The first call by an amount that is wrong.
-fn first_wrong_by<V: BitwiseOperators>(a: V, amount: u32) -> Option<&'static str> {
+fn first_wrong_by<V: FixedWidth>(a: V, amount: u32) -> Option<&'static str> {
     let (bits, signed) = (width(a), V::IS_SIGNED);
     let pattern = a.to_u128_bits();
     let left = moved("shl", pattern, amount, bits, signed);
@@ -99,7 +99,7 @@ fn first_wrong_by<V: BitwiseOperators>(a: V, amount: u32) -> Option<&'static str
 }
 
 /// The first call on one value that is wrong.
-fn first_wrong_of_one<V: BitwiseOperators>(a: V) -> Option<&'static str> {
+fn first_wrong_of_one<V: FixedWidth>(a: V) -> Option<&'static str> {
     let (bits, signed) = (width(a), V::IS_SIGNED);
     let pattern = a.to_u128_bits();
     if a.reverse_bits().to_u128_bits() != moved("reverse", pattern, 0, bits, signed) {
@@ -130,7 +130,7 @@ fn first_wrong_of_one<V: BitwiseOperators>(a: V) -> Option<&'static str> {
 }
 
 /// The first bitwise operator that is wrong.
-fn first_wrong_of_two<V: BitwiseOperators>(a: V, b: V) -> Option<&'static str> {
+fn first_wrong_of_two<V: FixedWidth>(a: V, b: V) -> Option<&'static str> {
     let (x, y) = (a.to_u128_bits(), b.to_u128_bits());
     if (a & b).to_u128_bits() != x & y {
         return Some("and");
@@ -164,7 +164,7 @@ macro_rules! differs {
 }
 
 /// The first extraction that is wrong, of sources that have room.
-fn first_wrong_extraction<V: BitwiseOperators>(sample: V, source: u128) -> Option<&'static str> {
+fn first_wrong_extraction<V: FixedWidth>(sample: V, source: u128) -> Option<&'static str> {
     let _ = sample.to_u128_bits();
     let (bits, signed) = (width(sample), V::IS_SIGNED);
     if differs!(128, u128, extract_u128, extract_i128, bits, signed, source) {
@@ -186,7 +186,7 @@ fn first_wrong_extraction<V: BitwiseOperators>(sample: V, source: u128) -> Optio
 }
 
 /// The first call that is wrong on any operand of this type.
-pub fn wrong<V: BitwiseOperators>(sample: V) -> Option<&'static str> {
+pub fn wrong<V: FixedWidth>(sample: V) -> Option<&'static str> {
     let _ = sample.to_u128_bits();
     let bits = width(sample);
     let operands = patterns(bits);

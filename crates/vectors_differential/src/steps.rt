@@ -7,7 +7,7 @@ use arbitrary_int::{Step, TwoOp, Why, run, well_formed};
 
 /// What a step leaves of two numbers in the first of the registers, or why it stops. There are two registers
 /// at least, so that every such step is well formed.
-fn after<V: BitwiseOperators>(
+fn after<V: FixedWidth>(
     op: TwoOp,
     a: V,
     b: V,
@@ -31,7 +31,7 @@ fn after<V: BitwiseOperators>(
 }
 
 /// The first step that is wrong.
-fn first_wrong<V: BitwiseOperators>(a: V, b: V, registers: &mut [V]) -> Option<&'static str> {
+fn first_wrong<V: FixedWidth>(a: V, b: V, registers: &mut [V]) -> Option<&'static str> {
     let (bits, signed) = (width(a), V::IS_SIGNED);
     let (pattern, fits) = exact("div", a.to_u128_bits(), b.to_u128_bits(), bits, signed);
     let greatest = V::max_value().to_u128_bits();
@@ -64,7 +64,7 @@ fn first_wrong<V: BitwiseOperators>(a: V, b: V, registers: &mut [V]) -> Option<&
 }
 
 /// The first step that is wrong on any pair of operands of this type.
-pub fn wrong<V: BitwiseOperators>(sample: V, registers: &mut [V]) -> Option<&'static str> {
+pub fn wrong<V: FixedWidth>(sample: V, registers: &mut [V]) -> Option<&'static str> {
     let _ = sample.to_u128_bits();
     let operands = patterns(width(sample));
     for x in operands {

@@ -11,3 +11,10 @@ pub fn complements_below<V: FixedWidth>(x: V, y: V) -> bool
 {
     (x < y) == (!y < !x)
 }
+
+pub fn complements_at_most<V: FixedWidth>(x: V, y: V) -> bool
+    requires { V.valid }
+    ensures { IsTrue result }
+{
+    (x <= y) == (!y <= !x)
+}
