@@ -1,21 +1,9 @@
 //! Facts about more calls in code that is generic over the type or its storage.
 
-ghost use Rattle.std.specs.Prelude.{◌≡◌, ◌↔◌, ◌+ℤ◌, ◌≤ℤ◌, ◌<ℤ◌, pos, IsTrue};
-ghost use Rattle.arbitrary_int.specs.Range.{InRange, hi};
+ghost use Rattle.std.specs.Prelude.{◌≡◌, ◌↔◌, ◌≤ℤ◌, pos, IsTrue};
+ghost use Rattle.arbitrary_int.specs.Range.{InRange};
 
 use arbitrary_int::prelude::*;
-
-pub fn added_or_greatest<V: FixedWidth + ValidWidth>(a: V, b: V) -> V
-    ensures fits { InRange V.IS_SIGNED V.BITS (V.number a +ℤ V.number b)
-        → V.number result ≡ V.number a +ℤ V.number b }
-    ensures ends { hi V.IS_SIGNED V.BITS <ℤ (V.number a +ℤ V.number b)
-        → V.number result ≡ hi V.IS_SIGNED V.BITS }
-{
-    match a.checked_add(b) {
-        Some(sum) => sum,
-        None => V::max_value(),
-    }
-}
 
 pub fn in_order<V: Integer>(a: V, b: V) -> (V, V)
     ensures { V.number result.0 ≤ℤ V.number result.1 }
@@ -32,32 +20,26 @@ where
     x == UInt::<T, BITS>::zero()
 }
 
-pub fn one_of_two<V: FixedWidth>(a: V, b: V) -> V
-    ensures left { V.number a <ℤ V.number b → V.number result ≡ V.number b }
-{
-    a.max(b)
-}
-
-pub fn step_down<V: FixedWidth>(x: V, step: V) -> V
+pub fn step_down<V: SumCalls>(x: V, step: V) -> V
     requires { pos 0 ≤ℤ V.number step }
     ensures { V.number result ≤ℤ V.number x }
 {
     x.saturating_sub(step)
 }
 
-pub fn power_in_range<V: FixedWidth>(x: V) -> V
+pub fn power_in_range<V: ProductCalls>(x: V) -> V
     ensures { InRange V.IS_SIGNED V.BITS (V.number result) }
 {
     x.saturating_pow(3)
 }
 
-pub fn ones_and_zeros<V: FixedWidth>(x: V) -> u32
+pub fn ones_and_zeros<V: CountCalls>(x: V) -> u32
     ensures { result ≡ V.BITS }
 {
     x.count_ones() + x.count_zeros()
 }
 
-pub fn width<V: FixedWidth>() -> u32
+pub fn width<V: Numbered>() -> u32
     requires { V.valid }
     ensures { result ≡ V.BITS }
 {

@@ -18,18 +18,6 @@ pub fn both_ors(x: i12, y: i12) -> bool
     (x | y) & (x | !y) == x
 }
 
-pub fn consensus(x: u24, y: u24, z: u24) -> bool
-    ensures { IsTrue result }
-{
-    (x & y) | (!x & z) | (y & z) == (x & y) | (!x & z)
-}
-
-pub fn complement_of_choice(m: u7, x: u7, y: u7) -> bool
-    ensures { IsTrue result }
-{
-    !((m & x) | (!m & y)) == (m & !x) | (!m & !y)
-}
-
 pub fn majority<const BITS: usize>(
     x: UInt<u16, BITS>,
     y: UInt<u16, BITS>,
@@ -38,12 +26,6 @@ pub fn majority<const BITS: usize>(
     ensures { IsTrue result }
 {
     ((x ^ y) & z) | (x & y) == (x & y) | (x & z) | (y & z)
-}
-
-pub fn set_then_cleared(set: UInt<u8, 8>, bit: UInt<u8, 8>) -> bool
-    ensures { IsTrue result }
-{
-    (set | bit) & !bit == set & !bit
 }
 
 pub fn result_on_the_right(x: u48, y: u48) -> bool

@@ -23,27 +23,11 @@ pub fn set_then_tested_with_a_sign(x: i12, place: u32) -> bool
     ((x | (i12::new(1) << place)) >> place) & i12::new(1) == i12::new(1)
 }
 
-#[tactic(auto, using(arbitrary_laws::proofs::places::Rulesets::bit_tests))]
-pub fn turned_then_read(x: u12, place: u32) -> bool
-    requires { place < 12 }
-    ensures { IsTrue result }
-{
-    ((x ^ (u12::new(1) << place)) >> place) & u12::new(1)
-        == u12::new(1) - ((x >> place) & u12::new(1))
-}
-
 pub fn both_flags(x: u12) -> bool
     ensures { IsTrue result }
 {
     (x & u12::new(0x12) == u12::new(0x12))
         == (x & u12::new(2) != u12::new(0) && x & u12::new(0x10) != u12::new(0))
-}
-
-pub fn one_flag_of_two(x: u24) -> bool
-    ensures { IsTrue result }
-{
-    (x & u24::new(0x12) == u24::new(0x10))
-        == (x & u24::new(2) == u24::new(0) && x & u24::new(0x10) != u24::new(0))
 }
 
 pub fn any_flag_with_a_sign(x: i12) -> bool

@@ -18,22 +18,10 @@ pub fn and_assoc(x: u12, y: u12, z: u12) -> bool
     ((x & y) & z) == (x & (y & z))
 }
 
-pub fn or_assoc(x: u12, y: u12, z: u12) -> bool
-    ensures { IsTrue result }
-{
-    ((x | y) | z) == (x | (y | z))
-}
-
 pub fn or_zero(x: u12) -> bool
     ensures { IsTrue result }
 {
     (x | u12::zero()) == x
-}
-
-pub fn xor_comm(x: u12, y: u12) -> bool
-    ensures { IsTrue result }
-{
-    (x ^ y) == (y ^ x)
 }
 
 pub fn and_not_self(x: u12) -> bool

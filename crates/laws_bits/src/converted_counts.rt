@@ -11,12 +11,6 @@ pub fn ones_with_no_sign(x: i24) -> bool
     x.to_unsigned().count_ones() == x.count_ones()
 }
 
-pub fn ones_of_the_same_bits(x: u24) -> bool
-    ensures { IsTrue result }
-{
-    i24::from_bits(x.value()).count_ones() == x.count_ones()
-}
-
 pub fn leading_zeros_of_a_primitive(x: UInt<u64, 64>) -> bool
     ensures { IsTrue result }
 {

@@ -19,12 +19,6 @@ pub fn ones_of_left_shift(x: u24, amount: u32) -> bool
     (x << amount).count_ones() <= x.count_ones()
 }
 
-pub fn ones_of_right_shift(x: u24) -> bool
-    ensures { IsTrue result }
-{
-    x.wrapping_shr(3).count_ones() <= x.count_ones()
-}
-
 pub fn zeros_of_left_shift(x: u24) -> bool
     ensures { IsTrue result }
 {
@@ -45,18 +39,6 @@ pub fn place_of_one_bit(place: u32) -> bool
     (u24::new(1) << place).trailing_zeros() == place
 }
 
-pub fn leading_zeros_are_zeros(x: u24) -> bool
-    ensures { IsTrue result }
-{
-    x.leading_zeros() <= x.count_zeros()
-}
-
-pub fn trailing_ones_are_ones(x: u120) -> bool
-    ensures { IsTrue result }
-{
-    x.trailing_ones() <= x.count_ones()
-}
-
 pub fn low_end_is_alike(x: u24) -> bool
     ensures { IsTrue result }
 {
@@ -67,10 +49,4 @@ pub fn ones_of_a_masked_number(x: u24) -> bool
     ensures { IsTrue result }
 {
     (x & u24::new(0xFF)).count_ones() <= 8
-}
-
-pub fn leading_zeros_of_right_shift(x: u24) -> bool
-    ensures { IsTrue result }
-{
-    (x >> 4).leading_zeros() >= 4
 }

@@ -5,12 +5,6 @@ ghost use Rattle.std.specs.Prelude.{IsTrue};
 
 use arbitrary_int::prelude::*;
 
-pub fn ones_of_zero() -> bool
-    ensures { IsTrue result }
-{
-    u12::zero().count_ones() == 0
-}
-
 pub fn ones_of_not(x: u12) -> bool
     ensures { IsTrue result }
 {
@@ -23,22 +17,10 @@ pub fn ones_of_rev(x: u12) -> bool
     x.reverse_bits().count_ones() == x.count_ones()
 }
 
-pub fn trailing_of_zero() -> bool
-    ensures { IsTrue result }
-{
-    u12::zero().trailing_zeros() == 12
-}
-
 pub fn leading_ones_of_not(x: u12) -> bool
     ensures { IsTrue result }
 {
     (!x).leading_ones() == x.leading_zeros()
-}
-
-pub fn leading_of_rev(x: u12) -> bool
-    ensures { IsTrue result }
-{
-    x.reverse_bits().leading_zeros() == x.trailing_zeros()
 }
 
 pub fn ones_of_and_and_or(x: u24, y: u24) -> bool
@@ -51,10 +33,4 @@ pub fn ones_of_and(x: i48, y: i48) -> bool
     ensures { IsTrue result }
 {
     (x & y).count_ones() <= x.count_ones()
-}
-
-pub fn ones_of_or(x: i48, y: i48) -> bool
-    ensures { IsTrue result }
-{
-    x.count_ones() <= (x | y).count_ones()
 }

@@ -17,12 +17,6 @@ pub fn and_or_distributes(x: u12, y: u12, z: u12) -> bool
     (x & (y | z)) == ((x & y) | (x & z))
 }
 
-pub fn or_and_distributes(x: u12, y: u12, z: u12) -> bool
-    ensures { IsTrue result }
-{
-    (x | (y & z)) == ((x | y) & (x | z))
-}
-
 pub fn de_morgan_and(x: u12, y: u12) -> bool
     ensures { IsTrue result }
 {

@@ -2,7 +2,7 @@
 //! Some functions name that set with tests by `==`.
 #![tactic(auto, using(arbitrary_laws::proofs::fields::JoinedWords::joined_words))]
 
-ghost use Rattle.std.specs.Prelude.{◌≡◌, ◌+◌, ◌*◌, ◌/◌, ◌%◌, ◌+ℤ◌, ◌*ℤ◌, pos, IsTrue, false, if◌then◌else◌};
+ghost use Rattle.std.specs.Prelude.{◌≡◌, ◌+◌, ◌/◌, ◌+ℤ◌, ◌*ℤ◌, pos, IsTrue, false, if◌then◌else◌};
 ghost use Rattle.arbitrary_int.specs.Field.{field};
 ghost use Rattle.arbitrary_int.specs.Residue.{Congruent, wrap};
 
@@ -19,12 +19,6 @@ pub fn three_by_a_cast(a: u3, b: u12, c: u5) -> u32
     ensures { pos result ≡ pos 268435456 *ℤ a +ℤ pos 65536 *ℤ b +ℤ pos 256 *ℤ c }
 {
     ((a.value() as u32) << 28) | ((b.value() as u32) << 16) | ((c.value() as u32) << 8)
-}
-
-pub fn bytes_among_fields(a: u3, b: u8, c: u5, d: u8) -> u32
-    ensures { pos result ≡ pos 268435456 *ℤ a +ℤ pos 1048576 *ℤ pos b +ℤ pos 4096 *ℤ c +ℤ pos d }
-{
-    (u32::from_(a) << 28) | (u32::from(b) << 20) | (u32::from_(c) << 12) | u32::from(d)
 }
 
 pub fn seven(
@@ -49,32 +43,6 @@ pub fn seven(
         | u32::from(sequence)
 }
 
-pub fn eight(a: u4, b: u4, c: u4, d: u4, e: u4, f: u4, g: u4, h: u4) -> u32
-    ensures { pos result ≡ pos 268435456 *ℤ a +ℤ pos 16777216 *ℤ b +ℤ pos 1048576 *ℤ c
-        +ℤ pos 65536 *ℤ d +ℤ pos 4096 *ℤ e +ℤ pos 256 *ℤ f +ℤ pos 16 *ℤ g +ℤ h }
-{
-    (a.as_u32() << 28)
-        | (b.as_u32() << 24)
-        | (c.as_u32() << 20)
-        | (d.as_u32() << 16)
-        | (e.as_u32() << 12)
-        | (f.as_u32() << 8)
-        | (g.as_u32() << 4)
-        | h.as_u32()
-}
-
-pub fn six_low_first(a: u6, b: u5, c: u5, d: u5, e: u5, f: u6) -> u32
-    ensures { pos result ≡ pos 67108864 *ℤ f +ℤ pos 2097152 *ℤ e +ℤ pos 65536 *ℤ d +ℤ pos 2048 *ℤ c
-        +ℤ pos 64 *ℤ b +ℤ a }
-{
-    a.as_u32()
-        | (b.as_u32() << 6)
-        | (c.as_u32() << 11)
-        | (d.as_u32() << 16)
-        | (e.as_u32() << 21)
-        | (f.as_u32() << 26)
-}
-
 pub fn numbers_at_two_places(a: u6, b: u5, c: u3, d: u5) -> u32
     ensures { pos result ≡ pos 2147483648 +ℤ pos 16777216 *ℤ d +ℤ pos 2097152 *ℤ c +ℤ pos 65536 *ℤ b
         +ℤ pos 8192 +ℤ a }
@@ -82,46 +50,11 @@ pub fn numbers_at_two_places(a: u6, b: u5, c: u3, d: u5) -> u32
     0x8000_0000 | (d.as_u32() << 24) | (c.as_u32() << 21) | (b.as_u32() << 16) | 0x2000 | a.as_u32()
 }
 
-pub fn parts_of_a_byte(target: u4, number: u8) -> u16
-    ensures { pos result ≡ pos 57344 +ℤ pos 256 *ℤ pos (number / 16) +ℤ pos 16 *ℤ target
-        +ℤ pos (number % 16) }
-{
-    0xE000 | (u16::from(number >> 4) << 8) | (target.as_u16() << 4) | u16::from(number & 15)
-}
-
 pub fn flags(a: bool, b: bool, c: bool, d: bool) -> u8
     ensures { result ≡ (if a then 8 else 0) + (if b then 4 else 0) + (if c then 2 else 0)
         + (if d then 1 else 0) }
 {
     (u8::from(a) << 3) | (u8::from(b) << 2) | (u8::from(c) << 1) | u8::from(d)
-}
-
-pub fn four_of_a_type(a: u7, b: u5, c: u5, d: u7) -> u24
-    ensures { result ≡ pos 131072 *ℤ d +ℤ pos 4096 *ℤ c +ℤ pos 128 *ℤ b +ℤ a }
-{
-    (u24::from_(d) << 17) | (u24::from_(c) << 12) | (u24::from_(b) << 7) | u24::from_(a)
-}
-
-/// A transfer from memory.
-#[derive(Clone, Copy, Debug, PartialEq, Eq)]
-pub struct Descriptor {
-    pub interrupts: u1,
-    pub is_last: u1,
-    pub bytes: u14,
-    pub address: u48,
-}
-
-impl Descriptor {
-    pub fn pack(&self) -> u64
-        ensures { pos result ≡ pos 9223372036854775808 *ℤ self.now.interrupts
-            +ℤ pos 4611686018427387904 *ℤ self.now.is_last +ℤ pos 281474976710656 *ℤ self.now.bytes
-            +ℤ self.now.address }
-    {
-        (self.interrupts.as_u64() << 63)
-            | (self.is_last.as_u64() << 62)
-            | (self.bytes.as_u64() << 48)
-            | self.address.as_u64()
-    }
 }
 
 /// An entry of a label stack.
@@ -207,17 +140,6 @@ pub fn one_of_five_read_back(a: u3, b: u5, c: u8, d: u6, e: u10) -> u6
         | (d.as_u32() << 10)
         | e.as_u32();
     (word >> 10).as_::<u6>()
-}
-
-pub fn one_of_five_under_a_mask(a: u3, b: u5, c: u8, d: u6, e: u10) -> u32
-    ensures { pos result ≡ d }
-{
-    let word = e.as_u32()
-        | (d.as_u32() << 10)
-        | (u32::from(c) << 16)
-        | (b.as_u32() << 24)
-        | (a.as_u32() << 29);
-    (word >> 10) & 0x3F
 }
 
 #[tactic(auto, using(arbitrary_laws::proofs::fields::JoinedWords::words_read_back))]

@@ -17,23 +17,8 @@ pub fn zeros_at_the_low_end() -> bool
     u12::new(40).trailing_zeros() == 3 && i12::new(-40).trailing_zeros() == 3
 }
 
-pub fn zeros_at_the_high_end() -> bool
-    ensures { IsTrue result }
-{
-    u120::new(1).leading_zeros() == 119 && i48::new(17).leading_zeros() == 43
-}
-
 pub fn ones_at_the_high_end() -> bool
     ensures { IsTrue result }
 {
     u12::new(0xE0F).leading_ones() == 3 && i12::new(-17).leading_ones() == 7
-}
-
-pub fn ends_of_the_range() -> bool
-    ensures { IsTrue result }
-{
-    i12::min_value().trailing_zeros() == 11
-        && i12::max_value().trailing_ones() == 11
-        && i12::min_value().leading_ones() == 1
-        && i12::max_value().count_ones() == 11
 }

@@ -25,20 +25,6 @@ pub fn left_alone_is_one_shifted(x: u24) -> bool
     x & x.wrapping_neg() == u24::new(1) << x.trailing_zeros()
 }
 
-pub fn left_alone_has_as_many_zeros_below(x: u24) -> bool
-    ensures { IsTrue result }
-{
-    (x & x.wrapping_neg()).trailing_zeros() == x.trailing_zeros()
-}
-
-#[tactic(auto, using(arbitrary_laws::proofs::places::LowestBit::powers_of_two))]
-pub fn power_of_two_has_none_left(x: u24) -> bool
-    requires { x ≢ pos 0 }
-    ensures { IsTrue result }
-{
-    (x & (x - u24::new(1)) == u24::zero()) == (x.count_ones() == 1)
-}
-
 #[tactic(auto, using(arbitrary_laws::proofs::places::LowestBit::powers_of_two))]
 pub fn one_shifted_is_a_power_of_two(place: u8) -> bool
     requires { place < 12 }

@@ -5,34 +5,16 @@ ghost use Rattle.std.specs.Prelude.{IsTrue};
 
 use arbitrary_int::prelude::*;
 
-pub fn cleared_by_xor(x: i12) -> bool
-    ensures { IsTrue result }
-{
-    x & x.wrapping_sub(i12::new(1)) == x ^ (x & x.wrapping_neg())
-}
-
 pub fn alone_or_cleared(x: u12) -> bool
     ensures { IsTrue result }
 {
     (x & x.wrapping_neg()) | (x & x.wrapping_sub(u12::new(1))) == x
 }
 
-pub fn alone_and_cleared(x: u48) -> bool
-    ensures { IsTrue result }
-{
-    (x & x.wrapping_neg()) & (x & x.wrapping_sub(u48::new(1))) == u48::zero()
-}
-
 pub fn zeros_below(x: i24) -> bool
     ensures { IsTrue result }
 {
     !x & x.wrapping_sub(i24::new(1)) == !(x | x.wrapping_neg())
-}
-
-pub fn alone_by_complements(x: u12) -> bool
-    ensures { IsTrue result }
-{
-    x & x.wrapping_neg() == !(!x | x.wrapping_sub(u12::new(1)))
 }
 
 pub fn alone_and_zeros_below(x: u12) -> bool
@@ -46,11 +28,4 @@ pub fn cleared_by_difference(x: u12) -> bool
     ensures { IsTrue result }
 {
     x & x.wrapping_sub(u12::new(1)) == x.wrapping_sub(x & x.wrapping_neg())
-}
-
-#[tactic(auto, using(arbitrary_laws::proofs::places::LowestMasks::lowest_parts))]
-pub fn zeros_below_by_difference(x: i100) -> bool
-    ensures { IsTrue result }
-{
-    !x & x.wrapping_sub(i100::new(1)) == (x & x.wrapping_neg()).wrapping_sub(i100::new(1))
 }

@@ -16,9 +16,3 @@ pub fn of_a_product(x: u12, y: u12) -> bool
 {
     x.wrapping_mul(y) & u12::new(1) == x & y & u12::new(1)
 }
-
-pub fn of_the_negated(x: u100) -> bool
-    ensures { IsTrue result }
-{
-    x.wrapping_neg() & u100::new(1) == x & u100::new(1)
-}

@@ -12,13 +12,6 @@ pub fn both_set(flags: u9) -> bool
     flags & u9::new(0x12) == u9::new(0x12)
 }
 
-pub fn neither_set(flags: u24) -> bool
-    ensures { IsTrue result
-        ↔ ((unsigned_abs flags / 128 % 2 ≡ 0) × (unsigned_abs flags / 65536 % 2 ≡ 0)) }
-{
-    flags & u24::new(0x1_0080) == u24::new(0)
-}
-
 pub fn both_set_in_a_register(status: u32) -> bool
     ensures { IsTrue result ↔ ((status / 8 % 2 ≡ 1) × (status / 1024 % 2 ≡ 1)) }
 {

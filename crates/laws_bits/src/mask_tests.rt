@@ -11,12 +11,6 @@ pub fn within_mask(x: u24, y: u24) -> bool
     (x & y == x) == (x & !y == u24::zero())
 }
 
-pub fn within_by_or(a: UInt<u8, 8>, b: UInt<u8, 8>) -> bool
-    ensures { IsTrue result }
-{
-    (a & b == a) == (a | b == b)
-}
-
 pub fn changes_nothing(x: u12, y: u12) -> bool
     ensures { IsTrue result }
 {
@@ -39,12 +33,6 @@ pub fn nothing_joined(x: i33, y: i33) -> bool
     ensures { IsTrue result ↔ ((x ≡ pos 0) × (y ≡ pos 0)) }
 {
     x | y == i33::zero()
-}
-
-pub fn every_bit_in_both(x: i24, y: i24) -> bool
-    ensures { IsTrue result }
-{
-    (x & y == i24::new(-1)) == (x == i24::new(-1) && y == i24::new(-1))
 }
 
 pub fn greatest_in_both(x: u48, y: u48) -> bool

@@ -13,20 +13,8 @@ pub fn low_bits_of_difference(x: u12, y: u12) -> bool
         == (x & u12::new(15)).wrapping_sub(y & u12::new(15)) & u12::new(15)
 }
 
-pub fn low_bits_of_product(x: i24, y: i24) -> bool
-    ensures { IsTrue result }
-{
-    x.wrapping_mul(y) & i24::new(7) == (x & i24::new(7)).wrapping_mul(y & i24::new(7)) & i24::new(7)
-}
-
 pub fn low_bits_beside_shifted(x: u24, y: u24) -> bool
     ensures { IsTrue result }
 {
     (x << 8).wrapping_add(y) & u24::new(255) == y & u24::new(255)
-}
-
-pub fn xor_with_shifted(x: u12, y: u12) -> bool
-    ensures { IsTrue result }
-{
-    ((x << 4) ^ y) & u12::new(15) == y & u12::new(15)
 }

@@ -23,32 +23,8 @@ pub fn choice(x: i5, y: i5, m: i5) -> bool
     ((x & m) | (y & !m)) == (y ^ ((x ^ y) & m))
 }
 
-pub fn and_or_not(x: u5, y: u5) -> bool
-    ensures { IsTrue result }
-{
-    (x & (!x | y)) == (x & y)
-}
-
 pub fn or_and_not(x: i48, y: i48) -> bool
     ensures { IsTrue result }
 {
     (x | (!x & y)) == (x | y)
-}
-
-pub fn xor_as_ands(x: u24, y: u24) -> bool
-    ensures { IsTrue result }
-{
-    (x ^ y) == ((x & !y) | (!x & y))
-}
-
-pub fn and_not_as_xor(x: i5, y: i5) -> bool
-    ensures { IsTrue result }
-{
-    (x & !y) == (x ^ (x & y))
-}
-
-pub fn majority(x: u24, y: u24, z: u24) -> bool
-    ensures { IsTrue result }
-{
-    ((x & y) | (x & z) | (y & z)) == ((x & y) ^ (x & z) ^ (y & z))
 }

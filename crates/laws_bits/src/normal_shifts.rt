@@ -13,13 +13,6 @@ pub fn odd_part(x: i40) -> i40
     x >> x.trailing_zeros()
 }
 
-pub fn lowest_bit_is_one(x: u24) -> bool
-    requires { x ≢ pos 0 }
-    ensures { IsTrue result }
-{
-    (x >> x.trailing_zeros()) & u24::new(1) == u24::new(1)
-}
-
 pub fn shifted_back(x: i12) -> bool
     requires { x ≢ pos 0 }
     ensures { IsTrue result }

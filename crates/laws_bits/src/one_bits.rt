@@ -29,21 +29,6 @@ pub fn zeros_above(place: u32) -> bool
     (u24::new(1) << place).leading_zeros() == 23 - place
 }
 
-#[tactic(auto, using(arbitrary_laws::proofs::places::OneBits::one_bit_counts))]
-pub fn ones_of_the_number_before(place: u32) -> bool
-    requires { place < 12 }
-    ensures { IsTrue result }
-{
-    ((u12::new(1) << place) - u12::new(1)).trailing_ones() == place
-}
-
-pub fn parts_joined(x: u12, place: u32) -> bool
-    requires { place < 12 }
-    ensures { IsTrue result }
-{
-    ((x >> place) << place) | (x & ((u12::new(1) << place) - u12::new(1))) == x
-}
-
 pub fn one_turned(place: u32) -> bool
     requires { place < 24 }
     ensures { IsTrue result }

@@ -68,19 +68,6 @@ pub fn flag_in_two_tests(x: u12) -> bool
     (x & u12::new(8) == u12::zero()) == !(x & u12::new(8) == u12::new(8))
 }
 
-pub fn product_of_written_sum(x: u12) -> bool
-    ensures { IsTrue result }
-{
-    x.wrapping_add(u12::new(3)).wrapping_mul(u12::new(5))
-        == x.wrapping_mul(u12::new(5)).wrapping_add(u12::new(15))
-}
-
-pub fn written_factors(x: i24) -> bool
-    ensures { IsTrue result }
-{
-    x.wrapping_mul(i24::new(6)).wrapping_mul(i24::new(7)) == x.wrapping_mul(i24::new(42))
-}
-
 pub fn multiples_in_sum(x: u24) -> bool
     ensures { IsTrue result }
 {
@@ -93,12 +80,6 @@ pub fn low_part_of_xor(x: u12) -> bool
     ensures { IsTrue result }
 {
     (x ^ u12::new(0x55)) & u12::new(0x0F) == (x & u12::new(0x0F)) ^ u12::new(0x05)
-}
-
-pub fn shifted_twice(x: u12) -> bool
-    ensures { IsTrue result }
-{
-    ((x >> 3) >> 4) == (x >> 7)
 }
 
 pub fn lowest_bit(x: u12) -> bool

@@ -6,12 +6,6 @@ ghost use Rattle.std.specs.Prelude.{IsTrue};
 
 use arbitrary_int::prelude::*;
 
-pub fn ones_of_or(x: u27, y: u27) -> bool
-    ensures { IsTrue result }
-{
-    (x | y).count_ones() <= x.count_ones() + y.count_ones()
-}
-
 pub fn ones_of_two_parts(x: u24, y: u24) -> bool
     ensures { IsTrue result }
 {

@@ -11,12 +11,6 @@ pub fn set_twice(x: u12) -> bool
     (x | u12::new(0x0F)) | u12::new(0xF0) == x | u12::new(0xFF)
 }
 
-pub fn masked_twice(x: i12) -> bool
-    ensures { IsTrue result }
-{
-    x & i12::new(0xFF) & i12::new(0x0F) == x & i12::new(0x0F)
-}
-
 pub fn turned_twice(x: i12) -> bool
     ensures { IsTrue result }
 {
@@ -27,12 +21,6 @@ pub fn three_parts(x: u24) -> bool
     ensures { IsTrue result }
 {
     (x & u24::new(0xFF0000)) | (x & u24::new(0x00FF00)) | (x & u24::new(0x0000FF)) == x
-}
-
-pub fn two_parts_by_xor(x: u12) -> bool
-    ensures { IsTrue result }
-{
-    (x & u12::new(0xFC0)) ^ (x & u12::new(0x03F)) == x
 }
 
 /// Bits that were set, under a mask that shares none of them.

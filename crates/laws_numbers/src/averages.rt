@@ -25,13 +25,6 @@ pub fn up(x: u24, y: u24) -> u24
     (x | y) - ((x ^ y) >> 1)
 }
 
-pub fn up_wrapped_with_a_sign(x: i63, y: i63) -> i63
-    ensures low { (x +ℤ y) ≤ℤ (pos 2 *ℤ result) }
-    ensures high { (pos 2 *ℤ result) ≤ℤ (x +ℤ y +ℤ pos 1) }
-{
-    (x | y).wrapping_sub((x ^ y) >> 1)
-}
-
 pub fn between_both(x: u12, y: u12) -> bool
     ensures { IsTrue result }
 {

@@ -18,12 +18,6 @@ pub fn moved(position: u14, step: i14) -> u14
     position.wrapping_add(step.to_unsigned())
 }
 
-pub fn turn(from: u14, to: u14) -> i14
-    ensures { Congruent 14 (from +ℤ result) to }
-{
-    to.wrapping_sub(from).as_::<i14>()
-}
-
 pub fn halves(x: i12) -> (u7, u5)
     ensures { Congruent 12 x (pos 32 *ℤ result.0 +ℤ result.1) }
 {
@@ -49,14 +43,6 @@ pub fn counted_in_two_words(low: &mut u16, high: &mut u13)
     }
 }
 
-pub fn branch_target(counter: u14, offset: i7) -> u14
-    ensures { Congruent 14 result (counter +ℤ pos 1 +ℤ offset) }
-{
-    counter
-        .wrapping_add(u14::new(1))
-        .wrapping_add(offset.as_::<u14>())
-}
-
 pub fn address_in_a_table(base: u24, index: i12, offset: i7) -> u24
     ensures { Congruent 24 result (base +ℤ index +ℤ offset) }
 {
@@ -76,10 +62,4 @@ pub fn moved_by_a_signed_product(position: i24, speed: i8, time: i12) -> i24
     ensures { Congruent 24 result (position +ℤ speed *ℤ time) }
 {
     position.wrapping_add(i24::from_(speed) * i24::from_(time))
-}
-
-pub fn address_of_a_cell(base: u20, row: u6, column: u6) -> u20
-    ensures { Congruent 20 result (base +ℤ row *ℤ pos 64 +ℤ column) }
-{
-    base.wrapping_add(u20::from_(row) * u20::new(64) + u20::from_(column))
 }

@@ -13,13 +13,6 @@ pub fn up_to(low: i48, high: i48) -> u48
     high.wrapping_sub(low).to_unsigned()
 }
 
-pub fn up_to_by_conversion(low: i100, high: i100) -> u100
-    requires { low ≤ℤ high }
-    ensures { result ≡ high -ℤ low }
-{
-    high.wrapping_sub(low).as_::<u100>()
-}
-
 pub fn apart(x: i33, y: i33) -> u33
     ensures up { x ≤ℤ y → result ≡ y -ℤ x }
     ensures down { y ≤ℤ x → result ≡ x -ℤ y }

@@ -1,5 +1,5 @@
-//! Examples of the Rust crate's documentation on constants that the contracts alone do not prove. The other
-//! examples need no set.
+//! Examples of the Rust crate's documentation on constants that the contracts alone do not prove, at least one for each such
+//! call. The other examples need no set.
 #![tactic(auto, using(arbitrary_laws::proofs::written::KnownCalls::known_calls))]
 
 ghost use Rattle.std.specs.Prelude.{IsTrue};
@@ -30,18 +30,6 @@ pub fn rotated_left() -> bool
     u6::new(0b10_1010).rotate_left(1) == u6::new(0b01_0101)
 }
 
-pub fn rotated_right() -> bool
-    ensures { IsTrue result }
-{
-    u6::new(0b10_1010).rotate_right(1) == u6::new(0b01_0101)
-}
-
-pub fn ones_of_a_number() -> bool
-    ensures { IsTrue result }
-{
-    u7::new(0b100_1100).count_ones() == 3
-}
-
 pub fn zeros_of_the_greatest() -> bool
     ensures { IsTrue result }
 {
@@ -54,34 +42,10 @@ pub fn leading_ones_of_a_complement() -> bool
     (!(u7::MAX >> 2)).leading_ones() == 2
 }
 
-pub fn leading_zeros_after_a_shift() -> bool
-    ensures { IsTrue result }
-{
-    (u7::MAX >> 2).leading_zeros() == 2
-}
-
 pub fn trailing_ones() -> bool
     ensures { IsTrue result }
 {
     u7::new(0b1010111).trailing_ones() == 3
-}
-
-pub fn trailing_zeros() -> bool
-    ensures { IsTrue result }
-{
-    u7::new(0b010_1000).trailing_zeros() == 3
-}
-
-pub fn trailing_zeros_below_zero() -> bool
-    ensures { IsTrue result }
-{
-    i6::new(-4).trailing_zeros() == 2
-}
-
-pub fn swapped_bytes() -> bool
-    ensures { IsTrue result }
-{
-    u24::new(0x12_34_56).swap_bytes() == u24::new(0x56_34_12)
 }
 
 pub fn swapped_bytes_in_a_wider_storage() -> bool

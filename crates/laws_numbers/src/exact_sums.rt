@@ -14,25 +14,6 @@ pub fn moved_by_a_signed_offset(base: u12, offset: i12) -> u12
     base.wrapping_add(offset.to_unsigned())
 }
 
-pub fn moved_back_by_a_signed_offset(base: u12, offset: i12) -> u12
-    requires low { pos 0 ≤ℤ (base -ℤ offset) }
-    requires high { (base -ℤ offset) ≤ℤ pos 4095 }
-    ensures { result ≡ base -ℤ offset }
-{
-    base.wrapping_sub(offset.as_::<u12>())
-}
-
-pub fn distance(a: i12, b: i12) -> u12
-    ensures down { b ≤ℤ a → result ≡ a -ℤ b }
-    ensures up { a ≤ℤ b → result ≡ b -ℤ a }
-{
-    if a < b {
-        b.wrapping_sub(a).as_::<u12>()
-    } else {
-        a.wrapping_sub(b).as_::<u12>()
-    }
-}
-
 pub fn centred(sample: u14) -> i14
     ensures { result ≡ sample -ℤ pos 8192 }
 {

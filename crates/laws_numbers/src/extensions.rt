@@ -25,12 +25,6 @@ pub fn right_shift_of_the_primitive(x: i12, k: u32) -> bool
     (x >> k).value() == x.value() >> k
 }
 
-pub fn and_of_the_primitive(x: i12, y: i12) -> bool
-    ensures { IsTrue result }
-{
-    (x & y).value() == x.value() & y.value()
-}
-
 pub fn or_of_the_storage(x: Int<i16, 16>, y: Int<i16, 16>) -> bool
     ensures { IsTrue result }
 {

@@ -30,15 +30,6 @@ pub fn of_a_checked_product(x: u24, y: u24) -> bool
     }
 }
 
-pub fn of_a_small_product(x: u20, y: u20) -> bool
-    requires dividend { x <ℤ pos 1000 }
-    requires some { pos 0 <ℤ y }
-    requires divisor { y <ℤ pos 1000 }
-    ensures { IsTrue result }
-{
-    x * y / y == x
-}
-
 pub fn by_two_in_either_order(x: u100, y: u100, z: u100) -> bool
     requires first { pos 0 <ℤ y }
     requires second { pos 0 <ℤ z }

@@ -14,12 +14,6 @@ pub fn never_both_ahead(a: u12, b: u12) -> bool
     !(ahead && behind)
 }
 
-pub fn never_both_ahead_with_a_sign(a: i24, b: i24) -> bool
-    ensures { IsTrue result }
-{
-    !(a.wrapping_sub(b) > i24::new(0) && b.wrapping_sub(a) > i24::new(0))
-}
-
 pub fn never_both_below_half(a: u33, b: u33) -> bool
     ensures { IsTrue result }
 {

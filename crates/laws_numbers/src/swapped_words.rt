@@ -11,12 +11,6 @@ pub fn swapped_and(x: u24, y: u24) -> bool
     (x & y).swap_bytes() == x.swap_bytes() & y.swap_bytes()
 }
 
-pub fn swapped_complement(x: i24) -> bool
-    ensures { IsTrue result }
-{
-    (!x).swap_bytes() == !x.swap_bytes()
-}
-
 pub fn ones_of_swapped(x: i40) -> bool
     ensures { IsTrue result }
 {

@@ -17,12 +17,6 @@ pub fn product(x: u48, y: u48) -> bool
     x.wrapping_mul(y).as_::<u5>() == x.as_::<u5>().wrapping_mul(y.as_::<u5>())
 }
 
-pub fn and(x: u24, y: u24) -> bool
-    ensures { IsTrue result }
-{
-    (x & y).as_::<u9>() == x.as_::<u9>() & y.as_::<u9>()
-}
-
 pub fn not(x: i24) -> bool
     ensures { IsTrue result }
 {
@@ -51,10 +45,4 @@ pub fn rotation_of_the_other_sign(x: i12) -> bool
     ensures { IsTrue result }
 {
     x.rotate_left(3).to_unsigned() == x.to_unsigned().rotate_left(3)
-}
-
-pub fn reversal_of_the_other_sign(x: u24) -> bool
-    ensures { IsTrue result }
-{
-    x.reverse_bits().as_::<i24>() == x.as_::<i24>().reverse_bits()
 }

@@ -12,10 +12,3 @@ pub fn code(x: i12) -> u12
 {
     ((x << 1) ^ (x >> 11)).to_unsigned()
 }
-
-pub fn code_by_a_call(x: i12) -> u12
-    ensures above { pos 0 ≤ℤ x → result ≡ pos 2 *ℤ x }
-    ensures below { x <ℤ pos 0 → result ≡ neg_ℤ (pos 2 *ℤ x) -ℤ pos 1 }
-{
-    (x.wrapping_shl(1) ^ (x >> 11)).to_unsigned()
-}

@@ -2,7 +2,7 @@
 //! quotients and remainders.
 #![tactic(auto, using(arbitrary_laws::proofs::Sets::words))]
 
-ghost use Rattle.std.specs.Prelude.{◌≡◌, ◌↔◌, ◌/◌, ◌%◌, ◌*◌, ◌+◌, ◌<◌, ◌≤◌, IsTrue};
+ghost use Rattle.std.specs.Prelude.{◌≡◌, ◌↔◌, ◌/◌, ◌%◌, ◌*◌, ◌+◌, ◌<◌, IsTrue};
 
 /// The line control register of a UART: the word's length, the stop bits and the parity.
 pub fn lcr(length: u8, two_stops: u8, parity: u8) -> u8
@@ -22,25 +22,11 @@ pub fn set_dlab(lcr: u8) -> u8
     lcr | 0x80
 }
 
-/// Shuts the latch of the divisor.
-pub fn clear_dlab(lcr: u8) -> u8
-    ensures { result ≡ lcr % 128 }
-{
-    lcr & !0x80
-}
-
 /// Whether one of the three bits of errors is set.
 pub fn line_errors(lsr: u8) -> bool
     ensures { IsTrue result ↔ (0 < lsr / 2 % 8) }
 {
     lsr & 0x0E != 0
-}
-
-/// The divisor of the two latches.
-pub fn divisor(high: u8, low: u8) -> u16
-    ensures { result ≡ high * 256 + low }
-{
-    (u16::from(high) << 8) | u16::from(low)
 }
 
 /// Writes the level at which the queue raises an interrupt.
@@ -62,18 +48,6 @@ pub fn prescaler(control: u32, value: u32) -> u32
     (control & !(7 << 2)) | (value << 2)
 }
 
-/// Writes the mode of the sixth pin, by assigning operators.
-pub fn mode_bits(moder: u32, mode: u32) -> u32
-    requires mode_fits { mode < 4 }
-    ensures field { result / 1024 % 4 ≡ mode }
-    ensures low { result % 1024 ≡ moder % 1024 }
-{
-    let mut register = moder;
-    register &= !(3 << 10);
-    register |= mode << 10;
-    register
-}
-
 /// Turns the lowest bit over.
 pub fn toggle_enable(control: u32) -> u32
     ensures low { result % 2 + control % 2 ≡ 1 }
@@ -90,13 +64,6 @@ pub fn write_in_place(register: &mut u32, field: u32)
     *register = (*register & !0xF0) | ((field & 0xF) << 4);
 }
 
-/// Clears a field behind `&mut`.
-pub fn clear_in_place(register: &mut u16)
-    ensures { register.new / 16 % 16 ≡ 0 }
-{
-    *register &= !0x00F0;
-}
-
 /// The address of a word of PCI configuration.
 pub fn config_address(bus: u8, device: u8, function: u8, offset: u8) -> u32
     requires device_fits { device < 32 }
@@ -111,33 +78,11 @@ pub fn config_address(bus: u8, device: u8, function: u8, offset: u8) -> u32
         | (u32::from(offset) & 0xFC)
 }
 
-/// The address of a base register, without its flags.
-pub fn bar_address(bar: u32) -> u32
-    ensures { result ≡ bar / 16 * 16 }
-{
-    bar & !0xF
-}
-
-/// Whether the flag of prefetching is set.
-pub fn bar_is_prefetchable(bar: u32) -> bool
-    ensures { IsTrue result ↔ (bar / 8 % 2 ≡ 1) }
-{
-    bar & 8 != 0
-}
-
 /// The device of a bus, device and function.
 pub fn bdf_device(bdf: u16) -> u16
     ensures { result ≡ bdf / 8 % 32 }
 {
     (bdf >> 3) & 0x1F
-}
-
-/// Sets the three lowest bits of the command register.
-pub fn command_enable(command: u16) -> u16
-    ensures low { result % 8 ≡ 7 }
-    ensures high { result / 8 ≡ command / 8 }
-{
-    command | 0x7
 }
 
 /// Writes two fields at once.
@@ -161,30 +106,12 @@ pub fn set_bits(word: u32) -> u32
     word | 0xC
 }
 
-/// Writes four bits into a word of 64.
-pub fn low_nibble_in(word: u64, value: u8) -> u64
-    ensures field { result / 1099511627776 % 16 ≡ value % 16 }
-    ensures low { result % 1099511627776 ≡ word % 1099511627776 }
-    ensures high { result / 17592186044416 ≡ word / 17592186044416 }
-{
-    (word & !(0xF << 40)) | ((u64::from(value) & 0xF) << 40)
-}
-
 /// An entry of a page table.
 pub fn page_entry(frame: u64, flags: u64) -> u64
     requires frame_fits { frame < 1099511627776 }
     ensures { result ≡ frame * 4096 + flags % 4096 }
 {
     (frame << 12) | (flags & 0xFFF)
-}
-
-/// An address in an aligned page.
-pub fn page(v: u32, offset: u32) -> u32
-    requires multiple { v % 4096 ≡ 0 }
-    requires small { offset / 4096 ≡ 0 }
-    ensures { result ≡ v + offset }
-{
-    v | (offset & 0xFFF)
 }
 
 /// A gate of interrupts: offset, selector and type.
@@ -205,32 +132,11 @@ pub fn rgb565(red: u8, green: u8, blue: u8) -> u16
     (u16::from(red & 0xF8) << 8) | (u16::from(green & 0xFC) << 3) | u16::from(blue >> 3)
 }
 
-/// Turns bits over and back.
-pub fn toggled_twice(word: u8) -> u8
-    ensures { result ≡ word }
-{
-    (word ^ 0x5A) ^ 0x5A
-}
-
 /// Whether an address is a multiple of 16.
 pub fn aligned(address: u64) -> bool
     ensures { IsTrue result ↔ (address % 16 ≡ 0) }
 {
     address & 0xF == 0
-}
-
-/// Whether neither flag is set.
-pub fn none_of(word: u8) -> bool
-    ensures { IsTrue result ↔ ((word / 4 % 2 ≡ 0) × (word / 32 % 2 ≡ 0)) }
-{
-    word & 0x24 == 0
-}
-
-/// Whether the highest bit is set.
-pub fn sign_of(word: u16) -> bool
-    ensures { IsTrue result ↔ (32768 ≤ word) }
-{
-    word & 0x8000 != 0
 }
 
 /// The size, rounded up to a multiple of 8.

@@ -3,13 +3,6 @@
 
 ghost use Rattle.std.specs.Prelude.{◌≡◌, ◌↔◌, ◌/◌, ◌%◌, ◌*◌, ◌+◌, ◌<◌, IsTrue};
 
-/// The flags of TCP.
-pub fn tcp_flags(word: u16) -> u16
-    ensures { result ≡ word % 64 }
-{
-    word & 0x3F
-}
-
 /// The offset and the flags of TCP.
 pub fn tcp_offset_and_flags(offset: u16, flags: u16) -> u16
     requires offset_fits { offset < 16 }
@@ -31,34 +24,6 @@ pub fn tcp_word(offset: u8, flags: u16, window: u16) -> u32
     ensures { result ≡ offset % 16 * 268435456 + flags % 512 * 65536 + window }
 {
     ((u32::from(offset) & 0xF) << 28) | ((u32::from(flags) & 0x1FF) << 16) | u32::from(window)
-}
-
-/// The first byte of a header of IPv4.
-pub fn ipv4_first(version: u8, length: u8) -> u8
-    requires version_fits { version < 16 }
-    requires length_fits { length < 16 }
-    ensures version { result / 16 ≡ version }
-    ensures length { result % 16 ≡ length }
-{
-    version << 4 | length
-}
-
-/// The flags and the offset of a fragment.
-pub fn fragment(flags: u16, offset: u16) -> u16
-    requires flags_fits { flags < 8 }
-    ensures flags { result / 8192 ≡ flags }
-    ensures offset { result % 8192 ≡ offset % 8192 }
-{
-    (flags << 13) | (offset & 0x1FFF)
-}
-
-/// The word of an extended identifier of CAN.
-pub fn can_extended(base: u32, extension: u32) -> u32
-    requires base_fits { base < 2048 }
-    requires extension_fits { extension < 262144 }
-    ensures { result ≡ 2147483648 + base * 262144 + extension }
-{
-    0x8000_0000 | (base << 18) | extension
 }
 
 /// The high byte of an identifier in a controller's register.

@@ -22,14 +22,6 @@ pub fn sum_overflows(a: u32, m: u32) -> bool
     (a ^ r) & (m ^ r) & 0x8000_0000 != 0
 }
 
-/// The same for a byte, by a complement.
-pub fn sum_overflows_by_not(a: u8, m: u8) -> bool
-    ensures { IsTrue result ↔ ((a / 128 ≡ m / 128) × ((a + m) % 256 / 128 ≢ a / 128)) }
-{
-    let r = a.wrapping_add(m);
-    !(a ^ m) & (a ^ r) & 0x80 != 0
-}
-
 /// Whether the difference passes the range of a signed word of 16 bits.
 pub fn difference_overflows(a: u16, m: u16) -> bool
     ensures { IsTrue result ↔ ((a / 32768 ≢ m / 32768)

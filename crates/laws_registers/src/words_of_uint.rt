@@ -1,7 +1,7 @@
 //! Words of a `UInt` with constant masks and shifts. The contracts are in quotients and remainders.
 #![tactic(auto, using(arbitrary_laws::proofs::Sets::words))]
 
-ghost use Rattle.std.specs.Prelude.{◌≡◌, ◌↔◌, ◌/◌, ◌%◌, ◌*◌, ◌+◌, ◌+ℤ◌, ◌*ℤ◌, ◌<ℤ◌, pos, int_rem, int_div, unsigned_abs, IsTrue};
+ghost use Rattle.std.specs.Prelude.{◌≡◌, ◌↔◌, ◌%◌, ◌+ℤ◌, ◌*ℤ◌, ◌<ℤ◌, pos, int_rem, int_div, IsTrue};
 
 use arbitrary_int::prelude::*;
 
@@ -59,33 +59,11 @@ pub fn three(a: u4, b: u3, c: u5) -> u12
     (u12::from_(a) << 8) | (u12::from_(b) << 5) | u12::from_(c)
 }
 
-/// The low bits cleared by two shifts.
-pub fn cleared_low(x: u12) -> u12
-    ensures { result ≡ int_div x (pos 32) *ℤ pos 32 }
-{
-    (x >> 5) << 5
-}
-
-/// A field moved up.
-pub fn moved(x: u12) -> u12
-    requires { x <ℤ pos 1024 }
-    ensures { result ≡ int_div x (pos 8) *ℤ pos 32 }
-{
-    (x >> 3) << 5
-}
-
 /// A byte and a carry in front, rotated up by one place.
 pub fn rotated_with_carry(word: u9) -> u9
     ensures { result ≡ int_rem word (pos 256) *ℤ pos 2 +ℤ int_div word (pos 256) }
 {
     (word << 1) | (word >> 8)
-}
-
-/// 17 bits, rotated up by three places.
-pub fn rotated(word: u17) -> u17
-    ensures { result ≡ int_rem word (pos 16384) *ℤ pos 8 +ℤ int_div word (pos 16384) }
-{
-    (word << 3) | (word >> 14)
 }
 
 /// Writes a field behind `&mut`.
@@ -117,20 +95,6 @@ pub fn tested(v: u15) -> bool
     v & u15::new(0x400) != u15::new(0)
 }
 
-/// Three fields of 40 bits.
-pub fn wide(a: u12, b: u24, c: u4) -> u40
-    ensures { result ≡ a *ℤ pos 268435456 +ℤ b *ℤ pos 16 +ℤ c }
-{
-    (u40::from_(a) << 28) | (u40::from_(b) << 4) | u40::from_(c)
-}
-
-/// A word with its high byte below.
-pub fn unsigned_words(v: u24) -> u24
-    ensures { unsigned_abs result ≡ unsigned_abs v % 256 * 65536 + unsigned_abs v / 256 }
-{
-    (v << 16) | (v >> 8)
-}
-
 /// Writes the lowest field from a number of its own width. The others stay.
 #[tactic(auto, using(arbitrary_laws::proofs::Sets::uint_words))]
 pub fn coarse(v: u15, x: u5) -> u15
@@ -138,15 +102,6 @@ pub fn coarse(v: u15, x: u5) -> u15
     ensures high { int_div result (pos 32) ≡ int_div v (pos 32) }
 {
     (v & !u15::new(0x1F)) | u15::from_(x)
-}
-
-/// The same in a wider word.
-#[tactic(auto, using(arbitrary_laws::proofs::Sets::uint_words))]
-pub fn low_of_forty(v: u40, x: u12) -> u40
-    ensures low { int_rem result (pos 4096) ≡ x }
-    ensures high { int_div result (pos 4096) ≡ int_div v (pos 4096) }
-{
-    (v & !u40::new(0xFFF)) | u40::from_(x)
 }
 
 /// Writes a field further up.

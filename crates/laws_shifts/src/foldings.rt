@@ -26,18 +26,6 @@ pub fn gray_by_two_places_first(x: u4) -> bool
     half ^ (half >> 1) == x
 }
 
-/// Of twelve bits.
-#[tactic(auto, using(arbitrary_laws::proofs::shifts::Rulesets::folds))]
-pub fn gray_of_twelve_bits(x: u12) -> bool
-    ensures { IsTrue result }
-{
-    let gray = x ^ (x >> 1);
-    let two = gray ^ (gray >> 1);
-    let four = two ^ (two >> 2);
-    let eight = four ^ (four >> 4);
-    eight ^ (eight >> 8) == x
-}
-
 /// The code of an `^` is the `^` of the codes.
 pub fn gray_of_xor(x: u12, y: u12) -> bool
     ensures { IsTrue result }
@@ -51,12 +39,4 @@ pub fn right_again(x: u24) -> bool
 {
     let y = x ^ (x >> 13);
     y ^ (y >> 13) == x
-}
-
-/// And so to the left.
-pub fn left_again(x: u12) -> bool
-    ensures { IsTrue result }
-{
-    let y = x ^ (x << 7);
-    y ^ (y << 7) == x
 }

@@ -18,12 +18,6 @@ pub fn left_and_less_right(x: u24) -> bool
     (x << 8) >> 4 == (x << 4) & u24::new(0xFFFFF)
 }
 
-pub fn flags_moved(x: u24) -> bool
-    ensures { IsTrue result }
-{
-    (x | u24::new(3)) << 2 == (x << 2) | u24::new(12)
-}
-
 pub fn right_and_left(x: i24) -> bool
     ensures { IsTrue result }
 {
@@ -34,13 +28,6 @@ pub fn mask_rotated(x: u12) -> bool
     ensures { IsTrue result }
 {
     (x & u12::new(0xF)).rotate_left(4) == x.rotate_left(4) & u12::new(0xF0)
-}
-
-pub fn halves_swapped(word: u24) -> bool
-    ensures { IsTrue result }
-{
-    word.rotate_left(12)
-        == (u24::from_(word.as_::<u12>()) << 12) | u24::from_((word >> 12).as_::<u12>())
 }
 
 pub fn complement_of_two_fields(high: u12, low: u12) -> bool

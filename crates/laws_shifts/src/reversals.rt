@@ -11,12 +11,6 @@ pub fn rotl_is_shifts(x: u12) -> bool
     x.rotate_left(3) == (x.wrapping_shl(3) | x.wrapping_shr(12 - 3))
 }
 
-pub fn rev_not(x: u12) -> bool
-    ensures { IsTrue result }
-{
-    (!x).reverse_bits() == !x.reverse_bits()
-}
-
 pub fn rev_and(x: u12, y: u12) -> bool
     ensures { IsTrue result }
 {
@@ -35,28 +29,10 @@ pub fn rev_rotl(x: u12) -> bool
     x.rotate_left(3).reverse_bits() == x.reverse_bits().rotate_right(3)
 }
 
-pub fn rotr_is_shifts(x: u12) -> bool
-    ensures { IsTrue result }
-{
-    x.rotate_right(3) == (x.wrapping_shr(3) | x.wrapping_shl(12 - 3))
-}
-
-pub fn rotl_by_xor(x: u12) -> bool
-    ensures { IsTrue result }
-{
-    (x << 4) ^ (x >> 8) == x.rotate_left(4)
-}
-
 pub fn rotl_by_sum(x: u12) -> bool
     ensures { IsTrue result }
 {
     (x << 4).wrapping_add(x >> 8) == x.rotate_left(4)
-}
-
-pub fn one_reversed() -> bool
-    ensures { IsTrue result }
-{
-    u4::new(1).reverse_bits() == u4::new(8)
 }
 
 pub fn one_bit_reversed(k: u8) -> bool

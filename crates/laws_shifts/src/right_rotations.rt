@@ -11,12 +11,6 @@ pub fn and_turned(x: u12, y: u12, k: u32) -> bool
     (x & y).rotate_right(k) == x.rotate_right(k) & y.rotate_right(k)
 }
 
-pub fn xor_turned(x: i12, y: i12, k: u32) -> bool
-    ensures { IsTrue result }
-{
-    (x ^ y).rotate_right(k) == x.rotate_right(k) ^ y.rotate_right(k)
-}
-
 pub fn ones_turned(k: u32) -> bool
     ensures { IsTrue result }
 {
@@ -51,12 +45,6 @@ pub fn right_in_either_order(x: u24, j: u32, k: u32) -> bool
     ensures { IsTrue result }
 {
     x.rotate_right(j).rotate_right(k) == x.rotate_right(k).rotate_right(j)
-}
-
-pub fn left_in_either_order(x: i24, j: u32, k: u32) -> bool
-    ensures { IsTrue result }
-{
-    x.rotate_left(j).rotate_left(k) == x.rotate_left(k).rotate_left(j)
 }
 
 pub fn right_and_left_in_either_order(x: i12, j: u32, k: u32) -> bool

@@ -5,18 +5,6 @@ ghost use Rattle.std.specs.Prelude.{IsTrue};
 
 use arbitrary_int::prelude::*;
 
-pub fn rotl_zero(x: u12) -> bool
-    ensures { IsTrue result }
-{
-    x.rotate_left(0) == x
-}
-
-pub fn rotl_width(x: u12) -> bool
-    ensures { IsTrue result }
-{
-    x.rotate_left(12) == x
-}
-
 pub fn rotl_rotl(x: u12) -> bool
     ensures { IsTrue result }
 {
@@ -33,12 +21,6 @@ pub fn rotl_and(x: u12, y: u12) -> bool
     ensures { IsTrue result }
 {
     ((x & y).rotate_left(3)) == (x.rotate_left(3) & y.rotate_left(3))
-}
-
-pub fn rotl_not(x: u12) -> bool
-    ensures { IsTrue result }
-{
-    (!x).rotate_left(3) == !x.rotate_left(3)
 }
 
 pub fn rotl_ones_value() -> bool

@@ -29,12 +29,6 @@ pub fn shl_add(x: u12, y: u12) -> bool
     x.wrapping_add(y).wrapping_shl(2) == x.wrapping_shl(2).wrapping_add(y.wrapping_shl(2))
 }
 
-pub fn shr_shl_is_numeral_signed(x: i12) -> bool
-    ensures { IsTrue result }
-{
-    x.wrapping_shr(2).wrapping_shl(2) == (x & i12::new(-4))
-}
-
 pub fn shl_shr_is_numeral(x: u24) -> bool
     ensures { IsTrue result }
 {

@@ -20,13 +20,6 @@ pub fn mask_is_shifted_down(k: u32) -> bool
     (u12::new(1) << k) - u12::new(1) == u12::max_value() >> (12 - k)
 }
 
-pub fn low_bits_cleared(x: u24, k: u32) -> bool
-    requires { k < 24 }
-    ensures { IsTrue result }
-{
-    x & !((u24::new(1) << k) - u24::new(1)) == (x >> k) << k
-}
-
 pub fn low_bits_cleared_with_a_sign(x: i24, k: u32) -> bool
     requires { k < 24 }
     ensures { IsTrue result }
@@ -62,33 +55,11 @@ pub fn nothing_above_the_mask(x: i24, k: u32) -> bool
     (x & ((i24::new(1) << k).wrapping_sub(i24::new(1)))) >> k == i24::zero()
 }
 
-pub fn only_the_low_bits_stay(x: u24, k: u32) -> bool
-    requires some { 0 < k }
-    requires places { k < 24 }
-    ensures { IsTrue result }
-{
-    (x & ((u24::new(1) << k) - u24::new(1))) << (24 - k) == x << (24 - k)
-}
-
-pub fn nothing_below_a_shift(x: i24, k: u32) -> bool
-    requires { k < 24 }
-    ensures { IsTrue result }
-{
-    (x << k) & !(i24::new(-1) << k) == i24::zero()
-}
-
 pub fn low_bits_by_a_wrapped_difference(x: i24, k: u32) -> bool
     requires { k < 24 }
     ensures { IsTrue result }
 {
     x.wrapping_sub((x >> k) << k) == x & !(i24::new(-1) << k)
-}
-
-pub fn parts_added_with_a_sign(x: i24, k: u32) -> bool
-    requires { k < 24 }
-    ensures { IsTrue result }
-{
-    ((x >> k) << k).wrapping_add(x & !(i24::new(-1) << k)) == x
 }
 
 pub fn high_bits_alone(x: u24, k: u32) -> bool

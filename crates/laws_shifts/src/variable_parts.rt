@@ -28,26 +28,11 @@ pub fn less_than_one_bit_more(x: u12, k: u32) -> bool
     x & ((u12::new(1) << k) - u12::new(1)) < u12::new(1) << k
 }
 
-pub fn low_bits_taken_away(x: u24, k: u32) -> bool
-    requires { k < 24 }
-    ensures { IsTrue result }
-{
-    x - (x & ((u24::new(1) << k) - u24::new(1))) == (x >> k) << k
-}
-
 pub fn rounded_down(x: i24, k: u32) -> bool
     requires { k < 24 }
     ensures { IsTrue result }
 {
     (x >> k) << k <= x
-}
-
-pub fn ones_moved_down(x: u63, k: u32) -> bool
-    requires some { 0 < k }
-    requires places { k < 63 }
-    ensures { IsTrue result }
-{
-    x & (u63::max_value() >> (63 - k)) == x - ((x >> k) << k)
 }
 
 /// The greatest multiple of a power of two that is at most the address.

@@ -27,13 +27,6 @@ pub fn shift_is_a_product(x: i24, k: u32) -> bool
     x << k == x.wrapping_mul(i24::new(1) << k)
 }
 
-pub fn shifted_factor(x: u24, y: u24, k: u32) -> bool
-    requires { k < 24 }
-    ensures { IsTrue result }
-{
-    (x << k).wrapping_mul(y) == x.wrapping_mul(y) << k
-}
-
 #[tactic(auto, using(arbitrary_laws::proofs::places::VariablePlaces::variable_places))]
 pub fn set_beside_cleared(x: u24, i: u32, j: u32) -> bool
     requires one { i < 24 }
@@ -42,16 +35,6 @@ pub fn set_beside_cleared(x: u24, i: u32, j: u32) -> bool
     ensures { IsTrue result }
 {
     (x | u24::new(1) << i) & !(u24::new(1) << j) == (x & !(u24::new(1) << j)) | u24::new(1) << i
-}
-
-#[tactic(auto, using(arbitrary_laws::proofs::places::VariablePlaces::variable_places))]
-pub fn turned_beside_cleared(x: i12, i: u32, j: u32) -> bool
-    requires one { i < 12 }
-    requires other { j < 12 }
-    requires apart { i ≢ j }
-    ensures { IsTrue result }
-{
-    (x ^ i12::new(1) << i) & !(i12::new(1) << j) == (x & !(i12::new(1) << j)) ^ i12::new(1) << i
 }
 
 #[tactic(auto, using(arbitrary_laws::proofs::places::VariablePlaces::variable_places))]

@@ -40,12 +40,4 @@ impl Lines {
     {
         self.enabled |= u24::new(1) << line.value();
     }
-
-    #[tactic(auto, using(arbitrary_laws::proofs::places::Rulesets::other_bits))]
-    pub fn remove(&mut self, line: u5)
-        requires { line <ℤ pos 24 }
-        ensures { unsigned_abs self.new.enabled / 2 ^ unsigned_abs line % 2 ≡ 0 }
-    {
-        self.enabled &= !(u24::new(1) << line.value());
-    }
 }

@@ -1,7 +1,7 @@
 //! Fields that are written in place into a number of these types. The other bits do not change.
 #![tactic(auto, using(arbitrary_laws::proofs::fields::Rulesets::cleared_fields))]
 
-ghost use Rattle.std.specs.Prelude.{◌≡◌, ◌/◌, ◌%◌, ◌*◌, ◌+ℤ◌, ◌*ℤ◌, pos, unsigned_abs};
+ghost use Rattle.std.specs.Prelude.{◌≡◌, ◌/◌, ◌%◌, unsigned_abs};
 
 use arbitrary_int::prelude::*;
 
@@ -11,10 +11,4 @@ pub fn written(register: u24, field: u4) -> u24
     ensures field { unsigned_abs result / 16 % 16 ≡ unsigned_abs field }
 {
     (register & !u24::new(0xF0)) | (u24::from_(field) << 4)
-}
-
-pub fn written_high(register: u12, field: u4) -> u12
-    ensures { result ≡ pos 256 *ℤ field +ℤ pos (unsigned_abs register % 256) }
-{
-    (register & !u12::new(0xF00)) | (field.as_::<u12>() << 8)
 }

@@ -1,6 +1,6 @@
 //! Fields of a record, of the library's types and of primitives.
 
-ghost use Rattle.std.specs.Prelude.{◌≡◌, ◌/◌, ◌%◌, pos, IsTrue};
+ghost use Rattle.std.specs.Prelude.{◌≡◌, ◌%◌, pos, IsTrue};
 ghost use Rattle.laws_words.specs.Frame.{IsWritten};
 
 use arbitrary_int::prelude::*;
@@ -29,13 +29,6 @@ pub fn byte_read_back(mut word: Record, x: u8) -> u8
     word.get::<u8>(8)
 }
 
-pub fn signed_word_read_back(mut word: Record, x: i32) -> i32
-    ensures { result ≡ x }
-{
-    word.put(96, x);
-    word.get::<i32>(96)
-}
-
 pub fn first_of_two(mut word: Record, x: u5, y: i14) -> u5
     ensures { result ≡ x }
 {
@@ -51,14 +44,6 @@ pub fn second_of_three(mut word: Record, x: u5, y: i14, z: u9) -> i14
     word.put(20, y);
     word.put(60, z);
     word.get::<i14>(20)
-}
-
-pub fn byte_beside_a_field(mut word: Record, x: u8, y: u3) -> u8
-    ensures { result ≡ x }
-{
-    word.put(8, x);
-    word.put(16, y);
-    word.get::<u8>(8)
 }
 
 pub fn last_wins(mut word: Record, x: u5, y: u5) -> u5
@@ -95,12 +80,6 @@ pub fn low_byte(word: Record) -> u8
     ensures { result ≡ word.bits % 256 }
 {
     word.get::<u8>(0)
-}
-
-pub fn second_byte(word: Record) -> UInt<u8, 8>
-    ensures { result ≡ pos (word.bits / 256 % 256) }
-{
-    word.get::<UInt<u8, 8>>(8)
 }
 
 pub fn small_signed(word: Record) -> i12

@@ -26,16 +26,3 @@ pub fn is_restart(vector: u3) -> bool
     let opcode = 0xC7 | (vector.value() << 3);
     opcode & 7 == 7 && opcode >> 6 == 3
 }
-
-/// An instruction of RISC-V with a register from bit 7 on, and its field first.
-pub fn with_register(register: u5) -> u32
-    ensures { pos result ≡ register *ℤ pos 128 +ℤ pos 1048595 }
-{
-    (register.as_u32() << 7) | 0x0010_0013
-}
-
-pub fn register_read_back(register: u5) -> u5
-    ensures { result ≡ register }
-{
-    u5::extract_u32((register.as_u32() << 7) | 0x0010_0013, 7)
-}

@@ -35,13 +35,6 @@ pub fn is_aligned(address: u64, places: u32) -> bool
     (address & ((1 << places) - 1) == 0) == ((address >> places) << places == address)
 }
 
-pub fn parts_joined(byte: u8, places: u3) -> bool
-    ensures { IsTrue result }
-{
-    let mask = (1u8 << places.value()) - 1;
-    (byte & mask) | (byte & !mask) == byte
-}
-
 pub fn by_the_greatest_number(word: u32, places: u32) -> bool
     requires { places < 32 }
     ensures { IsTrue result }

@@ -1,6 +1,6 @@
 //! Words joined from fields, and split again: nibbles, colours, flags.
 
-ghost use Rattle.std.specs.Prelude.{◌≡◌, ◌↔◌, ◌/◌, ◌+ℤ◌, ◌-ℤ◌, ◌*ℤ◌, ◌≤ℤ◌, ◌<ℤ◌, pos, int_div, IsTrue};
+ghost use Rattle.std.specs.Prelude.{◌≡◌, ◌↔◌, ◌+ℤ◌, ◌-ℤ◌, ◌*ℤ◌, ◌<ℤ◌, pos, int_div, IsTrue};
 
 use arbitrary_int::prelude::*;
 
@@ -10,24 +10,12 @@ pub fn nibbles(x: u8) -> (u4, u4)
     (u4::extract_u8(x, 4), u4::extract_u8(x, 0))
 }
 
-pub fn nibbles_by_as(x: u8) -> (u4, u4)
-    ensures { pos x ≡ pos 16 *ℤ result.0 +ℤ result.1 }
-{
-    ((x >> 4).as_::<u4>(), x.as_::<u4>())
-}
-
 pub fn nibbles_joined(high: u4, low: u4) -> (u4, u4)
     ensures high { result.0 ≡ high }
     ensures low { result.1 ≡ low }
 {
     let x = (high.as_u8() << 4) | low.as_u8();
     (u4::new(x >> 4), u4::new(x & 0xF))
-}
-
-pub fn red(x: u16) -> u5
-    ensures { result ≡ pos (x / 2048) }
-{
-    u5::new((x >> 11) as u8)
 }
 
 pub fn red_again(red: u5, green: u6, blue: u5) -> u5
@@ -58,23 +46,10 @@ pub fn left_then_right(x: u24) -> u24
     (x << 8) >> 8
 }
 
-pub fn right_then_left(x: u24) -> u24
-    ensures low { result ≤ℤ x }
-    ensures high { x <ℤ (result +ℤ pos 256) }
-{
-    (x >> 8) << 8
-}
-
 pub fn masked_right_then_left(x: u24) -> bool
     ensures { IsTrue result }
 {
     (x >> 8) << 8 == x & u24::new(0xFF_FF00)
-}
-
-pub fn low_cleared_by_mask(x: u12) -> bool
-    ensures { IsTrue result }
-{
-    (x >> 4) << 4 == x & !u12::new(15)
 }
 
 pub fn is_power_of_two_or_zero(x: u12) -> bool
@@ -89,29 +64,10 @@ pub fn low_bit(x: u12) -> bool
     x.as_::<u1>() == u1::new(1)
 }
 
-pub fn even_has_low_zero(x: u12) -> bool
-    ensures { IsTrue result }
-{
-    ((x << 1) & u12::new(1)) == u12::new(0)
-}
-
-pub fn field_of_wide(x: u128) -> u120
-    ensures { result ≡ pos (x / 256) }
-{
-    u120::extract_u128(x, 8)
-}
-
 pub fn complement_and_sum(x: u12) -> u12
     ensures { result ≡ pos 4095 }
 {
     x + !x
-}
-
-pub fn sign_extended_below_zero(x: u16) -> i12
-    requires { x ≡ 4095 }
-    ensures { result ≡ pos 0 -ℤ pos 1 }
-{
-    i12::from_bits(x)
 }
 
 pub fn groups_of_seven(x: u14) -> bool
@@ -122,26 +78,10 @@ pub fn groups_of_seven(x: u14) -> bool
     u14::from_(high) << 7 | u14::from_(low) == x
 }
 
-pub fn groups_with_a_flag(x: u14) -> bool
-    ensures { IsTrue result }
-{
-    let low = x.as_u8() | 0x80;
-    let high = (x >> 7).as_u8();
-    u14::from_(high) << 7 | u14::from_(low & 0x7F) == x
-}
-
 pub fn first_of_two_in_three_bytes(x: u12, y: u12) -> bool
     ensures { IsTrue result }
 {
     let first = x.as_u8();
     let second = (x >> 8).as_u8() | (y.as_u8() & 15) << 4;
     u12::from_(first) | (u12::from_(second & 15) << 8) == x
-}
-
-pub fn last_of_two_in_three_bytes(x: u12, y: u12) -> bool
-    ensures { IsTrue result }
-{
-    let second = (x >> 8).as_u8() | (y.as_u8() & 15) << 4;
-    let third = (y >> 4).as_u8();
-    u12::from_(second >> 4) | (u12::from_(third) << 4) == y
 }

@@ -38,14 +38,6 @@ pub fn cleared(modes: u64, pin: u4) -> bool
     ((modes & !(15 << place)) >> place) & 15 == 0
 }
 
-pub fn level_of_interrupt(levels: u128, line: u5, level: u4) -> u4
-    ensures { result ≡ level }
-{
-    let place = line.as_u32() * 4;
-    let written = (levels & !(0xF << place)) | (u128::from_(level) << place);
-    u4::extract_u128(written, place.as_usize())
-}
-
 pub fn slot_of_24_bits(word: u24, slot: u2, value: u6) -> u6
     ensures { result ≡ value }
 {
@@ -65,16 +57,6 @@ pub fn other_mode_stays(modes: u32, pin: u4, other: u4, mode: u2) -> bool
     let other_place = usize::from(other.value()) * 2;
     let written = (modes & !(3u32 << place)) | (u32::from_(mode) << place);
     u2::extract_u32(written, other_place) == u2::extract_u32(modes, other_place)
-}
-
-#[tactic(auto, using(arbitrary_laws::proofs::fields::PlacedField::other_fields))]
-pub fn same_pin_or_the_same_mode(modes: u32, pin: u4, other: u4, mode: u2) -> bool
-    ensures { IsTrue result }
-{
-    let place = u32::from(pin.value()) * 2;
-    let written = (modes & !(3 << place)) | (mode.as_u32() << place);
-    let other_place = u32::from(other.value()) * 2;
-    pin == other || (written >> other_place) & 3 == (modes >> other_place) & 3
 }
 
 #[tactic(auto, using(arbitrary_laws::proofs::fields::PlacedField::other_fields))]

@@ -41,13 +41,6 @@ pub fn turned(word: u16, place: u4) -> u16
     word ^ 1 << place.value()
 }
 
-pub fn set_then_cleared(word: u16, place: u4) -> bool
-    ensures { IsTrue result }
-{
-    let mask = 1u16 << place.value();
-    (word | mask) & !mask == word & !mask
-}
-
 #[tactic(auto, using(arbitrary_laws::proofs::places::Rulesets::several_bits))]
 pub fn two_set(word: u16, first: u4, second: u4) -> bool
     ensures { IsTrue result }

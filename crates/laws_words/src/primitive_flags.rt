@@ -31,12 +31,6 @@ pub fn turned_over(control: u16) -> u16
     control ^ 0xF0
 }
 
-pub fn is_enabled(control: u32) -> bool
-    ensures { IsTrue result ↔ (control / 32 % 2 ≡ 1) }
-{
-    control & ENABLE != 0
-}
-
 pub fn is_in_mode_one(control: u16) -> bool
     ensures { IsTrue result ↔ (control / 16 % 4 ≡ 1) }
 {

@@ -12,32 +12,11 @@ pub fn first(hour: u5, minute: u6, second: u5) -> bool
     (word >> 11).as_::<u5>() == hour
 }
 
-pub fn second(a: u4, b: u4, c: u4) -> bool
-    ensures { IsTrue result }
-{
-    let word = (a.as_u16() << 8) | (b.as_u16() << 4) | c.as_u16();
-    (word >> 4).as_::<u4>() == b
-}
-
-pub fn third(a: u4, b: u4, c: u4) -> bool
-    ensures { IsTrue result }
-{
-    let word = (a.as_u16() << 8) | (b.as_u16() << 4) | c.as_u16();
-    word.as_::<u4>() == c
-}
-
 pub fn middle_byte(a: u8, b: u8, c: u8) -> bool
     ensures { IsTrue result }
 {
     let word = (u24::from_(a) << 16) | (u24::from_(b) << 8) | u24::from_(c);
     (word >> 8).as_u8() == b
-}
-
-pub fn destination(rest: u20, register: u5, operation: u7) -> bool
-    ensures { IsTrue result }
-{
-    let word = (rest.value() << 12) | (register.as_u32() << 7) | operation.as_u32();
-    (word >> 7).as_::<u5>() == register
 }
 
 pub fn destination_extracted(rest: u20, register: u5, operation: u7) -> bool

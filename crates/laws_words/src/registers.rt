@@ -1,7 +1,7 @@
 //! Words of registers: fields that are joined, written in place, shifted and read back, and flags among them.
 #![tactic(auto, using(arbitrary_laws::proofs::fields::Rulesets::registers))]
 
-ghost use Rattle.std.specs.Prelude.{◌≡◌, ◌/◌, ◌%◌, ◌*◌, ◌+◌, pos, unsigned_abs, IsTrue};
+ghost use Rattle.std.specs.Prelude.{◌≡◌, ◌/◌, ◌%◌, pos, IsTrue};
 
 use arbitrary_int::prelude::*;
 
@@ -18,13 +18,6 @@ impl Clock {
     {
         self.word = (self.word & !0x1C00) | (source.as_u32() << 10);
     }
-
-    pub fn open(&mut self)
-        ensures written { self.new.word / 32768 % 2 ≡ 1 }
-        ensures below { self.new.word % 32768 ≡ self.old.word % 32768 }
-    {
-        self.word |= 0x8000;
-    }
 }
 
 // ---- flags
@@ -34,13 +27,6 @@ pub fn flag_between_fields(high: u3, flag: bool, low: u4) -> bool
 {
     let word = (high.value() << 5) | (u8::from(flag) << 4) | low.value();
     ((word >> 4) & 1 == 1) == flag
-}
-
-pub fn two_set(word: u32) -> bool
-    ensures { IsTrue result }
-{
-    let written = word | (1 << 3) | (1 << 17);
-    written & (1 << 3) != 0 && written & (1 << 17) != 0
 }
 
 pub fn one_set_and_one_cleared(word: u32) -> bool
@@ -77,18 +63,6 @@ pub fn nibbles_swapped_twice(x: u8) -> bool
 {
     let swapped = (x << 4) | (x >> 4);
     (swapped << 4) | (swapped >> 4) == x
-}
-
-pub fn bytes_swapped(x: u16) -> u16
-    ensures { result ≡ x % 256 * 256 + x / 256 }
-{
-    (x >> 8) | (x << 8)
-}
-
-pub fn halves_exchanged(x: u24) -> u24
-    ensures { result ≡ pos (unsigned_abs x % 4096 * 4096 + unsigned_abs x / 4096) }
-{
-    (x << 12) | (x >> 12)
 }
 
 // ---- the other bits of a field's word

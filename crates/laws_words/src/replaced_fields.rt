@@ -14,18 +14,6 @@ pub fn green_replaced(colour: u16, green: u6) -> u16
     (colour & !0x07E0) | (u16::from_(green) << 5)
 }
 
-pub fn blue_replaced(colour: u16, blue: u5) -> u16
-    ensures { pos result ≡ pos (colour / 32 * 32) +ℤ blue }
-{
-    (colour & !31) | u16::from_(blue)
-}
-
-pub fn red_replaced(colour: u16, red: u5) -> u16
-    ensures { pos result ≡ pos 2048 *ℤ red +ℤ pos (colour % 2048) }
-{
-    (colour & 0x07FF) | (red.as_u16() << 11)
-}
-
 pub fn mode_written(register: u8, mode: u2) -> u8
     ensures above { result / 16 ≡ register / 16 }
     ensures below { result % 4 ≡ register % 4 }

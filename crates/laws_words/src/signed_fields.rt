@@ -19,21 +19,6 @@ pub fn high_one_read_back(x: i12, y: i4) -> i12
     i12::extract_u16(word, 4)
 }
 
-pub fn low_one_read_back(x: i40, y: i24) -> i24
-    ensures { result ≡ y }
-{
-    let word = (x.to_unsigned().as_u64() << 24) | y.to_unsigned().as_u64();
-    i24::extract_u64(word, 0)
-}
-
-pub fn written_again_by_bits(word: u16) -> bool
-    ensures { IsTrue result }
-{
-    let x = i12::extract_u16(word, 4);
-    let y = i4::extract_u16(word, 0);
-    (x.to_bits() << 4) | u16::from(y.to_bits()) == word
-}
-
 pub fn written_again(word: u32) -> u32
     ensures { result ≡ word }
 {

@@ -1,7 +1,7 @@
 //! Signed primitives with numbers that wrap: the distance of two moments, and steps by an `i8` or an `i16`.
 #![tactic(auto, using(arbitrary_laws::proofs::numbers::Conversions::conversions))]
 
-ghost use Rattle.std.specs.Prelude.{◌+ℤ◌, ◌-ℤ◌, ◌*ℤ◌, pos};
+ghost use Rattle.std.specs.Prelude.{◌+ℤ◌, ◌-ℤ◌, pos};
 ghost use Rattle.arbitrary_int.specs.Residue.{Congruent};
 
 use arbitrary_int::prelude::*;
@@ -12,18 +12,6 @@ pub fn branch(counter: u13, offset: i8) -> u13
     ensures { Congruent 13 result (counter +ℤ offset) }
 {
     counter.wrapping_add(u13::masked_new(offset))
-}
-
-pub fn branch_by_as(counter: u24, offset: i16) -> u24
-    ensures { Congruent 24 result (counter +ℤ offset) }
-{
-    counter.wrapping_add(offset.as_::<u24>())
-}
-
-pub fn turned_back(position: u12, steps: i8) -> u12
-    ensures { Congruent 12 result (position -ℤ steps) }
-{
-    position.wrapping_sub(u12::masked_new(steps))
 }
 
 pub fn branch_past_the_offset(counter: u16, offset: i8) -> u16
@@ -58,20 +46,6 @@ pub fn milliseconds_apart(after: u32, before: u32) -> i32
     ensures { Congruent 32 result (pos after -ℤ pos before) }
 {
     after.wrapping_sub(before).as_i32()
-}
-
-#[tactic(auto, using(arbitrary_laws::proofs::Sets::fields))]
-pub fn delta(after: u8, before: u8) -> i8
-    ensures { Congruent 8 result (pos after -ℤ pos before) }
-{
-    after.wrapping_sub(before).as_i8()
-}
-
-#[tactic(auto, using(arbitrary_laws::proofs::Sets::fields))]
-pub fn delta_as(after: u8, before: u8) -> i8
-    ensures { Congruent 8 result (pos after -ℤ pos before) }
-{
-    after.wrapping_sub(before).as_::<i8>()
 }
 
 #[tactic(auto, using(arbitrary_laws::proofs::Sets::fields))]

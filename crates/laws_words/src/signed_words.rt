@@ -1,7 +1,7 @@
 //! Signed numbers in words of a primitive: samples under a mask, jumps by an offset, and signed fields.
 #![tactic(auto, using(arbitrary_laws::proofs::Sets::fields))]
 
-ghost use Rattle.std.specs.Prelude.{◌≡◌, ◌*◌, ◌+ℤ◌, ◌-ℤ◌, ◌*ℤ◌, pos, false};
+ghost use Rattle.std.specs.Prelude.{◌≡◌, ◌+ℤ◌, ◌-ℤ◌, ◌*ℤ◌, pos, false};
 ghost use Rattle.arbitrary_int.specs.Residue.{Congruent, wrap};
 
 use arbitrary_int::prelude::*;
@@ -14,30 +14,12 @@ pub fn sample(word: u16) -> i12
     i12::from_bits(word & 0xFFF)
 }
 
-pub fn half(byte: u8) -> i4
-    ensures { Congruent 4 result (pos byte) }
-{
-    i4::from_bits(byte & 0xF)
-}
-
-pub fn long_sample(word: u32) -> i24
-    ensures { Congruent 24 result (pos word) }
-{
-    i24::from_bits(word & 0xFF_FFFF)
-}
-
 // ---- jumps, whose sums wrap
 
 pub fn relative_jump(counter: u16, offset: i12) -> u16
     ensures { Congruent 16 (pos result) (pos counter +ℤ offset +ℤ pos 1) }
 {
     counter.wrapping_add(offset.as_u16()).wrapping_add(1)
-}
-
-pub fn branch(counter: u32, offset: i26) -> u32
-    ensures { Congruent 32 (pos result) (pos counter +ℤ pos 8 +ℤ offset) }
-{
-    counter.wrapping_add(8).wrapping_add(offset.as_u32())
 }
 
 pub fn from_offset(counter: u16, offset: i9) -> u16
@@ -62,10 +44,4 @@ pub fn add_immediate(target: u5, source: u5, immediate: i12) -> u32
         | (u32::from_(source) << 15)
         | (u32::from_(target) << 7)
         | 0x13
-}
-
-pub fn with_trim(register: u16, trim: i5) -> u16
-    ensures { Congruent 5 (pos result) trim }
-{
-    (register & 0xFFE0) | u16::from(trim.to_bits())
 }

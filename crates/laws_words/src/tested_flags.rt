@@ -6,16 +6,6 @@ ghost use Rattle.arbitrary_int.specs.Residue.{Congruent};
 
 use arbitrary_int::prelude::*;
 
-pub fn reply(response: bool, opcode: u4, code: u4) -> u16
-    ensures { pos result ≡ pos (if response then 32768 else 0) +ℤ opcode *ℤ pos 2048 +ℤ code }
-{
-    let mut word = u16::from(opcode.value()) << 11;
-    if response {
-        word |= 0x8000;
-    }
-    word | u16::from(code.value())
-}
-
 pub fn desired_reply(response: bool, opcode: u4, desired: bool, code: u4) -> u16
     ensures { pos result ≡ pos (if response then 32768 else 0) +ℤ opcode *ℤ pos 2048
         +ℤ pos (if desired then 256 else 0) +ℤ code }
@@ -49,11 +39,4 @@ pub fn with_source(register: u32, source: u2) -> u32
     ensures above { result / 4 ≡ register / 4 }
 {
     (register & 0xFFFF_FFFC) | u32::from(source.value())
-}
-
-pub fn with_prescaler(register: u16, prescaler: u3) -> u16
-    ensures prescaler { Congruent 3 (pos result) prescaler }
-    ensures above { result / 8 ≡ register / 8 }
-{
-    (register & 0xFFF8) | u16::from(prescaler)
 }

@@ -1,15 +1,9 @@
 //! Words of fields, each made in one line.
 #![tactic(auto, using(arbitrary_laws::proofs::Sets::fields))]
 
-ghost use Rattle.std.specs.Prelude.{◌≡◌, ◌*◌, ◌/◌, ◌%◌, ◌+◌, ◌+ℤ◌, ◌*ℤ◌, pos, unsigned_abs, if◌then◌else◌, IsTrue};
+ghost use Rattle.std.specs.Prelude.{◌≡◌, ◌*◌, ◌/◌, ◌%◌, ◌+◌, ◌+ℤ◌, ◌*ℤ◌, pos, if◌then◌else◌, IsTrue};
 
 use arbitrary_int::prelude::*;
-
-pub fn three_of_their_own_type(a: u12, b: u24, c: u12) -> u48
-    ensures { result ≡ a *ℤ pos 68719476736 +ℤ b *ℤ pos 4096 +ℤ c }
-{
-    u48::from_(a) << 36 | u48::from_(b) << 12 | u48::from_(c)
-}
 
 /// The offset of a branch, whose lowest part is moved up too.
 #[tactic(auto, using(arbitrary_laws::proofs::fields::JoinedFields::four_moved_fields))]
@@ -28,12 +22,6 @@ pub fn a_mark_between_two(x: u3, y: u2) -> u8
     x.value() << 5 | 0x10 | y.value()
 }
 
-pub fn marked(x: u3, y: u3) -> u8
-    ensures { pos result ≡ pos 64 +ℤ x *ℤ pos 8 +ℤ y }
-{
-    0x40 | x.value() << 3 | y.value()
-}
-
 pub fn six_fields(op: u6, rs: u5, rt: u5, rd: u5, shift: u5, function: u6) -> u32
     ensures { pos result ≡ op *ℤ pos 67108864 +ℤ rs *ℤ pos 2097152 +ℤ rt *ℤ pos 65536
         +ℤ rd *ℤ pos 2048 +ℤ shift *ℤ pos 64 +ℤ function }
@@ -46,37 +34,12 @@ pub fn six_fields(op: u6, rs: u5, rt: u5, rd: u5, shift: u5, function: u6) -> u3
         | function.as_u32()
 }
 
-pub fn four_bytes(a: u8, b: u8, c: u8, d: u8) -> u32
-    ensures { result ≡ a * 16777216 + b * 65536 + c * 256 + d }
-{
-    u32::from(a) << 24 | u32::from(b) << 16 | u32::from(c) << 8 | u32::from(d)
-}
-
 // ---- fields that `From` converts, at each storage
 
 pub fn date(year: u7, month: u4, day: u5) -> u16
     ensures { pos result ≡ year *ℤ pos 512 +ℤ month *ℤ pos 32 +ℤ day }
 {
     (u16::from(year) << 9) | (u16::from(month) << 5) | u16::from(day)
-}
-
-pub fn mode_byte(mode: u2, register: u3, memory: u3) -> u8
-    ensures { pos result ≡ mode *ℤ pos 64 +ℤ register *ℤ pos 8 +ℤ memory }
-{
-    u8::from(mode) << 6 | u8::from(register) << 3 | u8::from(memory)
-}
-
-pub fn single_precision(sign: u1, exponent: u8, mantissa: u23) -> u32
-    ensures { pos result ≡ sign *ℤ pos 2147483648 +ℤ pos (exponent * 8388608) +ℤ mantissa }
-{
-    (u32::from(sign) << 31) | (u32::from(exponent) << 23) | mantissa.value()
-}
-
-pub fn double_precision(sign: u1, exponent: u11, mantissa: u52) -> u64
-    ensures { pos result ≡ sign *ℤ pos 9223372036854775808 +ℤ exponent *ℤ pos 4503599627370496
-        +ℤ mantissa }
-{
-    (u64::from(sign) << 63) | (u64::from(exponent) << 52) | mantissa.value()
 }
 
 pub fn three_of_many(a: u41, b: u40, c: u40) -> u128
@@ -111,13 +74,6 @@ pub fn load_back(register: u4, byte: u8) -> bool
 {
     let word = 0x6000 | (u16::from(register) << 8) | u16::from(byte);
     u4::extract_u16(word, 8) == register && (word & 0xFF) as u8 == byte
-}
-
-pub fn with_green(word: u16, green: u6) -> u16
-    ensures green { result / 32 % 64 ≡ unsigned_abs green }
-    ensures blue { result % 32 ≡ word % 32 }
-{
-    (word & !0x07E0) | (u16::from(green) << 5)
 }
 
 pub fn switched_off(output: u5) -> u5

@@ -1,7 +1,7 @@
 //! Signed fields, written into a register whose other bits do not change, and read back.
 #![tactic(auto, using(arbitrary_laws::proofs::Sets::fields))]
 
-ghost use Rattle.std.specs.Prelude.{◌≡◌, ◌/◌, ◌%◌, pos, IsTrue};
+ghost use Rattle.std.specs.Prelude.{◌≡◌, ◌/◌, ◌%◌, pos};
 ghost use Rattle.arbitrary_int.specs.Residue.{Congruent};
 
 use arbitrary_int::prelude::*;
@@ -15,20 +15,6 @@ pub fn with_trim(register: u16, trim: i6) -> u16
     others | (u16::from(trim.to_bits()) << 4)
 }
 
-pub fn with_offset(control: u32, offset: i12) -> u32
-    ensures { Congruent 12 (pos (result / 256)) offset }
-{
-    (control & !0x000F_FF00) | (u32::from(offset.to_bits()) << 8)
-}
-
-pub fn with_gain(byte: u8, gain: i3) -> u8
-    ensures low { result % 4 ≡ byte % 4 }
-    ensures high { result / 32 ≡ byte / 32 }
-    ensures field { Congruent 3 (pos (result / 4)) gain }
-{
-    (byte & 0b1110_0011) | (gain.to_bits() << 2)
-}
-
 #[tactic(auto, using(arbitrary_laws::proofs::fields::SignedField::signed_fields))]
 pub fn trim_back(register: u16, trim: i6) -> i6
     ensures { result ≡ trim }
@@ -38,25 +24,9 @@ pub fn trim_back(register: u16, trim: i6) -> i6
 }
 
 #[tactic(auto, using(arbitrary_laws::proofs::fields::SignedField::signed_fields))]
-pub fn offset_back(control: u32, offset: i12) -> i12
-    ensures { result ≡ offset }
-{
-    let word = (control & !0x000F_FF00) | (u32::from(offset.to_bits()) << 8);
-    i12::extract_u32(word, 8)
-}
-
-#[tactic(auto, using(arbitrary_laws::proofs::fields::SignedField::signed_fields))]
 pub fn gain_back(byte: u8, gain: i3) -> i3
     ensures { result ≡ gain }
 {
     let word = (byte & 0b1110_0011) | (gain.to_bits() << 2);
     i3::from_bits((word >> 2) & 7)
-}
-
-#[tactic(auto, using(arbitrary_laws::proofs::fields::SignedField::signed_fields))]
-pub fn level_back(register: u16, level: u6) -> bool
-    ensures { IsTrue result }
-{
-    let word = (register & 0xFC0F) | (u16::from_(level) << 4);
-    u6::extract_u16(word, 4) == level
 }
