@@ -1,6 +1,6 @@
 //! The bytes of a number, in either order.
 
-ghost use Rattle.std.specs.Prelude.{◌≡◌, ◌/◌, ◌%◌, ◌*◌, ◌+◌, ◌<◌, ◌<ℤ◌, pos, false, true, unsigned_abs, IsTrue, OnOk, Some};
+ghost use Rattle.std.specs.Prelude.{◌≡◌, ◌/◌, ◌%◌, ◌*◌, ◌+◌, ◌<◌, ◌<ℤ◌, pos, true, unsigned_abs, IsTrue, OnOk, Some};
 ghost use Rattle.std.specs.HashMap.{get};
 ghost use Rattle.std.specs.Ordering.{int_eq};
 ghost use Rattle.arbitrary_int.specs.Field.{field};
@@ -30,12 +30,6 @@ pub fn swapped_twice(x: u24) -> u24
     x.swap_bytes().swap_bytes()
 }
 
-pub fn swapped_twice_with_a_sign(x: i48) -> i48
-    ensures { result ≡ x }
-{
-    x.swap_bytes().swap_bytes()
-}
-
 // ---- a field with a sign
 
 pub fn signed_field(word: u32) -> i12
@@ -50,12 +44,6 @@ pub fn log2(x: u24) -> u5
     requires { pos 0 <ℤ x }
 {
     u5::new(23 - x.leading_zeros() as u8)
-}
-
-pub fn zeros_of_zero() -> u32
-    ensures { result ≡ 12 }
-{
-    u12::zero().leading_zeros()
 }
 
 pub fn has_a_lowest_bit(x: u12) -> u4

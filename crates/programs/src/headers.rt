@@ -1,21 +1,9 @@
 //! Registers, headers and instruction words.
 
-ghost use Rattle.std.specs.Prelude.{◌≡◌, ◌↔◌, ◌/◌, ◌%◌, ◌*◌, ◌+ℤ◌, ◌*ℤ◌, ◌≤ℤ◌, ◌<ℤ◌, pos, unsigned_abs, IsTrue};
+ghost use Rattle.std.specs.Prelude.{◌≡◌, ◌↔◌, ◌/◌, ◌%◌, ◌*◌, ◌+ℤ◌, ◌*ℤ◌, ◌≤ℤ◌, ◌<ℤ◌, pos, IsTrue};
 ghost use Rattle.arbitrary_int.specs.Residue.{Congruent};
 
 use arbitrary_int::prelude::*;
-
-pub fn even_unsigned(x: u24) -> bool
-    ensures { IsTrue result ↔ (unsigned_abs x % 2 ≡ 0) }
-{
-    x & u24::new(1) == u24::new(0)
-}
-
-pub fn modulo_eight_unsigned(x: u24) -> u24
-    ensures { result ≡ pos (unsigned_abs x % 8) }
-{
-    x & u24::new(7)
-}
 
 pub fn sign_bit_of_wide(x: i48) -> bool
     ensures { IsTrue result ↔ (x <ℤ pos 0) }
@@ -57,35 +45,10 @@ pub fn header_length(first: u8) -> u8
     u4::extract_u8(first, 0).value() * 4
 }
 
-pub fn fragment_offset(word: u16) -> u13
-    ensures { result ≡ pos (word % 8192) }
-{
-    u13::new(word & 0x1FFF)
-}
-
 pub fn do_not_fragment(word: u16) -> bool
     ensures { IsTrue result ↔ (word / 16384 % 2 ≡ 1) }
 {
     u1::extract_u16(word, 14) == u1::new(1)
-}
-
-pub fn cleared(register: u24) -> u24
-    ensures { result ≤ℤ register }
-{
-    register & !u24::new(0xF0)
-}
-
-pub fn toggled_twice(register: UInt<u8, 8>, bit: u3) -> UInt<u8, 8>
-    ensures { result ≡ register }
-{
-    let mask = UInt::<u8, 8>::new(1) << bit.value();
-    (register ^ mask) ^ mask
-}
-
-pub fn tag(priority: u3, drop: u1, id: u12) -> u16
-    ensures { pos result ≡ pos 8192 *ℤ priority +ℤ pos 4096 *ℤ drop +ℤ id }
-{
-    (priority.as_u16() << 13) + (drop.as_u16() << 12) + id.as_u16()
 }
 
 pub struct Pixel {

@@ -1,6 +1,6 @@
 //! Indices, conversions between types, and comparisons.
 
-ghost use Rattle.std.specs.Prelude.{◌≡◌, ◌↔◌, ◌/◌, ◌%◌, ◌<◌, ◌≤◌, ◌+ℤ◌, ◌-ℤ◌, ◌*ℤ◌, ◌≤ℤ◌, ◌<ℤ◌, pos, neg_ℤ, int_div, IsTrue};
+ghost use Rattle.std.specs.Prelude.{◌≡◌, ◌/◌, ◌%◌, ◌<◌, ◌≤◌, ◌+ℤ◌, ◌-ℤ◌, ◌*ℤ◌, ◌≤ℤ◌, pos, neg_ℤ, int_div};
 
 use arbitrary_int::prelude::*;
 
@@ -32,12 +32,6 @@ pub fn page_of(address: u12) -> u4
     (address >> 8).as_::<u4>()
 }
 
-pub fn page_by_extract(address: u12) -> u4
-    ensures { result ≡ int_div address (pos 256) }
-{
-    u4::extract_u16(address.value(), 8)
-}
-
 pub fn sign_extended_from_u16(raw: u16) -> i16
     requires { raw < 4096 }
     ensures small { raw < 2048 → result ≡ pos raw }
@@ -58,32 +52,6 @@ pub fn left_aligned_sample(raw: u16) -> i12
     ensures { result ≡ pos (raw / 16) }
 {
     i12::extract_u16(raw, 4)
-}
-
-pub fn wider_order(a: i12, b: i12) -> bool
-    ensures { IsTrue result ↔ (a <ℤ b) }
-{
-    a.as_::<i24>() < b.as_::<i24>()
-}
-
-pub fn order_of_values(a: u24, b: u24) -> bool
-    ensures { IsTrue result ↔ (a ≤ℤ b) }
-{
-    a.value() <= b.value()
-}
-
-pub fn larger(a: u48, b: u48) -> u48
-    ensures left { a ≤ℤ result }
-    ensures right { b ≤ℤ result }
-{
-    if a < b { b } else { a }
-}
-
-pub fn larger_by_max(a: u48, b: u48) -> u48
-    ensures left { a ≤ℤ result }
-    ensures right { b ≤ℤ result }
-{
-    a.max(b)
 }
 
 pub fn held_between(x: i24) -> i24

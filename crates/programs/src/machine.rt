@@ -102,14 +102,6 @@ pub fn less_and_more(a: i48, b: i48) -> Option<i48>
     a.checked_sub(b)?.checked_add(b)
 }
 
-pub fn three_checked(a: u5, b: u5, c: u5) -> Option<u5>
-    ensures some { IfSome result (λ r. r ≡ a +ℤ b +ℤ c) }
-{
-    let first = a.checked_add(b)?;
-    let second = first.checked_add(c)?;
-    Some(second)
-}
-
 pub fn small_ones(x: UInt<u128, 3>) -> UInt<u128, 3>
     requires { x <ℤ pos 4 }
     ensures { result ≡ pos 2 *ℤ x }

@@ -34,14 +34,6 @@ pub fn signed_as_unsigned(mut record: Record, x: i12) -> bool
     record.get::<u12>(20) == x.to_unsigned()
 }
 
-pub fn two_halves(mut record: Record, low: u4, high: u4) -> bool
-    ensures { IsTrue result }
-{
-    record.put(0, low);
-    record.put(4, high);
-    record.get::<u8>(0) == high.value() << 4 | low.value()
-}
-
 pub fn half_cleared(mut record: Record, x: u8) -> bool
     ensures { IsTrue result }
 {
@@ -76,17 +68,6 @@ pub fn around_the_field(bits: u128, x: i12) -> u128
     let mut record = Record { bits };
     record.put(20, x);
     record.bits
-}
-
-pub fn last_put_counts(bits: u128, x: u5, y: u5) -> bool
-    ensures { IsTrue result }
-{
-    let mut twice = Record { bits };
-    twice.put(3, x);
-    twice.put(3, y);
-    let mut once = Record { bits };
-    once.put(3, y);
-    twice.bits == once.bits
 }
 
 pub fn put_back(bits: u128, x: u5) -> bool

@@ -18,12 +18,6 @@ pub fn apart_by_max(a: u24, b: u24) -> u24
     a.max(b) - a.min(b)
 }
 
-pub fn mean(a: i127, b: i127) -> i127
-    ensures { (pos 2 *ℤ result) ≤ℤ (a +ℤ b) }
-{
-    (a >> 1) + (b >> 1)
-}
-
 pub fn least_of_three(a: u5, b: u5, c: u5) -> u5
     ensures first { result ≤ℤ a }
     ensures second { result ≤ℤ b }
@@ -58,12 +52,6 @@ pub fn has(list: &[u5], wanted: u5) -> bool {
         }
     }
     false
-}
-
-pub fn never_less(a: u24, b: u24) -> bool
-    ensures { IsTrue result }
-{
-    a.saturating_add(b) >= a
 }
 
 pub fn wide_of_saturated(a: i12, b: i12) -> i24
@@ -109,27 +97,11 @@ pub fn delayed(line: [u10; 3], sample: u10) -> [u10; 3] {
     [line[1], line[2], sample]
 }
 
-pub fn delayed_in_place(line: &mut [u10; 3], sample: u10) {
-    line[0] = line[1];
-    line[1] = line[2];
-    line[2] = sample;
-}
-
 pub fn highest_place(x: i48) -> u32
     requires { pos 0 <ℤ x }
     ensures { result ≤ 46 }
 {
     47 - x.leading_zeros()
-}
-
-pub fn slot(bitmap: u24) -> Option<u5>
-    ensures { IfSome result (λ place. place <ℤ pos 24) }
-{
-    if bitmap == u24::new(0) {
-        None
-    } else {
-        Some(u5::new(bitmap.trailing_zeros() as u8))
-    }
 }
 
 pub fn sign_extended_by_shifts(x: u9) -> i16
@@ -152,18 +124,4 @@ pub fn high_sample(word: u32) -> i12
     ensures { Congruent 12 result (pos (word / 16)) }
 {
     i12::from_bits(((word >> 4) & 0xFFF) as u16)
-}
-
-#[tactic(auto, using(arbitrary_laws::proofs::numbers::Conversions::congruences))]
-pub fn pressure(word: u32) -> i20
-    ensures { Congruent 20 result (pos (word / 256)) }
-{
-    i20::from_bits((word >> 8) & 0xF_FFFF)
-}
-
-#[tactic(auto, using(arbitrary_laws::proofs::numbers::Conversions::congruences))]
-pub fn coordinate(word: u64) -> i40
-    ensures { Congruent 40 result (pos (word / 256)) }
-{
-    i40::from_bits((word >> 8) & 0xFF_FFFF_FFFF)
 }

@@ -39,31 +39,6 @@ pub fn refused_by_a_step(a: u7) -> Result<(), Stop>
     )
 }
 
-pub fn two_steps(a: u24, b: u24) -> u24
-    requires { (a +ℤ b) ≤ℤ pos 1000 }
-    ensures { result ≡ a +ℤ b +ℤ b }
-{
-    let mut registers = [a, b];
-    let _ = run(
-        &[
-            Step::Two {
-                op: TwoOp::WrappingAdd,
-                to: 0,
-                left: 0,
-                right: 1,
-            },
-            Step::Two {
-                op: TwoOp::WrappingAdd,
-                to: 0,
-                left: 0,
-                right: 1,
-            },
-        ],
-        &mut registers,
-    );
-    registers[0]
-}
-
 pub fn the_step_is_the_call(a: i12, b: i12) -> bool
     ensures { IsTrue result }
 {

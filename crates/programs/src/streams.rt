@@ -1,7 +1,7 @@
 //! Values that are written to a stream, and read back.
 #![tactic(auto, using(arbitrary_laws::proofs::bytes::Rulesets::streams))]
 
-ghost use Rattle.std.specs.Prelude.{◌≡◌, IsTrue, IfOk, Some};
+ghost use Rattle.std.specs.Prelude.{◌≡◌, IfOk, Some};
 
 use arbitrary_int::Watched;
 use arbitrary_int::prelude::*;
@@ -30,14 +30,6 @@ pub fn written_and_read(alloc: Global, x: u24) -> io::Result<u24>
     let bytes = log.into_inner();
     let found = u24::deserialize_reader(&mut Watched::new(bytes.as_slice()))?;
     Ok(found)
-}
-
-pub fn stored_and_read(x: u12) -> bool
-    ensures { IsTrue result }
-{
-    let mut out = [0u8; 16];
-    let n = x.to_borsh_bytes(&mut out);
-    u12::from_borsh_bytes(&out[..n]) == Some(x)
 }
 
 pub fn signed_and_back(x: i12) -> Option<i12>
