@@ -1,5 +1,7 @@
 //! The four families of arithmetic, on each pair of operands.
 
+ghost use Rattle.std.specs.Prelude.{◌≢◌, pos};
+
 use crate::operands::{number, patterns, width};
 use arbitrary_int::prelude::*;
 
@@ -54,60 +56,66 @@ struct Results {
     overflowing: (u128, bool),
 }
 
-/// The first family whose results are not those of the exact result.
-fn first_wrong<V: FixedWidth>(a: V, b: V) -> Option<&'static str> {
-    let (bits, signed) = (width(a), V::IS_SIGNED);
-    let (x, y) = (a.to_u128_bits(), b.to_u128_bits());
-    let (least, greatest) = (V::min_value().to_u128_bits(), V::max_value().to_u128_bits());
-    let sum = a.overflowing_add(b);
-    let difference = a.overflowing_sub(b);
-    let product = a.overflowing_mul(b);
-    let families = [
-        Results {
-            name: "add",
-            wrapping: a.wrapping_add(b).to_u128_bits(),
-            saturating: a.saturating_add(b).to_u128_bits(),
-            checked: a.checked_add(b).map(|v| v.to_u128_bits()),
-            overflowing: (sum.0.to_u128_bits(), sum.1),
-        },
-        Results {
-            name: "sub",
-            wrapping: a.wrapping_sub(b).to_u128_bits(),
-            saturating: a.saturating_sub(b).to_u128_bits(),
-            checked: a.checked_sub(b).map(|v| v.to_u128_bits()),
-            overflowing: (difference.0.to_u128_bits(), difference.1),
-        },
-        Results {
-            name: "mul",
-            wrapping: a.wrapping_mul(b).to_u128_bits(),
-            saturating: a.saturating_mul(b).to_u128_bits(),
-            checked: a.checked_mul(b).map(|v| v.to_u128_bits()),
-            overflowing: (product.0.to_u128_bits(), product.1),
-        },
-    ];
-    for family in families {
-        let (pattern, fits) = exact(family.name, x, y, bits, signed);
-        let end = if is_below_zero(family.name, x, y, signed) {
+impl Results {
+    /// Whether they are those of the exact result at this width. Results that clamp end at `least` and `greatest`.
+    fn are_right(&self, x: u128, y: u128, bits: u32, least: u128, greatest: u128) -> bool {
+        // the least number of a type with a sign is below 0
+        let signed = least != 0;
+        let (pattern, fits) = exact(self.name, x, y, bits, signed);
+        let end = if is_below_zero(self.name, x, y, signed) {
             least
         } else {
             greatest
         };
         let wrapped = number(pattern, bits, signed);
-        let right = family.wrapping == wrapped
-            && family.overflowing == (wrapped, !fits)
-            && family.saturating == (if fits { pattern } else { end })
-            && family.checked == (if fits { Some(pattern) } else { None });
-        if !right {
+        self.wrapping == wrapped
+            && self.overflowing == (wrapped, !fits)
+            && self.saturating == (if fits { pattern } else { end })
+            && self.checked == (if fits { Some(pattern) } else { None })
+    }
+}
+
+/// The results of the four calls of a family.
+macro_rules! results {
+    ($name:literal, $a:ident, $b:ident: $wrapping:ident $saturating:ident $checked:ident $overflowing:ident) => {{
+        let (low, overflow) = $a.$overflowing($b);
+        Results {
+            name: $name,
+            wrapping: $a.$wrapping($b).to_u128_bits(),
+            saturating: $a.$saturating($b).to_u128_bits(),
+            checked: $a.$checked($b).map(|v| v.to_u128_bits()),
+            overflowing: (low.to_u128_bits(), overflow),
+        }
+    }};
+}
+
+fn sums<V: SumCalls>(a: V, b: V) -> Results {
+    results!("add", a, b: wrapping_add saturating_add checked_add overflowing_add)
+}
+
+fn differences<V: SumCalls>(a: V, b: V) -> Results {
+    results!("sub", a, b: wrapping_sub saturating_sub checked_sub overflowing_sub)
+}
+
+fn products<V: ProductCalls>(a: V, b: V) -> Results {
+    results!("mul", a, b: wrapping_mul saturating_mul checked_mul overflowing_mul)
+}
+
+fn quotients<V: ProductCalls>(a: V, b: V) -> Results
+    requires { V.number b ≢ pos 0 }
+{
+    results!("div", a, b: wrapping_div saturating_div checked_div overflowing_div)
+}
+
+/// The first family whose results are not those of the exact result. A checked quotient by zero is refused.
+fn first_wrong<V: Integer + SumCalls + ProductCalls>(a: V, b: V) -> Option<&'static str> {
+    let (x, y, bits) = (a.to_u128_bits(), b.to_u128_bits(), width(a));
+    let (least, greatest) = (V::min_value().to_u128_bits(), V::max_value().to_u128_bits());
+    for family in [sums(a, b), differences(a, b), products(a, b)] {
+        if !family.are_right(x, y, bits, least, greatest) {
             return Some(family.name);
         }
     }
-    None
-}
-
-/// The same for quotients by a divisor other than zero. A checked quotient by zero is refused.
-fn first_wrong_quotient<V: FixedWidth>(a: V, b: V) -> Option<&'static str> {
-    let (bits, signed) = (width(a), V::IS_SIGNED);
-    let (x, y) = (a.to_u128_bits(), b.to_u128_bits());
     if b == V::zero() {
         return if a.checked_div(b).is_none() {
             None
@@ -115,32 +123,21 @@ fn first_wrong_quotient<V: FixedWidth>(a: V, b: V) -> Option<&'static str> {
             Some("div by zero")
         };
     }
-    let (pattern, fits) = exact("div", x, y, bits, signed);
-    let wrapped = number(pattern, bits, signed);
-    let overflowing = a.overflowing_div(b);
-    let right = a.wrapping_div(b).to_u128_bits() == wrapped
-        && (overflowing.0.to_u128_bits(), overflowing.1) == (wrapped, !fits)
-        && a.saturating_div(b).to_u128_bits()
-            == (if fits {
-                pattern
-            } else {
-                V::max_value().to_u128_bits()
-            })
-        && a.checked_div(b).map(|v| v.to_u128_bits()) == (if fits { Some(pattern) } else { None });
-    if right { None } else { Some("div") }
+    if quotients(a, b).are_right(x, y, bits, least, greatest) {
+        None
+    } else {
+        Some("div")
+    }
 }
 
 /// The first call that is wrong on any pair of operands of this type.
-pub fn wrong<V: FixedWidth>(sample: V) -> Option<&'static str> {
+pub fn wrong<V: Integer + SumCalls + ProductCalls>(sample: V) -> Option<&'static str> {
     let _ = sample.to_u128_bits();
     let operands = patterns(width(sample));
     for x in operands {
         for y in operands {
             let (a, b) = (V::from_u128_bits(x), V::from_u128_bits(y));
             if let Some(name) = first_wrong(a, b) {
-                return Some(name);
-            }
-            if let Some(name) = first_wrong_quotient(a, b) {
                 return Some(name);
             }
         }

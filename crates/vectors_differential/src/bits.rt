@@ -60,32 +60,35 @@ fn popcount(pattern: u128, bits: u32) -> u32 {
     count
 }
 
+/// Whether one of the three calls that shift, by an amount of the width or more where it is `$past`, gives another result.
+macro_rules! shifts_differ {
+    ($a:ident, $amount:ident, $moved:ident, $past:ident: $wrapping:ident $checked:ident $overflowing:ident) => {{
+        let (shifted, is_past) = $a.$overflowing($amount);
+        let checked = $a.$checked($amount).map(|v| v.to_u128_bits());
+        $a.$wrapping($amount).to_u128_bits() != $moved
+            || (shifted.to_u128_bits(), is_past) != ($moved, $past)
+            || checked != (if $past { None } else { Some($moved) })
+    }};
+}
+
+fn shl_differs<V: ShiftCalls>(a: V, amount: u32, moved: u128, past: bool) -> bool {
+    shifts_differ!(a, amount, moved, past: wrapping_shl checked_shl overflowing_shl)
+}
+
+fn shr_differs<V: ShiftCalls>(a: V, amount: u32, moved: u128, past: bool) -> bool {
+    shifts_differ!(a, amount, moved, past: wrapping_shr checked_shr overflowing_shr)
+}
+
 /// The first call by an amount that is wrong.
-fn first_wrong_by<V: FixedWidth>(a: V, amount: u32) -> Option<&'static str> {
+fn first_wrong_by<V: ShiftCalls>(a: V, amount: u32) -> Option<&'static str> {
     let (bits, signed) = (width(a), V::IS_SIGNED);
     let pattern = a.to_u128_bits();
-    let left = moved("shl", pattern, amount, bits, signed);
-    let right = moved("shr", pattern, amount, bits, signed);
     let past = bits <= amount;
-    let (shl, shl_past) = a.overflowing_shl(amount);
-    let (shr, shr_past) = a.overflowing_shr(amount);
-    if a.wrapping_shl(amount).to_u128_bits() != left
-        || (shl.to_u128_bits(), shl_past) != (left, past)
-    {
+    if shl_differs(a, amount, moved("shl", pattern, amount, bits, signed), past) {
         return Some("shl");
     }
-    if a.wrapping_shr(amount).to_u128_bits() != right
-        || (shr.to_u128_bits(), shr_past) != (right, past)
-    {
+    if shr_differs(a, amount, moved("shr", pattern, amount, bits, signed), past) {
         return Some("shr");
-    }
-    let checked_left = a.checked_shl(amount).map(|v| v.to_u128_bits());
-    let checked_right = a.checked_shr(amount).map(|v| v.to_u128_bits());
-    if checked_left != (if past { None } else { Some(left) }) {
-        return Some("checked_shl");
-    }
-    if checked_right != (if past { None } else { Some(right) }) {
-        return Some("checked_shr");
     }
     if a.rotate_left(amount).to_u128_bits() != moved("rotate_left", pattern, amount, bits, signed) {
         return Some("rotate_left");
@@ -99,7 +102,7 @@ fn first_wrong_by<V: FixedWidth>(a: V, amount: u32) -> Option<&'static str> {
 }
 
 /// The first call on one value that is wrong.
-fn first_wrong_of_one<V: FixedWidth>(a: V) -> Option<&'static str> {
+fn first_wrong_of_one<V: Integer + ShiftCalls + CountCalls>(a: V) -> Option<&'static str> {
     let (bits, signed) = (width(a), V::IS_SIGNED);
     let pattern = a.to_u128_bits();
     if a.reverse_bits().to_u128_bits() != moved("reverse", pattern, 0, bits, signed) {
@@ -130,7 +133,7 @@ fn first_wrong_of_one<V: FixedWidth>(a: V) -> Option<&'static str> {
 }
 
 /// The first bitwise operator that is wrong.
-fn first_wrong_of_two<V: FixedWidth>(a: V, b: V) -> Option<&'static str> {
+fn first_wrong_of_two<V: Integer>(a: V, b: V) -> Option<&'static str> {
     let (x, y) = (a.to_u128_bits(), b.to_u128_bits());
     if (a & b).to_u128_bits() != x & y {
         return Some("and");
@@ -164,7 +167,7 @@ macro_rules! differs {
 }
 
 /// The first extraction that is wrong, of sources that have room.
-fn first_wrong_extraction<V: FixedWidth>(sample: V, source: u128) -> Option<&'static str> {
+fn first_wrong_extraction<V: Extraction>(sample: V, source: u128) -> Option<&'static str> {
     let _ = sample.to_u128_bits();
     let (bits, signed) = (width(sample), V::IS_SIGNED);
     if differs!(128, u128, extract_u128, extract_i128, bits, signed, source) {
@@ -186,7 +189,7 @@ fn first_wrong_extraction<V: FixedWidth>(sample: V, source: u128) -> Option<&'st
 }
 
 /// The first call that is wrong on any operand of this type.
-pub fn wrong<V: FixedWidth>(sample: V) -> Option<&'static str> {
+pub fn wrong<V: Integer + ShiftCalls + CountCalls + Extraction>(sample: V) -> Option<&'static str> {
     let _ = sample.to_u128_bits();
     let bits = width(sample);
     let operands = patterns(bits);

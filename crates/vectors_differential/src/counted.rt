@@ -26,7 +26,7 @@ fn counts() -> [(u32, u32); 15] {
 }
 
 /// The first exponent that takes another count.
-fn first_wrong<V: FixedWidth>(base: V, counts: &[(u32, u32)]) -> Option<u32> {
+fn first_wrong<V: ProductCalls>(base: V, counts: &[(u32, u32)]) -> Option<u32> {
     for (exponent, count) in counts {
         let (_, counted) = base.saturating_pow_counted(*exponent);
         if counted != *count {
