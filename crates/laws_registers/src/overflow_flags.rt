@@ -1,7 +1,7 @@
 //! Carry, borrow and overflow, computed from one bit of the operands and the result.
 #![tactic(auto, using(arbitrary_laws::proofs::Sets::overflow_flags))]
 
-ghost use Rattle.std.specs.Prelude.{◌≡◌, ◌≢◌, ◌↔◌, ◌/◌, ◌%◌, ◌+◌, ◌-◌, ◌<◌, ◌≤◌, int_div, pos, IsTrue};
+ghost use Rattle.std.specs.Prelude.{◌≡◌, ◌≢◌, ◌↔◌, ◌/◌, ◌%◌, ◌+◌, ◌-◌, ◌<◌, ◌≤◌, int_div, pos, unsigned_abs, IsTrue};
 
 use arbitrary_int::prelude::*;
 
@@ -76,4 +76,23 @@ pub fn signs_differ(a: u12, b: u12) -> bool
     ensures { IsTrue result ↔ (int_div a (pos 2048) ≢ int_div b (pos 2048)) }
 {
     (a ^ b) & u12::new(0x800) != u12::new(0)
+}
+
+/// Whether the sum passes the range of a signed number with the same bits.
+pub fn sum_of_twelve_overflows(a: u12, b: u12) -> bool
+    ensures {
+        let x = unsigned_abs a in
+        let y = unsigned_abs b in
+        IsTrue result ↔ ((x / 2048 ≡ y / 2048) × ((x + y) / 2048 % 2 ≢ x / 2048))
+    }
+{
+    let r = a.wrapping_add(b);
+    (a ^ r) & (b ^ r) & u12::new(0x800) != u12::new(0)
+}
+
+/// Whether the low 4 bits of a difference borrow.
+pub fn low_of_twelve_borrows(a: u12, b: u12) -> bool
+    ensures { IsTrue result ↔ (unsigned_abs a % 16 < unsigned_abs b % 16) }
+{
+    (a ^ b ^ a.wrapping_sub(b)) & u12::new(0x10) != u12::new(0)
 }

@@ -1,14 +1,23 @@
 -- Carry, overflow and borrow from bits of a primitive or a `UInt`: how one bit of `&`, `|`, `^` and `!` depends on
 -- that bit of the operands, as inequalities, so that sums and differences decide it.
-use Rattle.std.specs.Prelude.{◌≡◌, ℕ, zero, suc, ◌+◌, ◌-◌, ◌*◌, ◌/◌, ◌%◌, ◌^◌, ◌<◌, ◌≤◌}
+use Rattle.std.specs.Prelude.{◌≡◌, ℕ, ℤ, zero, suc, false, pos, unsigned_abs, ◌+◌, ◌-◌, ◌*◌, ◌/◌, ◌%◌, ◌^◌, ◌<◌, ◌≤◌, ◌+ℤ◌, ◌-ℤ◌}
 use Rattle.std.specs.Int.Bits.{bit_and, bit_or, bit_xor, or_add_and, xor_add_and}
 use Rattle.std.specs.Int.{bit_at}
 use lib.Pow.{pow_mono}
 use native.Mathlib.Nat.{zero-div}
 use Rattle.std.proofs.Common.{refl, sym, ap, ap₂, ◌∙◌, arith, inl, inr}
 use Rattle.std.proofs.lemmas.Bool.{cases_lt}
+use Rattle.std.proofs.lemmas.Int.{ints}
 use Rattle.std.proofs.lemmas.Nat.{and_le_l, and_shr, le-div, or_shr, shr-shr, xor_shr}
 use Rattle.std.proofs.lemmas.Nat.Bits.{and_pow, bit_at_and, bit_at_or, bit_at_xor, bit_at_lowest, bit_at-lt, bit_at-suc}
+use Rattle.arbitrary_base.specs.Operation.{wrapped_difference, wrapped_sum}
+use Rattle.arbitrary_base.specs.Range.{InRange}
+use Rattle.arbitrary_base.specs.Residue.{Congruent, wrap}
+use Rattle.arbitrary_base.proofs.integers.Ring.{pos-unsigned_abs}
+use Rattle.arbitrary_base.proofs.modular.Congruence.{Congruent-from_apart}
+use Rattle.arbitrary_base.proofs.modular.Residue.{wrap-same}
+use Rattle.arbitrary_base.proofs.operations.Definition.{difference-is, sum-is}
+use Rattle.arbitrary_base.proofs.storages.Primitive.{wrap-pos}
 use Rattle.arbitrary_laws.proofs.words.LowestOne.{next, power}
 
 module _ (a b d : ℕ) (c : 0 < d) (p : bit_and d (d - 1) ≡ 0) where
@@ -104,5 +113,22 @@ under_one n m p =
     let h = power (suc m) (omega arith) (ap (bit_and (suc m)) s ∙ p) in
     ap (bit_and n) h.1 ∙ and_pow n h.0 ∙ sym (ap (λ (i : ℕ). n / i % 2 * i) h.1)
 
+-- sums and differences of a `UInt`, as those of a primitive
+module _ (B : ℕ) (x y : ℤ) (h : 1 ≤ B) (f : InRange false B x) (g : InRange false B y) where
+  pub sum-remainder : wrapped_sum false B x y ≡ pos ((unsigned_abs x + unsigned_abs y) % 2 ^ B)
+  sum-remainder =
+      let n = unsigned_abs x + unsigned_abs y in
+      let e : x +ℤ y ≡ pos n = omega (arith, ints, pos-unsigned_abs x f.low, pos-unsigned_abs y g.low) in
+      sum-is false B x y ∙ ap (wrap false B) e ∙ wrap-pos B n h
+
+  pub difference-remainder : wrapped_difference false B x y ≡ pos ((unsigned_abs x + (2 ^ B - unsigned_abs y)) % 2 ^ B)
+  difference-remainder =
+      let n = unsigned_abs x + (2 ^ B - unsigned_abs y) in
+      let p = pos-unsigned_abs x f.low in
+      let q = pos-unsigned_abs y g.low in
+      let l : unsigned_abs y ≤ 2 ^ B = omega (arith, ints, q, g.high) in
+      let c : Congruent B (pos n) (x -ℤ y) = Congruent-from_apart B (pos n) (x -ℤ y) (0, 1, omega (arith, ints, p, q, l)) in
+      difference-is false B x y ∙ sym (wrap-same false B (pos n) (x -ℤ y) h c) ∙ wrap-pos B n h
+
 -- carry, overflow and borrow, and a half carry
-pub ruleset one_bits = (under_one, digit_of_and, digit_of_or, digit_of_xor, digit_of_not)
+pub ruleset one_bits = (under_one, digit_of_and, digit_of_or, digit_of_xor, digit_of_not, sum-remainder, difference-remainder)
