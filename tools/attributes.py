@@ -1,5 +1,6 @@
 """The attributes that name laws, and the file of a crate that has further laws, for prove.py."""
 import re
+from contextlib import contextmanager
 
 from relevance import imports
 
@@ -70,3 +71,15 @@ def write(new):
     for file, text in new.items():
         file.parent.mkdir(parents=True, exist_ok=True)
         file.write_text(text)
+
+
+@contextmanager
+def changed(new):
+    """Gives these files their new texts, and in the end the old ones again."""
+    old = {file: file.read_text() if file.is_file() else None for file in new}
+    try:
+        write(new)
+        yield
+    finally:
+        for file, text in old.items():
+            file.unlink(missing_ok=True) if text is None else file.write_text(text)

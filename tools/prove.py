@@ -19,12 +19,13 @@ import sys
 import tempfile
 import time
 from concurrent.futures import ThreadPoolExecutor
+from contextlib import ExitStack
 from pathlib import Path
 
 if not shutil.which('rt'):
     sys.exit('prove.py: there is no rt on the PATH: install the Rattle kit, whose rt proves the crates')
 
-from attributes import changes, path, write
+from attributes import changed, changes, path, write
 from program import ROOT
 from relevance import Index, words
 from wrong_bodies import KIT, PARTS, below, command, libraries
@@ -33,12 +34,17 @@ from wrong_bodies import KIT, PARTS, below, command, libraries
 LAWS = 'arbitrary_laws'
 PAGE = ROOT / 'docs/PROVING.md'
 STARTED = time.monotonic()
-# As many steps as the check gives the laws of an attribute.
+# As many steps as the check gives the laws of an attribute, and the eighth of them that is enough for most proofs.
 STEPS = 2000000
-# What each round tries at a goal: the sets up to this rank, one at a time, and selections of this many of the best laws.
-ROUNDS = [(12, (8,)), (40, (24,)), (1000, (16, 48, 80))]
-# A check takes this much memory, in GB.
+FEW = 250000
+# What each round tries at a goal: with so many steps the sets up to this rank, one at a time, and so many of the best laws.
+ROUNDS = [[(FEW, 40, (8, 24))], [(STEPS, 12, (8,)), (FEW, 1000, (16, 48))], [(STEPS, 60, (24, 80))]]
+# The other goals of a function are tried with so many of the lists that close its first. A function gets so many steps at most.
+LISTS = 4
+MOST = 300000000
+# A check takes this much memory, in GB, and this many seconds at least.
 MEMORY = 2.5
+START = 15
 CHECKED = re.compile(r'^checked \w+::(\S+), \d+ of \d+')
 ENDED = re.compile(r'^(?:logic=|holes=|only=)', re.M)
 ERROR = re.compile(r'^(?:\./)?(\S*:? ?error(?:\[[\w-]+\])?: .*)', re.M)
@@ -78,24 +84,24 @@ class Function:
         self.goals = {goal: (type_, rest) for goal, type_, rest in GOAL.findall(offer)}
         # by goal, values that break it whatever the laws
         self.broken = {}
-        # by goal: what the check says of it, what was tried, and what closed it, the best first
+        # by goal: what the check says of it, the lists that were tried with their steps, and those that closed it, the best first
         self.shown = dict.fromkeys(self.goals, '')
-        self.tried = {goal: set() for goal in self.goals}
+        self.tried = {goal: {} for goal in self.goals}
         self.closed = {goal: [] for goal in self.goals}
 
     def open_goals(self):
         return [goal for goal in self.goals if not self.closed[goal]]
 
     def answers(self, attempts):
-        """Its answers: each attempt, which is a goal and a list of laws, and then the open goals."""
-        entries = {law: f'law-{number}' for number, law in enumerate(dict.fromkeys(law for _, laws in attempts for law in laws))}
+        """Its answers: each attempt, which is a goal, a list of laws and a number of steps, and then the open goals."""
+        entries = {law: f'law-{number}' for number, law in enumerate(dict.fromkeys(law for _, laws, _ in attempts for law in laws))}
         lines = [self.head, 'use Rattle.std.proofs.Common.{arith as the_arith}']
         lines += [f'use {module}.{{{name} as {here}}}' for (module, name), here in entries.items()]
-        for number, (goal, laws) in enumerate(attempts):
+        for number, (goal, laws, steps) in enumerate(attempts):
             type_, rest = self.goals[goal]
             name = f'try-{number}'
             call = ', '.join(['the_arith', *(entries[law] for law in laws)])
-            lines += ['', f'{name} : {type_}', f'{name}{rest} = grind ({call}) steps {STEPS}']
+            lines += ['', f'{name} : {type_}', f'{name}{rest} = grind ({call}) steps {steps}']
         for goal, (type_, rest) in self.goals.items():
             lines += ['', f'pub {goal} : {type_}', f'{goal}{rest} = ?']
         return '\n'.join(lines) + '\n'
@@ -105,7 +111,7 @@ class Copies:
     """Copies of the crate, for checks at the same time."""
 
     def __init__(self, crate, room, uses, jobs):
-        self.crate, self.uses, self.running = crate, uses, []
+        self.crate, self.uses, self.running, self.is_ended = crate, uses, [], False
         free = int(re.search(r'MemAvailable: *(\d+)', Path('/proc/meminfo').read_text())[1]) / 2**20
         self.count = max(1, min(jobs or len(os.sched_getaffinity(0)), int(free / MEMORY)))
         self.rooms = [room / str(number) for number in range(self.count)]
@@ -120,23 +126,26 @@ class Copies:
         """Checks these functions in a copy, and returns what it says."""
         root = 'src/lib.rt' if (room / 'crate/src/lib.rt').is_file() else 'src/main.rt'
         words = [root if it == 'src/lib.rt' else it for it in command(self.crate, room, functions, self.uses)]
-        said, code = run([*words, '--progress', *flags], room / 'crate', self.running)
-        if not ENDED.search(said):
-            raise Stop(why(self.crate, said, code))
-        return said
+        for is_last in (False, True):
+            said, code = run([*words, '--progress', *flags], room / 'crate', self.running)
+            if ENDED.search(said):
+                return said
+            # for want of memory a check is killed, and may end once others have
+            if is_last or self.is_ended or not is_killed(code):
+                raise Stop(why(self.crate, said, code))
+            say('a check was killed: once more')
 
     @staticmethod
     def answers_of(room, function):
         return room / 'crate/proofs' / function.name.replace('::', '/') / 'Answers.antt'
 
     def tried(self, attempts):
-        """Tries these attempts, lists of a goal and laws by function, side by side. Notes what closes a goal, and what the check says of each."""
+        """Tries these attempts, by function, side by side. Notes what closes a goal, and what the check says of each."""
         shares = [{} for _ in self.rooms]
         parts = math.ceil(self.count / max(1, len(attempts)))
         pieces = [(function, listed[part::parts]) for function, listed in attempts.items() for part in range(min(parts, len(listed) or 1))]
-        for function, piece in sorted(pieces, key=lambda it: -len(it[1])):
-            # a function itself takes as long as some ten attempts
-            share = min(shares, key=lambda it: sum(len(listed) + 10 for listed in it.values()))
+        for function, piece in sorted(pieces, key=lambda it: -cost(it[1])):
+            share = min(shares, key=lambda it: sum(map(cost, it.values())))
             share.setdefault(function, []).extend(piece)
 
         def work(room, share):
@@ -150,10 +159,10 @@ class Copies:
             for function, listed in share.items():
                 self.answers_of(room, function).unlink()
                 function.shown.update((goal, shown[function.name, goal].partition('⊢')[2]) for goal in function.goals if (function.name, goal) in shown)
-                for number, (goal, laws) in enumerate(listed):
+                for number, (goal, laws, steps) in enumerate(listed):
                     # where the goal is not shown the answers were not read
                     if (function.name, goal) in shown:
-                        function.tried[goal].add(frozenset(laws))
+                        function.tried[goal][frozenset(laws)] = steps
                         if (function.name, number) not in failed:
                             function.closed[goal].append(laws)
 
@@ -164,12 +173,15 @@ class Copies:
         names = [it.name for it in solutions]
         if not names:
             return {}
-        for room in self.rooms:
-            write(changes(room / 'crate', solutions))
         say(f'attributes: {len(names)} functions')
         shares = [names[number :: self.count] for number in range(self.count)]
-        said = self.side_by_side(lambda room, share: self.check(room, share) if share else '', self.rooms, shares)
+        with ExitStack() as stack:
+            for room in self.rooms:
+                stack.enter_context(changed(changes(room / 'crate', solutions)))
+            said = self.side_by_side(lambda room, share: self.check(room, share) if share else '', self.rooms, shares)
         proved = {name for it in said for name, verdict in verdicts(self.crate, it).items() if verdict == 'proved'}
+        for it, found in solutions.items():
+            say(f'{it.name}: {"proved" if it.name in proved else "not proved"} by {in_words(*found)}')
         return {it: found for it, found in solutions.items() if it.name in proved}
 
     def side_by_side(self, work, *lists):
@@ -178,9 +190,15 @@ class Copies:
             try:
                 return list(pool.map(work, *lists))
             except BaseException:
+                self.is_ended = True
                 for it in list(self.running):
                     it.kill()
                 raise
+
+
+def cost(listed):
+    """How long these attempts at a function take, in steps. The function itself takes some of them."""
+    return STEPS + sum(steps for _, _, steps in listed)
 
 
 def strengths(shown, index):
@@ -209,9 +227,13 @@ def run(words, folder, running):
     return ''.join(said), child.returncode
 
 
+def is_killed(code):
+    return code < 0 or code in (137, 143)
+
+
 def why(crate, said, code):
     """Why a check has no result, in one line."""
-    if code < 0 or code in (137, 143):
+    if is_killed(code):
         return f'the check of {crate} was killed: nothing is changed'
     unknown, error = UNKNOWN.search(said), ERROR.search(said)
     last = (said.strip().splitlines() or ['it printed nothing'])[-1]
@@ -236,41 +258,64 @@ def offers(said):
     return found
 
 
+def in_words(named, laws):
+    """These sets, and how many further laws."""
+    return ' and '.join([*map(path, named), *([f'{len(laws)} laws'] if laws else [])])
+
+
+def with_all(lists):
+    """These lists of laws, each with as many steps as the check gives an attribute."""
+    return [(laws, STEPS) for laws in lists]
+
+
 class Search:
     """The search for laws, over the functions of a crate with open goals."""
 
     def __init__(self, copies, index, functions):
         self.copies, self.index, self.functions = copies, index, functions
+        # the seconds of a step, as far as any were made
+        self.pace = 0.0
 
-    def choices(self, shown, last, counts):
-        """What to try at a goal of which the check says this: each of the best sets alone, and the best laws."""
+    def choices(self, shown, plan):
+        """What to try at a goal of which the check says this: each of the best sets alone, and the best laws, each with its steps."""
         known = strengths(shown, self.index)
-        laws = self.index.ranked_laws(known, max(counts))
-        return [*([it] for it in self.index.ranked_sets(known)[:last]), *(laws[:count] for count in counts)]
+        sets, laws = self.index.ranked_sets(known), self.index.ranked_laws(known, max(count for _, _, counts in plan for count in counts))
+        return [(found, steps) for steps, last, counts in plan for found in [*([it] for it in sets[:last]), *(laws[:count] for count in counts)]]
 
-    def close(self):
-        """Tries more and more laws until each goal is closed or all was tried. Returns the functions whose goals are all closed."""
-        # of many functions the check shows the goals of the first alone
+    def show_goals(self):
+        """Has the check show the goals that it has not shown: of many functions it shows those of the first alone."""
         if unseen := {it: [] for it in self.functions if not all(it.shown.values())}:
             say(f'the goals of {len(unseen)} functions')
             self.copies.tried(unseen)
-        for number, (last, counts) in enumerate(ROUNDS, 1):
-            wanted = {(it, goal): self.choices(it.shown[goal], last, counts) for it in self.functions for goal in it.open_goals()}
-            for it in self.try_all(wanted, f'round {number}'):
-                left = it.open_goals()
-                say(f'{it.name}: ' + (f'{len(left)} of {len(it.goals)} goals open' if left else f'closed by {self.by_which(it)}'))
-        return [it for it in self.functions if not it.open_goals()]
+
+    def round(self, what, plan):
+        """Tries this at the first open goal of each function, and at the others if something closes it: if nothing does, the function stays open."""
+        first = {it: it.open_goals()[0] for it in self.functions if it.open_goals()}
+        tried = self.try_all({(it, goal): self.choices(it.shown[goal], plan) for it, goal in first.items()}, what)
+        left = [it for it in tried if it.closed[first[it]] and it.open_goals()]
+        self.try_all({(it, goal): with_all(it.closed[first[it]][:LISTS]) for it in left for goal in it.open_goals()}, f'{what}, other goals')
+        self.try_all({(it, goal): self.choices(it.shown[goal], plan) for it in left for goal in it.open_goals()}, f'{what}, goals apart')
+        for it in tried:
+            count = len(it.open_goals())
+            say(f'{it.name}: {count} of {len(it.goals)} goals open')
 
     def try_all(self, wanted, what):
-        """Tries these lists of laws, by function and goal, as far as they were not. Returns the functions of which it tried any."""
+        """Tries these lists of laws, by function and goal, with so many steps each, as far as they were not. Returns the functions of which it tried
+        any."""
         attempts = {}
         for (function, goal), choices in wanted.items():
-            new = [(goal, laws) for laws in choices if laws and frozenset(laws) not in function.tried[goal]]
-            if new:
-                attempts.setdefault(function, []).extend(new)
+            spent = sum(sum(tried.values()) for tried in function.tried.values())
+            for laws, steps in choices:
+                listed = attempts.get(function, [])
+                if laws and steps > function.tried[goal].get(frozenset(laws), 0) and spent + cost(listed) < MOST:
+                    attempts.setdefault(function, listed).append((goal, laws, steps))
         if attempts:
-            say(f'{what}: {len(attempts)} functions, {sum(map(len, attempts.values()))} attempts')
+            total = sum(map(cost, attempts.values()))
+            count = sum(map(len, attempts.values()))
+            say(f'{what}: {len(attempts)} functions, {count} attempts' + (f', some {max(START, total * self.pace):.0f} s' if self.pace else ''))
+            started = time.monotonic()
             self.copies.tried(attempts)
+            self.pace = (time.monotonic() - started) / total
         return list(attempts)
 
     def is_set(self, laws):
@@ -287,10 +332,10 @@ class Search:
             def rest(key, gone):
                 return [law for law in left[key] if law not in {it for group in gone for it in group}]
 
-            self.try_all({key: [rest(key, [it]) for it in found] for key, found in groups.items()}, 'fewer laws')
+            self.try_all({key: with_all(rest(key, [it]) for it in found) for key, found in groups.items()}, 'fewer laws')
             spare = {key: [it for it in found if rest(key, [it]) in key[0].closed[key[1]]] for key, found in groups.items()}
             # where each can go they may not all go
-            self.try_all({key: [rest(key, part) for part in (it, it[::2], it[1::2])] for key, it in spare.items()}, 'fewer laws')
+            self.try_all({key: with_all(rest(key, part) for part in (it, it[::2], it[1::2])) for key, it in spare.items()}, 'fewer laws')
 
     def best(self, choices):
         """The smallest set of these choices, or else the fewest laws."""
@@ -304,26 +349,37 @@ class Search:
         named = list(dict.fromkeys(laws[0] for laws in found if self.is_set(laws)))
         return named, list(dict.fromkeys(law for laws in found if not self.is_set(laws) for law in laws))
 
-    def by_which(self, function):
-        """In words, the sets and how many further laws close all goals of a function."""
-        named, laws = self.solution(function)
-        return ' and '.join([*map(path, named), *([f'{len(laws)} laws'] if laws else [])])
+    def confirmed(self, functions):
+        """What proves these functions, whose goals are closed, as the check confirms it: if not by the first choice, by another."""
+        found = {}
+        while functions:
+            solutions = {it: self.solution(it) for it in functions}
+            found.update(self.copies.confirmed(solutions))
+            functions = [it for it in functions if it not in found and self.is_solved_without(it, *solutions[it])]
+        return found
+
+    def by_rank(self, function, rank):
+        """The set of this rank for the first goal of a function."""
+        return [self.index.ranked_sets(strengths(next(iter(function.shown.values())), self.index))[rank]], []
+
+    def is_solved_without(self, function, named, laws):
+        """Drops what names one of these sets, or has no laws but these. Returns whether each goal is still closed by something."""
+        function.closed = {goal: [it for it in closed if it[0] not in named and not {*it} <= {*laws}] for goal, closed in function.closed.items()}
+        return all(function.closed.values())
 
     def by_one_set(self, functions):
         """Tries each set at each goal of functions whose laws do not prove them together. Returns those that another choice may prove."""
-        for function in functions:
-            named, laws = self.solution(function)
-            for goal, closed in function.closed.items():
-                function.closed[goal] = [it for it in closed if it[0] not in named and it != laws]
-        self.try_all({(it, goal): [[name] for name in self.index.for_callers] for it in functions for goal in it.goals}, 'one set for all goals')
+        first = {it: next(iter(it.goals)) for it in functions}
+        self.try_all({(it, goal): with_all([name] for name in self.index.for_callers) for it, goal in first.items()}, 'one set for all goals')
+        self.try_all({(it, goal): with_all(filter(self.is_set, it.closed[first[it]])) for it in functions for goal in it.goals}, 'one set for all goals')
         return [it for it in functions if all(it.closed.values())]
 
     def by_few_laws(self, functions):
         """Tries the best laws and no set at each goal of functions that no set proves. Returns those that they may prove, with as few as do."""
-        counts = sorted(count for _, found in ROUNDS for count in found)
+        plan = [(STEPS, 0, tuple(sorted(count for plan in ROUNDS for _, _, counts in plan for count in counts)))]
         for function in functions:
             function.closed = {goal: [it for it in closed if not self.is_set(it)] for goal, closed in function.closed.items()}
-        self.try_all({(it, goal): self.choices(it.shown[goal], 0, counts) for it in functions for goal in it.open_goals()}, 'laws alone')
+        self.try_all({(it, goal): self.choices(it.shown[goal], plan) for it in functions for goal in it.open_goals()}, 'laws alone')
         found = [it for it in functions if all(it.closed.values())]
         self.lessen(found)
         return found
@@ -361,14 +417,20 @@ def first_check(crate, names, jobs):
 
 def found_in(copies, index, functions):
     """By function, what closes its goals as the check confirms it: public sets, and further laws."""
-    search = Search(copies, index, functions)
-    closed = search.close()
-    search.lessen(closed)
-    confirmed = copies.confirmed({it: search.solution(it) for it in closed})
+    search, confirmed, refused = Search(copies, index, functions), {}, []
+    search.show_goals()
+    for number, plan in enumerate(ROUNDS, 1):
+        search.round(f'round {number} of {len(ROUNDS)}', plan)
+        closed = [it for it in functions if it not in confirmed and not it.open_goals()]
+        search.lessen(closed)
+        confirmed.update(search.confirmed(closed))
+        refused += [it for it in closed if it not in confirmed and it not in refused]
     # laws that close a goal can keep the search from another goal of the function
-    for others in (search.by_one_set, search.by_few_laws):
-        if left := [it for it in closed if it not in confirmed]:
-            confirmed.update(copies.confirmed({it: search.solution(it) for it in others(left)}))
+    for further in (search.by_one_set, search.by_few_laws):
+        confirmed.update(search.confirmed(further([it for it in refused if it not in confirmed])))
+    # the check does more with an attribute than with an attempt
+    for rank in range(LISTS):
+        confirmed.update(copies.confirmed({it: search.by_rank(it, rank) for it in functions if it not in confirmed}))
     return confirmed
 
 
@@ -392,25 +454,24 @@ def bare(copies, names):
     return functions
 
 
-def written(crate, folder, solutions, names, jobs):
-    """Writes the attributes and the laws, and to crates.txt the libraries that have them, and checks again. If that has no result, it restores all
-    files."""
+def texts_with(crate, folder, solutions):
+    """The new text of each file that gets these attributes and laws, and of crates.txt where it lacks the libraries that have them."""
     new = changes(folder, solutions)
-    uses = libraries()[crate]
     needed = {entry[0].split('.')[1] for named, laws in solutions.values() for entry in [*named, *laws]} & set(libraries())
-    if lacking := sorted(needed - {*uses, crate}):
+    if lacking := sorted(needed - {*libraries()[crate], crate}):
         file = ROOT / 'crates.txt'
         new[file] = re.sub(rf'^({crate}\b[^:\n]*):?', rf'\1: {" ".join(lacking)}', file.read_text(), flags=re.M)
-        say(f'crates.txt: {crate} now uses {" ".join(lacking)}')
-    old = {file: file.read_text() if file.is_file() else None for file in new}
-    try:
-        write(new)
-        say(f'wrote {", ".join(str(it.relative_to(ROOT)) for it in new)}')
-        return first_check(crate, names, jobs)[0]
-    except BaseException:
-        for file, text in old.items():
-            file.unlink() if text is None else file.write_text(text)
-        raise
+    return new
+
+
+def written(crate, folder, solutions, names, jobs):
+    """Writes the attributes and laws with which the check proves their functions. Returns what it says of each function."""
+    with changed(texts_with(crate, folder, solutions)):
+        verdict = first_check(crate, names, jobs)[0]
+    new = texts_with(crate, folder, {it: found for it, found in solutions.items() if verdict.get(it.name) == 'proved'})
+    write(new)
+    say(f'wrote {", ".join(str(it.relative_to(ROOT)) for it in new) or "nothing"}')
+    return verdict
 
 
 def searched(crate, names, functions, jobs):
