@@ -80,11 +80,9 @@ pub fn signs_differ(a: u12, b: u12) -> bool
 
 /// Whether the sum passes the range of a signed number with the same bits.
 pub fn sum_of_twelve_overflows(a: u12, b: u12) -> bool
-    ensures {
-        let x = unsigned_abs a in
+    ensures { let x = unsigned_abs a in
         let y = unsigned_abs b in
-        IsTrue result ↔ ((x / 2048 ≡ y / 2048) × ((x + y) / 2048 % 2 ≢ x / 2048))
-    }
+        IsTrue result ↔ ((x / 2048 ≡ y / 2048) × ((x + y) / 2048 % 2 ≢ x / 2048)) }
 {
     let r = a.wrapping_add(b);
     (a ^ r) & (b ^ r) & u12::new(0x800) != u12::new(0)
