@@ -1,9 +1,21 @@
 //! Facts about more calls in code that is generic over the type or its storage.
 
-ghost use Rattle.std.specs.Prelude.{◌≡◌, ◌↔◌, ◌≤ℤ◌, pos, IsTrue};
-ghost use Rattle.arbitrary_int.specs.Range.{InRange};
+ghost use Rattle.std.specs.Prelude.{◌≡◌, ◌↔◌, ◌+ℤ◌, ◌≤ℤ◌, ◌<ℤ◌, pos, IsTrue};
+ghost use Rattle.arbitrary_int.specs.Range.{InRange, hi};
 
 use arbitrary_int::prelude::*;
+
+pub fn added_or_greatest<V: FixedWidth + ValidWidth>(a: V, b: V) -> V
+    ensures fits { InRange V.IS_SIGNED V.BITS (V.number a +ℤ V.number b)
+        → V.number result ≡ V.number a +ℤ V.number b }
+    ensures ends { hi V.IS_SIGNED V.BITS <ℤ (V.number a +ℤ V.number b)
+        → V.number result ≡ hi V.IS_SIGNED V.BITS }
+{
+    match a.checked_add(b) {
+        Some(sum) => sum,
+        None => V::max_value(),
+    }
+}
 
 pub fn in_order<V: Integer>(a: V, b: V) -> (V, V)
     ensures { V.number result.0 ≤ℤ V.number result.1 }

@@ -62,19 +62,6 @@ pub fn added_to<V: UnsignedInteger>(total: &mut V, x: V)
     *total += x;
 }
 
-pub fn clamped_sum<V: UnsignedInteger + ValidWidth>(x: V, y: V) -> V
-    ensures exact { let sum = V.number x +ℤ V.number y in
-        sum ≤ℤ hi V.IS_SIGNED V.BITS → V.number result ≡ sum }
-    ensures above { let highest = hi V.IS_SIGNED V.BITS in
-        highest <ℤ (V.number x +ℤ V.number y) → V.number result ≡ highest }
-{
-    if x > V::max_value() - y {
-        V::max_value()
-    } else {
-        x + y
-    }
-}
-
 pub fn quotient_or_zero<V: UnsignedInteger + ValidWidth>(x: V, y: V) -> V
     ensures { pos 0 <ℤ V.number y → V.number result ≡ int_div (V.number x) (V.number y) }
 {
