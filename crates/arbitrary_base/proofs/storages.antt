@@ -3,6 +3,7 @@ pub mod Primitive
 pub mod CheckedSum
 pub mod Clamp
 pub mod SpareBit
+pub mod SignTest
 pub mod SixteenBits
 pub mod RaisedNumber
 pub mod PrimitiveOperators

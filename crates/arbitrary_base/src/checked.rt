@@ -3,14 +3,15 @@
 ghost use Rattle.std.specs.Prelude.{◌≢◌, ◌≡◌, ◌&&◌, ◌≤◌, ◌+ℤ◌, ◌-ℤ◌, ◌*ℤ◌, neg_ℤ, pos, int_div, int_lt, SomeIff, option_map};
 ghost use Rattle.arbitrary_base.specs.Range.{InRange};
 
-use crate::ends::{is_below, is_below_zero, is_within, is_zero, zero};
+use crate::ends::{is_across_zero, is_below, is_below_zero, is_within, is_zero, zero};
 use crate::storage::Storage;
 use crate::truncation::is_in_range;
 use crate::{raised, small, wrapping};
 
 /// The sum, or `None` if it is out of range.
-// If the storage has a spare bit, its sum is in range exactly if the exact sum is. The compiler uses vector instructions for the
-// two comparisons, and could not for the processor's flag.
+// A signed sum overflows exactly if its sign differs from the signs of both numbers. If the storage has a spare bit, its unsigned sum is in
+// range exactly if the exact sum is. Without one, a sum that overflows is below `x`. The compiler uses vector instructions for these tests,
+// and could not for the processor's flag.
 #[tactic(auto, using(crate::proofs::storages::CheckedSum::arithmetic))]
 pub fn add<T: Storage>(x: T, y: T, bits: usize) -> Option<T>
     requires width { 1 ≤ bits }
@@ -20,7 +21,14 @@ pub fn add<T: Storage>(x: T, y: T, bits: usize) -> Option<T>
     ensures { SomeIff (option_map T.number result)
         (InRange T.SIGNED bits (T.number x +ℤ T.number y)) (T.number x +ℤ T.number y) }
 {
-    if bits < T::WIDTH {
+    if T::SIGNED {
+        let sum = wrapping::add(x, y, bits);
+        if is_across_zero(sum, x, y) {
+            None
+        } else {
+            Some(sum)
+        }
+    } else if bits < T::WIDTH {
         let sum = x.wrapping_add(y);
         if is_within(&sum, bits) {
             Some(sum)
@@ -28,31 +36,17 @@ pub fn add<T: Storage>(x: T, y: T, bits: usize) -> Option<T>
             None
         }
     } else {
-        add_by_order(x, y, bits)
-    }
-}
-
-/// The sum, or `None` if it is out of range, at any width up to the storage's.
-// Without an overflow, the wrapped sum is below `x` exactly if `y` is below 0.
-#[tactic(auto, using(crate::proofs::storages::CheckedSum::arithmetic))]
-pub(crate) fn add_by_order<T: Storage>(x: T, y: T, bits: usize) -> Option<T>
-    requires width { 1 ≤ bits }
-    requires storage { bits ≤ T.WIDTH }
-    requires x_in_range { InRange T.SIGNED bits (T.number x) }
-    requires y_in_range { InRange T.SIGNED bits (T.number y) }
-    ensures { SomeIff (option_map T.number result)
-        (InRange T.SIGNED bits (T.number x +ℤ T.number y)) (T.number x +ℤ T.number y) }
-{
-    let sum = wrapping::add(x, y, bits);
-    if is_below(&sum, &x) == is_below_zero(&y) {
-        Some(sum)
-    } else {
-        None
+        let sum = wrapping::add(x, y, bits);
+        if is_below(&sum, &x) == is_below_zero(&y) {
+            Some(sum)
+        } else {
+            None
+        }
     }
 }
 
 /// The difference, or `None` if it is out of range.
-// If the storage has a spare bit, its difference is in range exactly if the exact difference is.
+// As in `add`: a signed `x` is the sum of `y` and the difference.
 #[tactic(auto, using(crate::proofs::storages::CheckedSum::arithmetic))]
 pub fn sub<T: Storage>(x: T, y: T, bits: usize) -> Option<T>
     requires width { 1 ≤ bits }
@@ -62,7 +56,14 @@ pub fn sub<T: Storage>(x: T, y: T, bits: usize) -> Option<T>
     ensures { SomeIff (option_map T.number result)
         (InRange T.SIGNED bits (T.number x -ℤ T.number y)) (T.number x -ℤ T.number y) }
 {
-    if bits < T::WIDTH {
+    if T::SIGNED {
+        let difference = wrapping::sub(x, y, bits);
+        if is_across_zero(x, y, difference) {
+            None
+        } else {
+            Some(difference)
+        }
+    } else if bits < T::WIDTH {
         let difference = x.wrapping_sub(y);
         if is_within(&difference, bits) {
             Some(difference)
@@ -70,25 +71,12 @@ pub fn sub<T: Storage>(x: T, y: T, bits: usize) -> Option<T>
             None
         }
     } else {
-        sub_by_order(x, y, bits)
-    }
-}
-
-/// The difference, or `None` if it is out of range, at any width up to the storage's.
-#[tactic(auto, using(crate::proofs::storages::CheckedSum::arithmetic))]
-pub(crate) fn sub_by_order<T: Storage>(x: T, y: T, bits: usize) -> Option<T>
-    requires width { 1 ≤ bits }
-    requires storage { bits ≤ T.WIDTH }
-    requires x_in_range { InRange T.SIGNED bits (T.number x) }
-    requires y_in_range { InRange T.SIGNED bits (T.number y) }
-    ensures { SomeIff (option_map T.number result)
-        (InRange T.SIGNED bits (T.number x -ℤ T.number y)) (T.number x -ℤ T.number y) }
-{
-    let difference = wrapping::sub(x, y, bits);
-    if is_below(&x, &difference) == is_below_zero(&y) {
-        Some(difference)
-    } else {
-        None
+        let difference = wrapping::sub(x, y, bits);
+        if is_below(&x, &difference) == is_below_zero(&y) {
+            Some(difference)
+        } else {
+            None
+        }
     }
 }
 

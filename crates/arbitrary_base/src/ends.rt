@@ -1,6 +1,7 @@
 //! The ends of a range, and tests by them.
 
-ghost use Rattle.std.specs.Prelude.{◌≡◌, ◌↔◌, ◌≤◌, pos, int_lt, IsTrue};
+ghost use Rattle.std.specs.Prelude.{◌≡◌, ◌↔◌, ◌≤◌, ◌&&◌, not, pos, int_lt, IsTrue};
+ghost use Rattle.std.specs.Bool.{beq};
 ghost use Rattle.std.specs.Ordering.{int_eq};
 ghost use Rattle.arbitrary_base.specs.Range.{lo, hi, range_end, InRange};
 
@@ -66,6 +67,18 @@ pub fn is_below_zero<T: Storage>(x: &T) -> bool
     ensures { result ≡ int_lt (T.number x.now) (pos 0) }
 {
     is_below(x, &zero())
+}
+
+/// Whether the first number is on the other side of 0 from both others.
+// These bits compile to fewer instructions than comparisons.
+pub(crate) fn is_across_zero<T: Storage>(x: T, left: T, right: T) -> bool
+    ensures { let below = int_lt (T.number x) (pos 0) in
+        let left_below = int_lt (T.number left) (pos 0) in
+        let right_below = int_lt (T.number right) (pos 0) in
+        result ≡ (not (beq below left_below) && not (beq below right_below)) }
+{
+    let sign = is_below_zero(&x) as u8;
+    (sign ^ is_below_zero(&left) as u8) & (sign ^ is_below_zero(&right) as u8) == 1
 }
 
 /// Whether the number is in the range of `bits` bits, by comparison with both ends.

@@ -5,7 +5,7 @@ ghost use Rattle.std.specs.Prelude.{◌≡◌, ◌≢◌, ◌↔◌, ◌≤◌, 
 ghost use Rattle.arbitrary_base.specs.Range.{InRange};
 ghost use Rattle.arbitrary_base.specs.Residue.{wrap};
 
-use crate::ends::{is_within, zero};
+use crate::ends::zero;
 use crate::storage::Storage;
 use crate::truncation::{cast, is_in_range, truncated};
 use crate::{checked, raised, small, wrapping};
@@ -21,13 +21,8 @@ pub fn add<T: Storage>(x: T, y: T, bits: usize) -> (T, bool)
     ensures result_in_range { InRange T.SIGNED bits (T.number result.0) }
     ensures overflow { IsTrue result.1 ↔ ¬ (InRange T.SIGNED bits (T.number x +ℤ T.number y)) }
 {
-    if bits < T::WIDTH {
-        let sum = x.wrapping_add(y);
-        (truncated(sum, bits), !is_within(&sum, bits))
-    } else {
-        let exact = checked::add_by_order(x, y, bits);
-        (wrapping::add(x, y, bits), exact.is_none())
-    }
+    let exact = checked::add(x, y, bits);
+    (wrapping::add(x, y, bits), exact.is_none())
 }
 
 /// The difference, wrapped, and whether the exact difference is out of range.
@@ -41,13 +36,8 @@ pub fn sub<T: Storage>(x: T, y: T, bits: usize) -> (T, bool)
     ensures result_in_range { InRange T.SIGNED bits (T.number result.0) }
     ensures overflow { IsTrue result.1 ↔ ¬ (InRange T.SIGNED bits (T.number x -ℤ T.number y)) }
 {
-    if bits < T::WIDTH {
-        let difference = x.wrapping_sub(y);
-        (truncated(difference, bits), !is_within(&difference, bits))
-    } else {
-        let exact = checked::sub_by_order(x, y, bits);
-        (wrapping::sub(x, y, bits), exact.is_none())
-    }
+    let exact = checked::sub(x, y, bits);
+    (wrapping::sub(x, y, bits), exact.is_none())
 }
 
 /// The product, wrapped, and whether the exact product is out of range.

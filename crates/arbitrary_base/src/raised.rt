@@ -1,12 +1,14 @@
-//! Products of numbers that are shifted up to the storage's end, which multiplies them by `2 ^ (WIDTH - bits)`. The
-//! range of `bits` bits is then that of the storage, so the processor detects an overflow.
+//! Numbers that are shifted up to the storage's end, which multiplies them by `2 ^ (WIDTH - bits)`. The range of
+//! `bits` bits is then that of the storage, so the processor detects an overflow, or saturates.
 
-ghost use Rattle.std.specs.Prelude.{◌≡◌, ◌↔◌, ◌≤◌, ◌<◌, ◌≢◌, ◌^◌, ◌-◌, ◌+ℤ◌, ◌*ℤ◌, true, pos, negsuc, IsTrue};
+ghost use Rattle.std.specs.Prelude.{◌≡◌, ◌↔◌, ◌≤◌, ◌<◌, ◌≢◌, ◌^◌, ◌-◌, ◌*ℤ◌, true, pos, negsuc, IsTrue};
 ghost use Rattle.std.specs.Int.{int_shr};
 ghost use Rattle.arbitrary_base.specs.Range.{InRange};
 ghost use Rattle.arbitrary_base.specs.Residue.{wrap};
+ghost use Rattle.arbitrary_base.specs.Saturating.{clamp};
 
 use crate::ends::is_zero;
+use crate::small;
 use crate::storage::Storage;
 use crate::truncation::equal;
 
@@ -28,6 +30,30 @@ fn lower<T: Storage>(x: T, bits: usize) -> T
     ensures { T.number result ≡ int_shr (T.number x) (T.WIDTH - bits) }
 {
     x.shr_by(T::WIDTH - bits)
+}
+
+/// The number, shifted up, in 64 bits.
+pub(crate) fn number<T: Storage>(x: T, bits: usize) -> i64
+    requires small { T.WIDTH ≤ 16 }
+    requires width { 1 ≤ bits }
+    requires storage { bits ≤ T.WIDTH }
+    requires x_in_range { InRange T.SIGNED bits (T.number x) }
+    ensures value { result ≡ T.number x *ℤ pos (2 ^ (T.WIDTH - bits)) }
+    ensures result_in_range { InRange T.SIGNED T.WIDTH result }
+{
+    small::number(raise(x, bits))
+}
+
+/// An exact result of numbers that are shifted up, clamped and shifted down again.
+// An end of the storage's range, shifted down, is that end of the range of `bits` bits. The compiler turns a clamp at the storage's ends into
+// the processor's saturating sum.
+pub(crate) fn clamped<T: Storage>(exact: i64, bits: usize) -> T
+    requires small { T.WIDTH ≤ 16 }
+    requires width { 1 ≤ bits }
+    requires storage { bits ≤ T.WIDTH }
+    ensures { T.number result ≡ int_shr (clamp T.SIGNED T.WIDTH exact) (T.WIDTH - bits) }
+{
+    lower(small::from_i64(small::clamped::<T>(exact, T::WIDTH)), bits)
 }
 
 /// Whether the wrapped product is the exact product. Requires a first factor other than -1.

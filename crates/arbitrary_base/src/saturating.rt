@@ -6,7 +6,7 @@ ghost use Rattle.arbitrary_base.specs.Saturating.{clamp};
 
 use crate::ends::{end, highest, is_below, is_below_zero, lowest, zero};
 use crate::storage::Storage;
-use crate::{checked, overflowing, small};
+use crate::{checked, raised, small};
 
 /// The number, or the nearest end of the range of `bits` bits.
 #[tactic(auto, using(crate::proofs::storages::Clamp::two_tests))]
@@ -27,7 +27,8 @@ fn clamped<T: Storage>(x: T, bits: usize) -> T
 }
 
 /// The sum, or the nearest end of the range.
-// If the storage has a spare bit, its sum is exact. Otherwise a signed sum that overflows has the other sign.
+// The processor saturates small signed numbers at the storage's ends. If the storage has a spare bit, it has the sum, but past 32 bits the
+// comparison with both ends costs more than the test for an overflow.
 #[tactic(auto, using(crate::proofs::storages::Clamp::clamped_sums))]
 pub fn add<T: Storage>(x: T, y: T, bits: usize) -> T
     requires width { 1 ≤ bits }
@@ -37,15 +38,10 @@ pub fn add<T: Storage>(x: T, y: T, bits: usize) -> T
     ensures value { T.number result ≡ clamp T.SIGNED bits (T.number x +ℤ T.number y) }
     ensures result_in_range { InRange T.SIGNED bits (T.number result) }
 {
-    if bits < T::WIDTH {
+    if T::SIGNED && T::WIDTH <= 16 {
+        raised::clamped(raised::number(x, bits) + raised::number(y, bits), bits)
+    } else if bits < T::WIDTH && T::WIDTH <= 32 {
         clamped(x.wrapping_add(y), bits)
-    } else if T::SIGNED {
-        let (sum, overflow) = overflowing::add(x, y, bits);
-        if overflow {
-            end(!is_below_zero(&sum), bits)
-        } else {
-            sum
-        }
     } else {
         match checked::add(x, y, bits) {
             Some(sum) => sum,
@@ -65,15 +61,10 @@ pub fn sub<T: Storage>(x: T, y: T, bits: usize) -> T
     ensures value { T.number result ≡ clamp T.SIGNED bits (T.number x -ℤ T.number y) }
     ensures result_in_range { InRange T.SIGNED bits (T.number result) }
 {
-    if T::SIGNED && bits < T::WIDTH {
+    if T::SIGNED && T::WIDTH <= 16 {
+        raised::clamped(raised::number(x, bits) - raised::number(y, bits), bits)
+    } else if T::SIGNED && bits < T::WIDTH && T::WIDTH <= 32 {
         clamped(x.wrapping_sub(y), bits)
-    } else if T::SIGNED {
-        let (difference, overflow) = overflowing::sub(x, y, bits);
-        if overflow {
-            end(!is_below_zero(&difference), bits)
-        } else {
-            difference
-        }
     } else {
         match checked::sub(x, y, bits) {
             Some(difference) => difference,

@@ -10,7 +10,7 @@ use crate::storage::Storage;
 use crate::truncation::cast;
 
 /// The number, in 64 bits.
-fn number<T: Storage>(x: T) -> i64
+pub(crate) fn number<T: Storage>(x: T) -> i64
     requires small { T.WIDTH ≤ 16 }
     ensures value { result ≡ T.number x }
     ensures x_in_range { InRange T.SIGNED T.WIDTH (T.number x) }

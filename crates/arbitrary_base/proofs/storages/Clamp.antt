@@ -13,8 +13,7 @@ use Rattle.arbitrary_base.proofs.storages.Primitive.{mod-congruent}
 use Rattle.arbitrary_base.proofs.integers.Ring.{mul-from_zero, mul-both_below, mul-first_below, mul-second_below}
 use Rattle.arbitrary_base.proofs.modular.Congruence.{Congruent-trans, Congruent-sym, pow_half, span, Congruent-from_apart, Congruent-narrower}
 use Rattle.arbitrary_base.proofs.modular.Residue.{wrap-unique}
-use Rattle.arbitrary_base.proofs.storages.CheckedSum.{three_ways, zero-in_range, wrap-above, wrap-below}
-use Rattle.arbitrary_base.proofs.storages.SpareBit.{flag-exact, flag-none}
+use Rattle.arbitrary_base.proofs.storages.CheckedSum.{three_ways, zero-in_range}
 use Rattle.arbitrary_base.proofs.integers.Quotient.{low_enough}
 
 pub clamp-in_range : (s : Bool) (B : ℕ) (x y : ℤ) → InRange s B x → y ≡ x → y ≡ clamp s B x
@@ -101,34 +100,6 @@ sub-saturates s B x y z false h f g n e w =
     (λ a. by_lt_z (pos 0) (x -ℤ y) (λ c. let l = (zero-in_range s B h).low in absurd (n (record { low = omega (arith, ints); high = a }))) (λ c. c)))
     (λ t. cc)
 
--- the flag of an overflow: the wrapped number is the exact one, or on the other side of 0
-pub unflagged-saturates : (s : Bool) (B : ℕ) (e z : ℤ) (o : Bool) → 1 ≤ B → z ≡ wrap s B e → (IsTrue o ↔ ¬ (InRange s B e)) → o ≡ false → z ≡ clamp s B e
-unflagged-saturates s B e z o h w f n = let i = flag-exact s B e z o h w f n in clamp-in_range s B e z i.0 i.1
-
-turned-saturates : (B : ℕ) (e w z : ℤ) (o b : Bool) → 1 ≤ B → e <ℤ pos (2 ^ B) → neg_ℤ (pos (2 ^ B)) ≤ℤ e
-    → w ≡ wrap true B e → (IsTrue o ↔ ¬ (InRange true B e)) → o ≡ true → b ≡ int_lt w (pos 0) → z ≡ range_end true B (not b) → z ≡ clamp true B e
-turned-saturates B e w z o b h u l v f t c r = ⊎_elim (λ i. absurd (flag-none true B e o f t i))
-    (⊎_elim
-    (λ a. let q = wrap-below true B e h a (let i = zero-in_range true B h in let j = i.low in omega (arith, ints)) in
-    let d : b ≡ false = grind (arith, ints) in r ∙ ap (λ (k : Bool). range_end true B (not k)) d ∙ sym (clamp-below true B e a))
-    (λ a. let q = wrap-above true B e h a (let i = zero-in_range true B h in let j = i.high in omega (arith, ints)) in
-    let d : b ≡ true = grind (arith, ints) in r ∙ ap (λ (k : Bool). range_end true B (not k)) d ∙ sym (clamp-above true B e h a)))
-    (three_ways true B e)
-
-pub add-turned : (s : Bool) (B : ℕ) (x y w z : ℤ) (o b : Bool) → 1 ≤ B → s ≡ true → InRange s B x → InRange s B y → w ≡ wrap s B (x +ℤ y)
-    → (IsTrue o ↔ ¬ (InRange s B (x +ℤ y))) → o ≡ true → b ≡ int_lt w (pos 0) → z ≡ range_end s B (not b) → z ≡ clamp s B (x +ℤ y)
-add-turned false B x y w z o b h t i j v f n c r = cc
-add-turned true B x y w z o b h t i j v f n c r =
-    let p = i.low in let q = i.high in let k = j.low in let m = j.high in let d = span true B h in let g = pow_half B h in
-    turned-saturates B (x +ℤ y) w z o b h (omega (arith, ints)) (omega (arith, ints)) v f n c r
-
-pub sub-turned : (s : Bool) (B : ℕ) (x y w z : ℤ) (o b : Bool) → 1 ≤ B → s ≡ true → InRange s B x → InRange s B y → w ≡ wrap s B (x -ℤ y)
-    → (IsTrue o ↔ ¬ (InRange s B (x -ℤ y))) → o ≡ true → b ≡ int_lt w (pos 0) → z ≡ range_end s B (not b) → z ≡ clamp s B (x -ℤ y)
-sub-turned false B x y w z o b h t i j v f n c r = cc
-sub-turned true B x y w z o b h t i j v f n c r =
-    let p = i.low in let q = i.high in let k = j.low in let m = j.high in let d = span true B h in let g = pow_half B h in
-    turned-saturates B (x -ℤ y) w z o b h (omega (arith, ints)) (omega (arith, ints)) v f n c r
-
 pub mul-saturates : (s : Bool) (B : ℕ) (x y z : ℤ) (a b : Bool) → 1 ≤ B → (InRange s B (x *ℤ y) → ⊥)
     → a ≡ int_lt x (pos 0) → b ≡ int_lt y (pos 0) → z ≡ range_end s B (not (beq a b)) → z ≡ clamp s B (x *ℤ y)
 mul-saturates s B x y z true true h n d e w =
@@ -198,8 +169,8 @@ end-InRange s B y false h e = let a = span s B h in let p = pow_pos B in record 
 
 pub ruleset overflow_laws = (overflows)
 
-pub ruleset clamped_sums = (clamp-in_range, add-saturates, unflagged-saturates, add-turned)
+pub ruleset clamped_sums = (clamp-in_range, add-saturates)
 
-pub ruleset clamped_differences = (clamp-in_range, sub-saturates, unflagged-saturates, sub-turned)
+pub ruleset clamped_differences = (clamp-in_range, sub-saturates)
 
 pub ruleset clamps = (clamp-in_range, mul-saturates, div-saturates)

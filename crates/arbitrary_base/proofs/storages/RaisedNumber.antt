@@ -1,17 +1,20 @@
 -- Numbers of B bits that are shifted up to the storage's W bits: multiples of 2 ^ (W - B).
 use Rattle.std.specs.Prelude.{◌≡◌, ◌↔◌, ℕ, ℤ, Bool, true, false, not, pos, neg_ℤ, ◌+ℤ◌, ◌-ℤ◌, ◌*ℤ◌, ◌≤ℤ◌, ◌<ℤ◌, ◌*◌, ◌-◌, ◌^◌, ◌≤◌, IsTrue, unsigned_abs}
 use Rattle.std.specs.Int.{int_shr}
-use Rattle.std.proofs.Common.{arith, refl, ap, sym, subst, ◌∙◌}
+use Rattle.std.proofs.Common.{arith, refl, ap, sym, subst, ◌∙◌, ⊎_elim}
 use Rattle.std.proofs.lemmas.Int.{ints, by_lt_z}
 use Rattle.std.proofs.lemmas.Nat.{pow_pos}
 use Rattle.arbitrary_base.specs.Range.{lo, hi, InRange}
 use Rattle.arbitrary_base.specs.Residue.{Congruent, residue, wrap}
+use Rattle.arbitrary_base.specs.Saturating.{clamp}
 use Rattle.arbitrary_base.specs.BitList.{bits, val, fill, shl, shr}
 use Rattle.arbitrary_base.proofs.integers.Ring.{add-mul_z, sub-mul_z, neg-mul_z, mul_assoc_z, pos-unsigned_abs}
 use Rattle.arbitrary_base.proofs.modular.Congruence.{pow_split, Congruent-mul_left}
 use Rattle.arbitrary_base.proofs.modular.Residue.{wrap-unique, wrap-same, wrap-in_range, wrap-congruent, wrap-of_in_range, residue-congruent}
 use Rattle.arbitrary_base.proofs.bit_lists.SignBit.{val-shl, val-shr}
 use Rattle.arbitrary_base.proofs.operations.ShiftAsProduct.{int_shr-low, int_shr-high}
+use Rattle.arbitrary_base.proofs.storages.CheckedSum.{three_ways}
+use Rattle.arbitrary_base.proofs.storages.Clamp.{clamp-fits, clamp-below, clamp-above}
 
 -- a multiple of the greater number is greater
 times-le : (x y : ℤ) (n : ℕ) → x ≤ℤ y → (x *ℤ pos n) ≤ℤ (y *ℤ pos n)
@@ -127,3 +130,34 @@ pub raised-overflow : (s : Bool) (B W n : ℕ) (e m a : ℤ) (b : Bool) → 1 �
 raised-overflow s B W n e m a true h g p u v q = ((λ t. cc), (λ o. absurd (o ((raised-InRange s B W e h g).0 (subst (λ (z : ℤ). InRange s W z) (v ∙ p) (subst (λ (k : ℕ). InRange s k a) u (q.0 refl)))))))
 raised-overflow s B W n e m a false h g p u v q =
     ((λ t i. let y : IsTrue false = q.1 (subst (λ (k : ℕ). InRange s k a) (sym u) (subst (λ (z : ℤ). InRange s W z) (sym (v ∙ p)) ((raised-InRange s B W e h g).1 i))) in cc), (λ t. refl))
+
+-- the multiple of e, clamped in the storage and moved down, is e clamped: of the high end of W a shift down makes that of B
+clamp-raised : (s : Bool) (B W : ℕ) (e : ℤ) → 1 ≤ B → B ≤ W → int_shr (clamp s W (e *ℤ pos (2 ^ (W - B)))) (W - B) ≡ clamp s B e
+clamp-raised s B W e h g =
+    let k = W - B in
+    let l = lo-raised s B W h g in
+    let u = hi-raised s B W h g in
+    let p = pow_pos k in
+    let one : 1 ≤ W = omega arith in
+    let down = λ (v : ℤ). int_shr v k in
+    ⊎_elim
+    (λ i. ap down (clamp-fits s W (e *ℤ pos (2 ^ k)) ((raised-InRange s B W e h g).1 i)) ∙ int_shr-raised k e ∙ sym (clamp-fits s B e i))
+    (⊎_elim
+    (λ a. let t = times-lt e (lo s B) (2 ^ k) a in
+    ap down (clamp-below s W (e *ℤ pos (2 ^ k)) (omega (arith, ints)) ∙ l) ∙ int_shr-raised k (lo s B) ∙ sym (clamp-below s B e a))
+    (λ a. let t = times-le (hi s B +ℤ pos 1) e (2 ^ k) (omega (arith, ints)) in
+    let v : (hi s B +ℤ pos 1) *ℤ pos (2 ^ k) ≡ hi s B *ℤ pos (2 ^ k) +ℤ pos (1 * 2 ^ k) = add-mul_z (hi s B) (pos 1) (pos (2 ^ k)) in
+    ap down (clamp-above s W (e *ℤ pos (2 ^ k)) one (omega (arith, ints))) ∙ int_shr-between k (hi s B) (hi s W) (omega (arith, ints)) (omega (arith, ints))
+    ∙ sym (clamp-above s B e h a)))
+    (three_ways s B e)
+
+-- m is the multiple of e as the code reads it
+pub nearest-raised : (s : Bool) (B W : ℕ) (e m z : ℤ) → 1 ≤ B → B ≤ W → m ≡ e *ℤ pos (2 ^ (W - B)) → z ≡ int_shr (clamp s W m) (W - B) → z ≡ clamp s B e
+nearest-raised s B W e m z h g p q = q ∙ ap (λ (v : ℤ). int_shr (clamp s W v) (W - B)) p ∙ clamp-raised s B W e h g
+
+-- the sum and the difference of two multiples
+pub raised-sum : (k : ℕ) (x y a b m : ℤ) → a ≡ x *ℤ pos (2 ^ k) → b ≡ y *ℤ pos (2 ^ k) → m ≡ a +ℤ b → m ≡ (x +ℤ y) *ℤ pos (2 ^ k)
+raised-sum k x y a b m p q r = let e = add-mul_z x y (pos (2 ^ k)) in omega (arith, ints)
+
+pub raised-difference : (k : ℕ) (x y a b m : ℤ) → a ≡ x *ℤ pos (2 ^ k) → b ≡ y *ℤ pos (2 ^ k) → m ≡ a -ℤ b → m ≡ (x -ℤ y) *ℤ pos (2 ^ k)
+raised-difference k x y a b m p q r = let e = sub-mul_z x y (pos (2 ^ k)) in omega (arith, ints)

@@ -1,5 +1,5 @@
 -- Numbers of at most 16 bits, stored in 64.
-use Rattle.std.specs.Prelude.{◌≡◌, ◌↔◌, ℕ, ℤ, Bool, true, false, ◌&&◌, pos, negsuc, ◌*ℤ◌, ◌<ℤ◌, ◌-◌, ◌≤◌, int_lt, int_le, IsTrue, unsigned_abs, FitsSigned}
+use Rattle.std.specs.Prelude.{◌≡◌, ◌↔◌, ℕ, ℤ, Bool, true, false, ◌&&◌, pos, negsuc, neg_ℤ, ◌+ℤ◌, ◌-ℤ◌, ◌*ℤ◌, ◌≤ℤ◌, ◌<ℤ◌, ◌-◌, ◌≤◌, int_lt, int_le, IsTrue, unsigned_abs, FitsSigned}
 use Rattle.std.specs.Int.{w64}
 use Rattle.std.proofs.Common.{arith, sym, subst, ◌∙◌, lit≤}
 use Rattle.std.proofs.lemmas.Int.{ints, fits_signed_mul}
@@ -9,6 +9,7 @@ use Rattle.arbitrary_base.specs.Saturating.{clamp}
 use Rattle.arbitrary_base.proofs.modular.Congruence.{pow_le}
 use Rattle.arbitrary_base.proofs.modular.Residue.{wrap-of_in_range}
 use Rattle.arbitrary_base.proofs.modular.Truncation.{InRange-wider}
+use Rattle.arbitrary_base.proofs.storages.Primitive.{signed-fits}
 use Rattle.arbitrary_base.proofs.storages.Clamp.{clamp-in_range, clamp-below, clamp-above}
 
 -- 64 bits have each number of either sign
@@ -20,6 +21,19 @@ InRange-64 true W x h g i = InRange-wider true W 64 x h (omega arith) i
 
 pub small-number : (s : Bool) (W : ℕ) (x z : ℤ) → 1 ≤ W → W ≤ 16 → InRange s W x → z ≡ wrap true 64 x → z ≡ x
 small-number s W x z h g i e = e ∙ wrap-of_in_range true 64 x (lit≤ tt) (InRange-64 s W x h g i)
+
+-- and each sum and difference
+small-bounds : (s : Bool) (W : ℕ) (x : ℤ) → W ≤ 16 → InRange s W x → neg_ℤ (pos 65536) ≤ℤ x × x ≤ℤ pos 65536
+small-bounds false W x g i = let a = pow_le W 16 g in let l = i.low in let u = i.high in (omega (arith, ints), omega (arith, ints))
+small-bounds true W x g i = let a = pow_le (W - 1) 16 (omega arith) in let l = i.low in let u = i.high in (omega (arith, ints), omega (arith, ints))
+
+pub small-sum : (s : Bool) (W : ℕ) (x y a b : ℤ) → W ≤ 16 → InRange s W x → InRange s W y → a ≡ x → b ≡ y → FitsSigned w64 (a +ℤ b) × FitsSigned w64 (a -ℤ b)
+small-sum s W x y a b g i j e f =
+    let m = small-bounds s W x g i in let n = small-bounds s W y g j in
+    let k = m.0 in let l = m.1 in let p = n.0 in let q = n.1 in (
+      signed-fits w64 (a +ℤ b) (record { low = omega (arith, ints); high = omega (arith, ints) }),
+      signed-fits w64 (a -ℤ b) (record { low = omega (arith, ints); high = omega (arith, ints) }),
+    )
 
 -- and each product
 small-size : (s : Bool) (W : ℕ) (x : ℤ) → 1 ≤ W → W ≤ 16 → InRange s W x → unsigned_abs x ≤ 65536

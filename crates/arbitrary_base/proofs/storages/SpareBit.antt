@@ -50,11 +50,6 @@ sub-tells s B W x y w h g i j n =
 pub none-told : (s : Bool) (B : ℕ) (e w : ℤ) (b : Bool) → Tells s B e w → (IsTrue b ↔ InRange s B w) → b ≡ false → InRange s B e → ⊥
 none-told s B e w b t d f i = let u : IsTrue b = d.1 (subst (λ (v : ℤ). InRange s B v) (sym (t.1 i)) i) in cc
 
--- and so the negated test is whether it overflows
-pub overflow-told : (s : Bool) (B : ℕ) (e w : ℤ) (b : Bool) → Tells s B e w → (IsTrue b ↔ InRange s B w) → IsTrue (not b) ↔ ¬ (InRange s B e)
-overflow-told s B e w true t d = ((λ u. cc), (λ u. absurd (u (t.0 (d.0 refl)).0)))
-overflow-told s B e w false t d = ((λ u i. none-told s B e w false t d refl i), (λ u. refl))
-
 -- the storage has the sum, and where there is a sign the difference
 pub sum-stays : (s : Bool) (B W : ℕ) (x y w : ℤ) → 1 ≤ B → B < W → InRange s B x → InRange s B y → w ≡ wrap s W (x +ℤ y) → w ≡ x +ℤ y
 sum-stays false B W x y w h g i j n =

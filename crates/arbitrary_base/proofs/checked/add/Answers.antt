@@ -1,6 +1,20 @@
-use Rattle.std.proofs.Common.{arith, ◌<◌}
-use Rattle.arbitrary_base.proofs.storages.SpareBit.{add-tells, none-told}
+use Rattle.std.proofs.Common.{arith, sym, ◌∙◌, ◌<◌}
+use Rattle.arbitrary_base.proofs.storages.CheckedSum.{add-refuses_test}
+use Rattle.arbitrary_base.proofs.storages.SpareBit.{add-tells, flag-exact, flag-none, none-told}
+use Rattle.arbitrary_base.proofs.storages.SignTest.{add-across}
 use Rattle.arbitrary_base.proofs.checked.add.Goals as goal
+
+pub returns-then-is_across_zero : goal.returns-then-is_across_zero
+returns-then-is_across_zero g c =
+    flag-none g.T.Storage.SIGNED c.args.bits _ _
+    (add-across g.T.Storage.SIGNED c.args.bits _ _ _ _ (sym c.SIGNED.ensures ∙ c.if-SIGNED.true) c.requires.width c.requires.x_in_range c.requires.y_in_range c.add-sum.ensures.value c.is_across_zero.ensures)
+    c.if-is_across_zero.true
+
+pub returns-else-is_across_zero : goal.returns-else-is_across_zero
+returns-else-is_across_zero g c =
+    flag-exact g.T.Storage.SIGNED c.args.bits _ _ _ c.requires.width c.add-sum.ensures.value
+    (add-across g.T.Storage.SIGNED c.args.bits _ _ _ _ (sym c.SIGNED.ensures ∙ c.if-SIGNED.true) c.requires.width c.requires.x_in_range c.requires.y_in_range c.add-sum.ensures.value c.is_across_zero.ensures)
+    c.if-is_across_zero.false
 
 pub returns-then-is_within : goal.returns-then-is_within
 returns-then-is_within g c =
@@ -14,3 +28,8 @@ returns-else-is_within g c =
     none-told g.T.Storage.SIGNED c.args.bits _ _ _
     (add-tells g.T.Storage.SIGNED c.args.bits g.T.Storage.WIDTH _ _ _ c.requires.width room c.requires.x_in_range c.requires.y_in_range c.wrapping_add-sum.ensures)
     c.is_within.ensures c.if-is_within.false
+
+pub returns-else-is_below-is_below_zero : goal.returns-else-is_below-is_below_zero
+returns-else-is_below-is_below_zero g c =
+    add-refuses_test g.T.Storage.SIGNED c.args.bits _ _ _ _ _ c.requires.width c.add-sum-else-bits-WIDTH.ensures.value
+    c.is_below.ensures c.is_below_zero.ensures c.if-is_below-is_below_zero.false

@@ -1,6 +1,20 @@
-use Rattle.std.proofs.Common.{arith, ◌<◌}
-use Rattle.arbitrary_base.proofs.storages.SpareBit.{sub-tells, none-told}
+use Rattle.std.proofs.Common.{arith, sym, ◌∙◌, ◌<◌}
+use Rattle.arbitrary_base.proofs.storages.CheckedSum.{sub-refuses_test}
+use Rattle.arbitrary_base.proofs.storages.SpareBit.{sub-tells, flag-exact, flag-none, none-told}
+use Rattle.arbitrary_base.proofs.storages.SignTest.{sub-across}
 use Rattle.arbitrary_base.proofs.checked.sub.Goals as goal
+
+pub returns-then-is_across_zero : goal.returns-then-is_across_zero
+returns-then-is_across_zero g c =
+    flag-none g.T.Storage.SIGNED c.args.bits _ _
+    (sub-across g.T.Storage.SIGNED c.args.bits _ _ _ _ (sym c.SIGNED.ensures ∙ c.if-SIGNED.true) c.requires.width c.requires.x_in_range c.requires.y_in_range c.sub-difference.ensures.value c.is_across_zero.ensures)
+    c.if-is_across_zero.true
+
+pub returns-else-is_across_zero : goal.returns-else-is_across_zero
+returns-else-is_across_zero g c =
+    flag-exact g.T.Storage.SIGNED c.args.bits _ _ _ c.requires.width c.sub-difference.ensures.value
+    (sub-across g.T.Storage.SIGNED c.args.bits _ _ _ _ (sym c.SIGNED.ensures ∙ c.if-SIGNED.true) c.requires.width c.requires.x_in_range c.requires.y_in_range c.sub-difference.ensures.value c.is_across_zero.ensures)
+    c.if-is_across_zero.false
 
 pub returns-then-is_within : goal.returns-then-is_within
 returns-then-is_within g c =
@@ -14,3 +28,8 @@ returns-else-is_within g c =
     none-told g.T.Storage.SIGNED c.args.bits _ _ _
     (sub-tells g.T.Storage.SIGNED c.args.bits g.T.Storage.WIDTH _ _ _ c.requires.width room c.requires.x_in_range c.requires.y_in_range c.wrapping_sub-difference.ensures)
     c.is_within.ensures c.if-is_within.false
+
+pub returns-else-is_below-is_below_zero : goal.returns-else-is_below-is_below_zero
+returns-else-is_below-is_below_zero g c =
+    sub-refuses_test g.T.Storage.SIGNED c.args.bits _ _ _ _ _ c.requires.width c.sub-difference-else-bits-WIDTH.ensures.value
+    c.is_below.ensures c.is_below_zero.ensures c.if-is_below-is_below_zero.false
