@@ -93,7 +93,7 @@ def key(x, y):
     for name, colour, shape in MARKS:
         parts += [dot(x, y - 4, colour, shape), text(x + 10, y, name, size=13)]
         x += 40 + 7 * len(name)
-    return [*parts, text(x, y, 'instructions per element, logarithmic scale', size=13)]
+    return [*parts, text(x, y, 'instructions per element, on a scale of log(1 + x)', size=13)]
 
 
 def calls():
