@@ -26,7 +26,7 @@ pub fn joined_bits_are_at_least<V: FixedWidth + UnsignedInteger>(x: V, y: V) -> 
     x | y >= x
 }
 
-pub fn next<V: UnsignedInteger + ValidWidth>(x: V) -> V
+pub fn next<V: FixedWidth + ValidWidth + UnsignedInteger>(x: V) -> V
     ensures { V.number x <ℤ hi V.IS_SIGNED V.BITS → V.number result ≡ V.number x +ℤ pos 1 }
 {
     if x < V::max_value() {
@@ -36,14 +36,14 @@ pub fn next<V: UnsignedInteger + ValidWidth>(x: V) -> V
     }
 }
 
-pub fn absolute_difference<V: UnsignedInteger>(x: V, y: V) -> V
+pub fn absolute_difference<V: FixedWidth + UnsignedInteger>(x: V, y: V) -> V
     ensures down { V.number y ≤ℤ V.number x → V.number result ≡ V.number x -ℤ V.number y }
     ensures up { V.number x ≤ℤ V.number y → V.number result ≡ V.number y -ℤ V.number x }
 {
     if x > y { x - y } else { y - x }
 }
 
-pub fn difference_of_a_number_at_most_as_great<V: Integer + ValidWidth>(x: V, y: V) -> V
+pub fn difference_of_a_number_at_most_as_great<V: FixedWidth + ValidWidth>(x: V, y: V) -> V
     requires sign { pos 0 ≤ℤ V.number y }
     requires order { V.number y ≤ℤ V.number x }
     ensures { V.number result ≡ V.number x -ℤ V.number y }
@@ -51,18 +51,18 @@ pub fn difference_of_a_number_at_most_as_great<V: Integer + ValidWidth>(x: V, y:
     x - y
 }
 
-pub fn spread<V: UnsignedInteger>(x: V, y: V) -> V {
+pub fn spread<V: FixedWidth + UnsignedInteger>(x: V, y: V) -> V {
     x.max(y) - x.min(y)
 }
 
-pub fn added_to<V: UnsignedInteger>(total: &mut V, x: V)
+pub fn added_to<V: FixedWidth + UnsignedInteger>(total: &mut V, x: V)
     requires { (V.number total.old +ℤ V.number x) ≤ℤ hi V.IS_SIGNED V.BITS }
     ensures { V.number total.new ≡ V.number total.old +ℤ V.number x }
 {
     *total += x;
 }
 
-pub fn quotient_or_zero<V: UnsignedInteger + ValidWidth>(x: V, y: V) -> V
+pub fn quotient_or_zero<V: FixedWidth + ValidWidth + UnsignedInteger>(x: V, y: V) -> V
     ensures { pos 0 <ℤ V.number y → V.number result ≡ int_div (V.number x) (V.number y) }
 {
     if y == V::zero() {

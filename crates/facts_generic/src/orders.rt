@@ -16,7 +16,7 @@ pub fn min_associates<V: Integer>(x: V, y: V, z: V) -> bool
     x.min(y).min(z) == x.min(y.min(z))
 }
 
-pub fn min_plus_max<V: Integer + SumCalls>(x: V, y: V) -> bool
+pub fn min_plus_max<V: FixedWidth>(x: V, y: V) -> bool
     requires { V.valid }
     ensures { IsTrue result }
 {
