@@ -3,8 +3,8 @@
 
 ghost use Rattle.std.specs.Prelude.{◌≤◌};
 
-use arbitrary_calls::fixed_width::FixedWidth;
 use arbitrary_calls::calls::FixedWidthCalls;
+use arbitrary_calls::fixed_width::FixedWidth;
 use arbitrary_traits::numbered::Numbered;
 
 /// A call on two values.

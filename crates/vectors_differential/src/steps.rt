@@ -7,12 +7,7 @@ use arbitrary_int::{Step, TwoOp, Why, run, well_formed};
 
 /// What a step leaves of two numbers in the first of the registers, or why it stops. There are two registers
 /// at least, so that every such step is well formed.
-fn after<V: FixedWidth>(
-    op: TwoOp,
-    a: V,
-    b: V,
-    registers: &mut [V],
-) -> Option<Result<u128, Why>> {
+fn after<V: FixedWidth>(op: TwoOp, a: V, b: V, registers: &mut [V]) -> Option<Result<u128, Why>> {
     let steps = [Step::Two {
         op,
         to: 0,
