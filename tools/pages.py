@@ -54,7 +54,7 @@ FIGURES = [
     (r'processors of (\S+) GHz', *source(MEASURED, r'processors of (\S+) GHz')),
     (r'one `FixedWidth`\s+type takes (\S+) seconds', *source(MEASURED, r'one `FixedWidth` type \| (\S+)')),
     (r'over two (\d\.\d)', *source(MEASURED, r'two `FixedWidth` types \| (\S+)')),
-    (r'two `Integer`\s+types (\d\.\d)', *source(MEASURED, r'two `Integer` types \| (\S+)')),
+    (r'one `Integer`\s+type (\d\.\d)', *source(MEASURED, r'one `Integer` type \| (\S+)')),
     (r'`wadd` costs (\d+) instructions', *source(MEASURED, r'`wadd`, .*? \| (\d+)')),
     (r'ordinary Rust (\d+) to', *source(MEASURED, r'`wadd`, .* (\d+) to')),
     (r'ordinary Rust \d+ to (\d+)', *source(MEASURED, r'`wadd`, .* to (\d+)')),
