@@ -1,10 +1,9 @@
 -- Bit lists combined item by item with any operation, and the laws of `and`, `or`, `xor` and `not` on them.
-use Rattle.std.specs.Bool.{beq}
 use Rattle.std.specs.List.{slice_rotate_right, zip}
-use Rattle.std.specs.Prelude.{Bool, List, [], drop, false, get_or, length, map, not, replicate, reverse, suc, take, true, zero, ℕ, ◌&&◌, ◌++◌, ◌-◌, ◌||◌, ◌∷◌, ◌≡◌}
+use Rattle.std.specs.Prelude.{Bool, List, [], drop, false, get_or, length, map, not, replicate, reverse, suc, take, true, zero, ℕ, ◌++◌, ◌-◌, ◌∷◌, ◌≡◌}
 use Rattle.std.proofs.Common.{ap, ap₂, arith, length-drop, refl, sym, ◌∙◌}
 use Rattle.std.proofs.lemmas.List.{drop-map, length-reverse, map-append, take-map}
-use Rattle.arbitrary_base.specs.BitList.{bits_and, bits_or, bits_xor, shl, shr}
+use Rattle.arbitrary_base.specs.BitList.{bits_and, shl, shr}
 use Rattle.arbitrary_base.proofs.bit_lists.Movement.{reverse-cons, rotr}
 use Rattle.arbitrary_base.proofs.bit_lists.UnsignedNumber.{length-not}
 

@@ -1,6 +1,6 @@
 -- The bytes of a number, and the number that bytes represent. The proofs divide by 256 for each byte.
 use Rattle.std.specs.Int.{byte_at, bytes_low_first, div_ceil, to_le_bytes, w128}
-use Rattle.std.specs.Prelude.{negsuc, true, unsigned_abs, ◌-◌}
+use Rattle.std.specs.Prelude.{negsuc, true, unsigned_abs}
 use Rattle.std.proofs.Common.{Bool, List, [], ap, arith, drop, false, get_or, length, mod-eq_of_lt, pos, refl, subst, suc, sym, take, zero, ℕ, ℤ, ◌%◌, ◌*◌, ◌+◌, ◌/◌, ◌<◌, ◌^◌, ◌∙◌, ◌∷◌, ◌≡◌, ◌≤◌}
 use Rattle.std.proofs.Math.Nat.{div-div-eq-div-mul, div-one, mod-one, pow-suc}
 use Rattle.std.proofs.lemmas.Int.{ints}

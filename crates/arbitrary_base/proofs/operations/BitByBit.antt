@@ -2,15 +2,15 @@
 -- and a bit of a result of `&`, `|`, `^` or `!` is the same operation on the operands' bits.
 use Rattle.std.specs.Bool.{beq}
 use Rattle.std.specs.Ordering.{int_eq}
-use Rattle.std.specs.Prelude.{Bool, List, [], false, get_or, length, map, not, pos, replicate, suc, true, zero, ℕ, ℤ, ◌&&◌, ◌<◌, ◌||◌, ◌∷◌, ◌≡◌, ◌≤◌, ◌⊎◌}
+use Rattle.std.specs.Prelude.{Bool, List, [], false, get_or, length, not, pos, suc, true, ℕ, ℤ, ◌&&◌, ◌<◌, ◌||◌, ◌∷◌, ◌≡◌, ◌≤◌, ◌⊎◌}
 use Rattle.std.proofs.Common.{ap, arith, inl, inr, refl, sym, ◌∙◌}
 use Rattle.std.proofs.lemmas.Bool.Decides.{Decides-int_eq}
 use Rattle.std.proofs.lemmas.List.{get_or-map, get_or-replicate}
-use Rattle.arbitrary_base.specs.BitList.{bits, bits_xor, val}
+use Rattle.arbitrary_base.specs.BitList.{bits, val}
 use Rattle.arbitrary_base.specs.Operation.{bitwise_and, bitwise_not, bitwise_or, bitwise_xor}
 use Rattle.arbitrary_base.proofs.bit_lists.Pointwise.{get_or-pointwise, pointwise}
 use Rattle.arbitrary_base.proofs.bit_lists.UnsignedNumber.{length-bits}
-use Rattle.arbitrary_base.proofs.operations.Expression.{Expression, both, apart, complement, first, second, none, same}
+use Rattle.arbitrary_base.proofs.operations.Expression.{both, apart, complement, first, second, none, same}
 use Rattle.arbitrary_base.proofs.operations.Definition.{and-is, bits-and, bits-not, bits-or, bits-xor, bits-zero, not-is, of-bits, or-is, xor-is, zero-in_range}
 
 -- the bit of x at place k of B

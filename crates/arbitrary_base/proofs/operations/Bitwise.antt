@@ -2,7 +2,7 @@
 use Rattle.std.specs.Prelude.{◌≡◌, ℕ, ℤ, Bool}
 use Rattle.std.proofs.Common.{arith}
 use Rattle.arbitrary_base.specs.Operation.{bitwise_and, bitwise_or, bitwise_xor, bitwise_not}
-use Rattle.arbitrary_base.proofs.operations.Expression.{Expression, both, either, apart, complement, first, second, third, same}
+use Rattle.arbitrary_base.proofs.operations.Expression.{both, either, apart, complement, first, second, third, same}
 
 module _ (s : Bool) (B : ℕ) (x y : ℤ) where
   pub bitwise_and-commutes : bitwise_and s B x y ≡ bitwise_and s B y x

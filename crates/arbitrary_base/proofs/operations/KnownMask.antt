@@ -1,7 +1,7 @@
 -- The laws of numbers under a known mask: the bits that it keeps, clears, sets and toggles, in sums, multiples
 -- and remainders.
 use Rattle.std.specs.Int.Bits.{bit_and}
-use Rattle.std.specs.Prelude.{Bool, false, negsuc, pos, true, unsigned_abs, ℕ, ℤ, ◌%◌, ◌&&◌, ◌*ℤ◌, ◌*◌, ◌+◌, ◌-ℤ◌, ◌-◌, ◌<◌, ◌^◌, ◌≡◌, ◌≤ℤ◌, ◌≤◌}
+use Rattle.std.specs.Prelude.{Bool, false, negsuc, pos, true, unsigned_abs, ℕ, ℤ, ◌%◌, ◌&&◌, ◌*ℤ◌, ◌+◌, ◌-ℤ◌, ◌-◌, ◌<◌, ◌^◌, ◌≡◌, ◌≤ℤ◌, ◌≤◌}
 use Rattle.std.proofs.Common.{ap, arith, lt_of_le_of_lt, mod-eq_of_lt, mod-lt, refl, subst, sym, ◌∙◌}
 use Rattle.std.proofs.lemmas.Grind.{low_zeros}
 use Rattle.std.proofs.lemmas.Int.{ints}
