@@ -6,9 +6,8 @@ cite, and so on. It also counts how many more lines `bit_fields` needs, and how 
 blank lines and imports are not counted. With --words it prints every word, its lines and its file. It fails if docs/ARCHITECTURE.md has other
 figures; with --write it writes them there.
 
-Nobody has to trust what is proved: lemmas, and the statements of laws. A statement of a law is a word without arguments of the type `Type 0`,
-a group of laws, whose name ends in `Laws`, or the record `Operations`, over which the groups are. Words that only the contracts inside a
-crate cite are not counted either.
+Nobody has to trust what is proved: lemmas, and the statements of laws, which are words without arguments of the type `Type 0`. Words that only
+the contracts inside a crate cite are not counted either.
 """
 import re
 import sys
@@ -67,7 +66,7 @@ def meant(known, file, words):
 
 def is_proved(lines):
     """Whether it is a lemma, or the statement of a law."""
-    is_stated = re.match(r'\s*(abbrev pub \S+ : Type 0$|unfoldable pub \S+Laws :|pub record (\S+Laws|Operations) )', lines[0])
+    is_stated = re.match(r'\s*abbrev pub \S+ : Type 0$', lines[0])
     return is_stated or not re.match(rf'\s*(abbrev|unfoldable|{PUBLIC}record|module)', lines[0])
 
 

@@ -18,7 +18,6 @@ SUBJECT = 72
 # the words of several modules, or of a crate above
 SHARED = {
     'arbitrary_base': ['Range', 'Residue', 'Field', 'BitList', 'Operation', 'Assigned', 'Order'],
-    'arbitrary_core': ['GenericLaws'],
     'arbitrary_int': ['GenericLaws'],
     'bit_fields': ['BitField'],
 }

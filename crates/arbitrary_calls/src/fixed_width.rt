@@ -2,7 +2,7 @@
 
 ghost use Rattle.std.specs.Prelude.{◌≡◌, ◌≢◌, ◌+ℤ◌, ◌-ℤ◌, ◌*ℤ◌, pos, false};
 ghost use Rattle.arbitrary_base.specs.Range.{InRange};
-ghost use Rattle.arbitrary_core.specs.GenericLaws.{BitCountLaws, BitLaws, BitSumLaws, BitwiseLaws, ComplementLaws, CountLaws, MovedBitLaws, MovementLaws, Operations, OrderLaws, ProductLaws, SumLaws, ValueLaws, WrappingLaws};
+ghost use Rattle.arbitrary_core.proofs.GenericLaws.{BitCountLaws, BitLaws, BitSumLaws, BitwiseLaws, ComplementLaws, CountLaws, MovedBitLaws, MovementLaws, Operations, OrderLaws, ProductLaws, SumLaws, ValueLaws, WrappingLaws};
 
 use crate::calls::FixedWidthCalls;
 use arbitrary_traits::integer::Integer;

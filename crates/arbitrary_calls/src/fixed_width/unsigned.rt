@@ -1,7 +1,7 @@
 //! `UInt` as an integer of fixed width: the laws. `signed` has the same for `Int`.
 
 ghost use Rattle.arbitrary_core.proofs.UnsignedQuotient.{quotient-in_range};
-ghost use Rattle.arbitrary_core.proofs.GenericLaws.{bit-hold, bit_count-hold, bit_sums-hold, bitwise-hold, complements-hold, counts-hold, moved_bits-hold, movement-hold, operations, orders-hold, products-hold, sums-hold, value-hold, wrapping-hold};
+ghost use Rattle.arbitrary_core.proofs.GenericLawsHold.{bit-hold, bit_count-hold, bit_sums-hold, bitwise-hold, complements-hold, counts-hold, moved_bits-hold, movement-hold, operations, orders-hold, products-hold, sums-hold, value-hold, wrapping-hold};
 
 use crate::fixed_width::FixedWidth;
 use arbitrary_base::storage::{BuiltinInteger, SignedOf, UnsignedOf, UnsignedStorage};
