@@ -12,7 +12,7 @@ use Rattle.arbitrary_base.proofs.modular.Residue.{congruent-same, residue-congru
 use Rattle.arbitrary_base.proofs.modular.Truncation.{InRange-wider, in_range-false, in_range-true}
 use Rattle.arbitrary_base.proofs.storages.CheckedSum.{zero-in_range}
 use Rattle.arbitrary_base.proofs.storages.Primitive.{residue-pos}
-use Rattle.arbitrary_int.specs.Steps.{by_meaning, one_meaning, two_meaning}
+use Rattle.arbitrary_int.specs.Steps.{by_meaning, exact_or_refused, one_meaning, two_meaning, unless_zero}
 use Rattle.arbitrary_int.specs.declared.steps.ByOp.{ByOp}
 use Rattle.arbitrary_int.specs.declared.steps.OneOp.{OneOp}
 use Rattle.arbitrary_int.specs.declared.steps.TwoOp.{TwoOp}
@@ -21,15 +21,15 @@ use Rattle.arbitrary_int.specs.declared.steps.Why.TheVariants.{Refused}
 
 -- ---- results that may be refused
 
-exact-some : (s : Bool) (B : ℕ) (x : ℤ) → InRange s B x → ok_or (then_some (in_range s B x) x) Refused ≡ Ok x
+exact-some : (s : Bool) (B : ℕ) (x : ℤ) → InRange s B x → exact_or_refused s B x ≡ Ok x
 exact-some s B x f = rw (in_range-true s B x f) refl
 
-exact-none : (s : Bool) (B : ℕ) (x : ℤ) → (InRange s B x → ⊥) → ok_or (then_some (in_range s B x) x) Refused ≡ Err Refused
+exact-none : (s : Bool) (B : ℕ) (x : ℤ) → (InRange s B x → ⊥) → exact_or_refused s B x ≡ Err Refused
 exact-none s B x f = rw (in_range-false s B x f) refl
 
 pub exact-checks : {T : Type 0} (number : T → ℤ) (s : Bool) (B : ℕ) (x : ℤ) (o : Option T) (r : Result T Why)
     → SomeIff (option_map number o) (InRange s B x) x → r ≡ ok_or o Refused
-    → MatchResult r (λ v. ok_or (then_some (in_range s B x) x) Refused ≡ Ok (number v)) (λ why. ok_or (then_some (in_range s B x) x) Refused ≡ Err why)
+    → MatchResult r (λ v. exact_or_refused s B x ≡ Ok (number v)) (λ why. exact_or_refused s B x ≡ Err why)
 exact-checks number s B x None r h e = rw e (exact-none s B x h)
 exact-checks number s B x (Some y) r h e = rw e (exact-some s B x h.0 ∙ ap Ok (sym h.1))
 
@@ -45,10 +45,6 @@ int_eq-false y n = by_test (int_eq y (pos 0)) refl
     by_test true p = absurd (n (grind (arith, ints)))
     by_test false p = refl
 
--- the result, unless the divisor is zero
-abbrev pub unless_zero : ℤ → Why → Result ℤ Why → Result ℤ Why
-unless_zero y why result = if int_eq y (pos 0) then Err why else result
-
 pub unless_zero-zero : (y : ℤ) (why : Why) (result : Result ℤ Why) → int_eq y (pos 0) ≡ true → unless_zero y why result ≡ Err why
 unless_zero-zero y why result e = rw e refl
 
@@ -57,14 +53,14 @@ unless_zero-other y why result e = rw e refl
 
 pub quotient-checks : {T : Type 0} (number : T → ℤ) (s : Bool) (B : ℕ) (x y : ℤ) (o : Option T) (r : Result T Why)
     → SomeIff (option_map number o) ((y ≢ pos 0) × InRange s B (int_div x y)) (int_div x y) → r ≡ ok_or o Refused
-    → MatchResult r (λ v. unless_zero y Refused (ok_or (then_some (in_range s B (int_div x y)) (int_div x y)) Refused) ≡ Ok (number v)) (λ why. unless_zero y Refused (ok_or (then_some (in_range s B (int_div x y)) (int_div x y)) Refused) ≡ Err why)
+    → MatchResult r (λ v. unless_zero y Refused (exact_or_refused s B (int_div x y)) ≡ Ok (number v)) (λ why. unless_zero y Refused (exact_or_refused s B (int_div x y)) ≡ Err why)
 quotient-checks number s B x y (Some q) r h e =
-    rw e (unless_zero-other y Refused (ok_or (then_some (in_range s B (int_div x y)) (int_div x y)) Refused) (int_eq-false y h.0.0) ∙ exact-some s B (int_div x y) h.0.1 ∙ ap Ok (sym h.1))
+    rw e (unless_zero-other y Refused (exact_or_refused s B (int_div x y)) (int_eq-false y h.0.0) ∙ exact-some s B (int_div x y) h.0.1 ∙ ap Ok (sym h.1))
 quotient-checks number s B x y None r h e = rw e (by_test (int_eq y (pos 0)) refl)
   where
-    by_test : (t : Bool) → int_eq y (pos 0) ≡ t → unless_zero y Refused (ok_or (then_some (in_range s B (int_div x y)) (int_div x y)) Refused) ≡ Err Refused
-    by_test true p = unless_zero-zero y Refused (ok_or (then_some (in_range s B (int_div x y)) (int_div x y)) Refused) p
-    by_test false p = unless_zero-other y Refused (ok_or (then_some (in_range s B (int_div x y)) (int_div x y)) Refused) p ∙ exact-none s B (int_div x y) (λ f. h (nonzero y p, f))
+    by_test : (t : Bool) → int_eq y (pos 0) ≡ t → unless_zero y Refused (exact_or_refused s B (int_div x y)) ≡ Err Refused
+    by_test true p = unless_zero-zero y Refused (exact_or_refused s B (int_div x y)) p
+    by_test false p = unless_zero-other y Refused (exact_or_refused s B (int_div x y)) p ∙ exact-none s B (int_div x y) (λ f. h (nonzero y p, f))
 
 -- the residue is 0 exactly where the number is
 pub zero_test : (s : Bool) (B p : ℕ) (x : ℤ) (b : Bool) → (1 ≤ B) × (B ≤ 128) → InRange s B x → p ≡ residue 128 x → b ≡ nat_eq p 0 → b ≡ int_eq x (pos 0)

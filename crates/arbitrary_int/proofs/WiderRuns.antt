@@ -1,7 +1,6 @@
 -- Why a run of checked sums, differences, products and quotients is the same at each type with at least the
 -- range.
-use Rattle.std.specs.Prelude.{◌≡◌, ℕ, ℤ, Bool, true, false, pos, ◌+◌, ◌≤◌, ◌<◌, List, [], ◌∷◌, length, take, drop, get_or, set, Result, Ok, Err, ok_or, ⊤, int_le, int_div, ◌&&◌, All}
-use Rattle.std.specs.Bool.{then_some}
+use Rattle.std.specs.Prelude.{◌≡◌, ℕ, ℤ, Bool, true, false, pos, ◌+◌, ◌≤◌, ◌<◌, List, [], ◌∷◌, length, take, drop, get_or, set, Result, Ok, Err, ⊤, int_le, int_div, ◌&&◌, All}
 use Rattle.std.specs.Ordering.{int_eq}
 use Rattle.std.specs.Result.{result_map_both}
 use Rattle.std.proofs.Common.{arith, refl, ap, sym, ◌∙◌, suc}
@@ -11,8 +10,7 @@ use Rattle.std.proofs.lemmas.List.Elements.{All-head, All-tail}
 use Rattle.arbitrary_base.specs.Range.{lo, hi, in_range}
 use Rattle.arbitrary_base.proofs.modular.Truncation.{in_range-true}
 use Rattle.arbitrary_int.proofs.RunLemmas.{RunOf-ok, RunOf-err, run-stop, run-end}
-use Rattle.arbitrary_int.proofs.StepLemmas.{unless_zero}
-use Rattle.arbitrary_int.specs.Steps.{result_of, target_of, meaning}
+use Rattle.arbitrary_int.specs.Steps.{exact_or_refused, meaning, result_of, target_of, unless_zero}
 use Rattle.arbitrary_int.specs.Runs.{later, RunOf}
 use Rattle.arbitrary_int.specs.Widths.{IsCheckedArithmetic, carried_out, RangeWithin}
 use Rattle.arbitrary_int.specs.declared.steps.TwoOp.TheVariants.{CheckedAdd, CheckedSub, CheckedMul, CheckedDiv}
@@ -33,20 +31,20 @@ in_range-wider s t A B x c e = by_tests (int_le (lo s A) x) (int_le x (hi s A)) 
     by_tests true false p q r = absurd (cc)
     by_tests false q p r u = absurd (cc)
 
-exact-wider : (s t : Bool) (A B : ℕ) (x y : ℤ) → RangeWithin s A t B → ok_or (then_some (in_range s A x) x) Refused ≡ Ok y → ok_or (then_some (in_range t B x) x) Refused ≡ Ok y
+exact-wider : (s t : Bool) (A B : ℕ) (x y : ℤ) → RangeWithin s A t B → exact_or_refused s A x ≡ Ok y → exact_or_refused t B x ≡ Ok y
 exact-wider s t A B x y c e = by_test (in_range s A x) refl
   where
-    by_test : (b : Bool) → in_range s A x ≡ b → ok_or (then_some (in_range t B x) x) Refused ≡ Ok y
+    by_test : (b : Bool) → in_range s A x ≡ b → exact_or_refused t B x ≡ Ok y
     by_test true p = let q = in_range-wider s t A B x c p in rw q (rw p at e)
     by_test false p = let r : Err Refused ≡ Ok y = rw p at e in absurd (cc)
 
 quotient-wider : (s t : Bool) (A B : ℕ) (x y z : ℤ) → RangeWithin s A t B
-    → unless_zero y Refused (ok_or (then_some (in_range s A (int_div x y)) (int_div x y)) Refused) ≡ Ok z → unless_zero y Refused (ok_or (then_some (in_range t B (int_div x y)) (int_div x y)) Refused) ≡ Ok z
+    → unless_zero y Refused (exact_or_refused s A (int_div x y)) ≡ Ok z → unless_zero y Refused (exact_or_refused t B (int_div x y)) ≡ Ok z
 quotient-wider s t A B x y z c e = by_test (int_eq y (pos 0)) refl
   where
-    by_test : (b : Bool) → int_eq y (pos 0) ≡ b → unless_zero y Refused (ok_or (then_some (in_range t B (int_div x y)) (int_div x y)) Refused) ≡ Ok z
+    by_test : (b : Bool) → int_eq y (pos 0) ≡ b → unless_zero y Refused (exact_or_refused t B (int_div x y)) ≡ Ok z
     by_test true p = let r : Err Refused ≡ Ok z = rw p at e in absurd (cc)
-    by_test false p = let r : ok_or (then_some (in_range s A (int_div x y)) (int_div x y)) Refused ≡ Ok z = rw p at e in rw p (exact-wider s t A B (int_div x y) z c r)
+    by_test false p = let r : exact_or_refused s A (int_div x y) ≡ Ok z = rw p at e in rw p (exact-wider s t A B (int_div x y) z c r)
 
 result-wider : (s t : Bool) (A B : ℕ) (step : Step) (regs : List ℤ) (x : ℤ) → RangeWithin s A t B → IsCheckedArithmetic step
     → result_of s A step regs ≡ Ok x → result_of t B step regs ≡ Ok x

@@ -19,20 +19,28 @@ use Rattle.arbitrary_int.specs.declared.steps.Step.TheVariants.{Two, One, By}
 use Rattle.arbitrary_int.specs.declared.steps.Why.{Why}
 use Rattle.arbitrary_int.specs.declared.steps.Why.TheVariants.{Refused, ZeroDivisor}
 
+-- the exact result, which is refused if it is out of range
+abbrev pub exact_or_refused : Bool → ℕ → ℤ → Result ℤ Why
+exact_or_refused s B x = ok_or (then_some (in_range s B x) x) Refused
+
+-- the result, unless the divisor is zero
+abbrev pub unless_zero : ℤ → Why → Result ℤ Why → Result ℤ Why
+unless_zero y why result = if int_eq y (pos 0) then Err why else result
+
 -- the result of an operation on the numbers x and y
 abbrev pub two_meaning : Bool → ℕ → TwoOp → ℤ → ℤ → Result ℤ Why
 two_meaning s B WrappingAdd x y = Ok (wrap s B (x +ℤ y))
 two_meaning s B WrappingSub x y = Ok (wrap s B (x -ℤ y))
 two_meaning s B WrappingMul x y = Ok (wrap s B (x *ℤ y))
-two_meaning s B WrappingDiv x y = if int_eq y (pos 0) then Err ZeroDivisor else Ok (wrap s B (int_div x y))
+two_meaning s B WrappingDiv x y = unless_zero y ZeroDivisor (Ok (wrap s B (int_div x y)))
 two_meaning s B SaturatingAdd x y = Ok (clamp s B (x +ℤ y))
 two_meaning s B SaturatingSub x y = Ok (clamp s B (x -ℤ y))
 two_meaning s B SaturatingMul x y = Ok (clamp s B (x *ℤ y))
-two_meaning s B SaturatingDiv x y = if int_eq y (pos 0) then Err ZeroDivisor else Ok (clamp s B (int_div x y))
-two_meaning s B CheckedAdd x y = ok_or (then_some (in_range s B (x +ℤ y)) (x +ℤ y)) Refused
-two_meaning s B CheckedSub x y = ok_or (then_some (in_range s B (x -ℤ y)) (x -ℤ y)) Refused
-two_meaning s B CheckedMul x y = ok_or (then_some (in_range s B (x *ℤ y)) (x *ℤ y)) Refused
-two_meaning s B CheckedDiv x y = if int_eq y (pos 0) then Err Refused else ok_or (then_some (in_range s B (int_div x y)) (int_div x y)) Refused
+two_meaning s B SaturatingDiv x y = unless_zero y ZeroDivisor (Ok (clamp s B (int_div x y)))
+two_meaning s B CheckedAdd x y = exact_or_refused s B (x +ℤ y)
+two_meaning s B CheckedSub x y = exact_or_refused s B (x -ℤ y)
+two_meaning s B CheckedMul x y = exact_or_refused s B (x *ℤ y)
+two_meaning s B CheckedDiv x y = unless_zero y Refused (exact_or_refused s B (int_div x y))
 two_meaning s B And x y = Ok (bitwise_and s B x y)
 two_meaning s B Or x y = Ok (bitwise_or s B x y)
 two_meaning s B Xor x y = Ok (bitwise_xor s B x y)
