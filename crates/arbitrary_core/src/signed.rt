@@ -140,9 +140,9 @@ where
     pub fn to_bits(self) -> T::Unsigned
         ensures value { T.Unsigned.number result ≡ pos (residue BITS self) }
         ensures congruent { Congruent BITS (T.Unsigned.number result) self }
-        ensures width { IsInRange 1 T.WIDTH BITS }
         ensures result_in_range { InRange T.Unsigned.SIGNED BITS (T.Unsigned.number result) }
         ensures self_in_range { InRange T.SIGNED BITS self }
+        ensures width { IsInRange 1 T.WIDTH BITS }
     {
         self.bits
     }

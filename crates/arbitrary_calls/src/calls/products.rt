@@ -3,6 +3,7 @@
 ghost use Rattle.std.specs.Prelude.{length, not, ◌≡◌, ◌≢◌, ◌↔◌, ◌≤◌, ◌*◌, ◌<ℤ◌, ◌*ℤ◌, ℤ, pos, neg_ℤ, IsTrue, int_div, Some, SomeIff, option_map};
 ghost use Rattle.std.specs.Int.{int_pow};
 ghost use Rattle.std.specs.Int.Digits.{digits_of};
+ghost use Rattle.std.proofs.Math.IntN.{*ℤ_comm};
 ghost use Rattle.arbitrary_base.specs.Range.{InRange, in_range, lo, hi};
 ghost use Rattle.arbitrary_base.specs.Residue.{Congruent, wrap};
 ghost use Rattle.arbitrary_base.specs.Saturating.{clamp};
@@ -18,9 +19,13 @@ use arbitrary_base::{checked, overflowing, power, saturating, wrapping};
 /// without bounds. `wrap` of it is the type's number that is congruent to it modulo `2 ^ BITS`, and
 /// `clamp` of it the type's number that is nearest. A quotient is rounded toward zero; the only one that
 /// is out of range is the least signed number divided by -1. Each contract begins with the exact clause.
-/// `swap`, the range of what a call takes, and `width` say nothing of the result: the search for a proof
+/// The range of what a call takes and `width` come last and say nothing of the result: the search for a proof
 /// uses them.
 pub trait ProductCalls: Stored + LowBits {
+    // A law, because the search does not swap the operands by itself.
+    ghost product_commutes: { (a b : Self) → let number = Self.number in
+        number a *ℤ number b ≡ number b *ℤ number a } = { λ a b. *ℤ_comm (Self.number a) (Self.number b) };
+
     /// The product, wrapped.
     final fn wrapping_mul(self, rhs: Self) -> Self
         ensures operation { let number = Self.number in
@@ -51,9 +56,8 @@ pub trait ProductCalls: Stored + LowBits {
         ensures below { let product = Self.number self *ℤ Self.number rhs in
             let lowest = lo Self.IS_SIGNED Self.BITS in
             product <ℤ lowest → Self.number result ≡ lowest }
-        ensures self_in_range { InRange Self.IS_SIGNED Self.BITS (Self.number self) }
         ensures result_in_range { InRange Self.IS_SIGNED Self.BITS (Self.number result) }
-        ensures swap { Self.number self *ℤ Self.number rhs ≡ Self.number rhs *ℤ Self.number self }
+        ensures self_in_range { InRange Self.IS_SIGNED Self.BITS (Self.number self) }
         ensures rhs_in_range { InRange Self.IS_SIGNED Self.BITS (Self.number rhs) }
         ensures width { Self.valid }
     {
@@ -65,7 +69,6 @@ pub trait ProductCalls: Stored + LowBits {
         ensures exact { let product = Self.number self *ℤ Self.number rhs in
             let fits = InRange Self.IS_SIGNED Self.BITS product in
             SomeIff (option_map Self.number result) fits product }
-        ensures swap { Self.number self *ℤ Self.number rhs ≡ Self.number rhs *ℤ Self.number self }
         ensures self_in_range { InRange Self.IS_SIGNED Self.BITS (Self.number self) }
         ensures rhs_in_range { InRange Self.IS_SIGNED Self.BITS (Self.number rhs) }
         ensures width { Self.valid }
@@ -91,7 +94,6 @@ pub trait ProductCalls: Stored + LowBits {
             InRange Self.IS_SIGNED Self.BITS product → Self.number result.0 ≡ product }
         ensures congruent { let product = Self.number self *ℤ Self.number rhs in
             Congruent Self.BITS (Self.number result.0) product }
-        ensures swap { Self.number self *ℤ Self.number rhs ≡ Self.number rhs *ℤ Self.number self }
         ensures self_in_range { InRange Self.IS_SIGNED Self.BITS (Self.number self) }
         ensures rhs_in_range { InRange Self.IS_SIGNED Self.BITS (Self.number rhs) }
         ensures width { Self.valid }
@@ -135,11 +137,11 @@ pub trait ProductCalls: Stored + LowBits {
         ensures below { let quotient = int_div (Self.number self) (Self.number rhs) in
             let lowest = lo Self.IS_SIGNED Self.BITS in
             quotient <ℤ lowest → Self.number result ≡ lowest }
-        ensures self_in_range { InRange Self.IS_SIGNED Self.BITS (Self.number self) }
         ensures result_in_range { InRange Self.IS_SIGNED Self.BITS (Self.number result) }
         ensures itself { let number = Self.number in
             InRange Self.IS_SIGNED Self.BITS (pos 1) → number self ≡ number rhs
             → number result ≡ pos 1 }
+        ensures self_in_range { InRange Self.IS_SIGNED Self.BITS (Self.number self) }
         ensures rhs_in_range { InRange Self.IS_SIGNED Self.BITS (Self.number rhs) }
         ensures width { Self.valid }
     {
@@ -206,11 +208,11 @@ pub trait ProductCalls: Stored + LowBits {
         ensures below { let power = int_pow (Self.number self) exp in
             let lowest = lo Self.IS_SIGNED Self.BITS in
             power <ℤ lowest → Self.number result ≡ lowest }
-        ensures self_in_range { InRange Self.IS_SIGNED Self.BITS (Self.number self) }
         ensures result_in_range { InRange Self.IS_SIGNED Self.BITS (Self.number result) }
         ensures first { exp ≡ 1 → Self.number result ≡ Self.number self }
         ensures of_one { Self.number self ≡ pos 1 → Self.number result ≡ pos 1 }
         ensures of_zero { Self.number self ≡ pos 0 → 1 ≤ exp → Self.number result ≡ pos 0 }
+        ensures self_in_range { InRange Self.IS_SIGNED Self.BITS (Self.number self) }
         ensures width { Self.valid }
     {
         Self::from_storage(power::saturating_pow(self.to_storage(), exp, Self::BITS))
@@ -232,11 +234,11 @@ pub trait ProductCalls: Stored + LowBits {
         ensures below { let power = int_pow (Self.number self) exp in
             let lowest = lo Self.IS_SIGNED Self.BITS in
             power <ℤ lowest → Self.number result.0 ≡ lowest }
-        ensures self_in_range { InRange Self.IS_SIGNED Self.BITS (Self.number self) }
         ensures result_in_range { InRange Self.IS_SIGNED Self.BITS (Self.number result.0) }
         ensures first { exp ≡ 1 → Self.number result.0 ≡ Self.number self }
         ensures of_one { Self.number self ≡ pos 1 → Self.number result.0 ≡ pos 1 }
         ensures of_zero { Self.number self ≡ pos 0 → 1 ≤ exp → Self.number result.0 ≡ pos 0 }
+        ensures self_in_range { InRange Self.IS_SIGNED Self.BITS (Self.number self) }
         ensures width { Self.valid }
     {
         let (power, count) = power::saturating_pow_counted(self.to_storage(), exp, Self::BITS);

@@ -1,6 +1,7 @@
 //! Sums and differences of integers of fixed width.
 
 ghost use Rattle.std.specs.Prelude.{not, ◌≡◌, ◌↔◌, ◌<ℤ◌, ◌+ℤ◌, ◌-ℤ◌, ℤ, pos, IsTrue, Some, SomeIff, option_map};
+ghost use Rattle.std.proofs.Math.IntN.{+ℤ_comm};
 ghost use Rattle.arbitrary_base.specs.Range.{InRange, in_range, lo, hi};
 ghost use Rattle.arbitrary_base.specs.Residue.{Congruent, wrap};
 ghost use Rattle.arbitrary_base.specs.Saturating.{clamp};
@@ -14,9 +15,13 @@ use arbitrary_base::{checked, overflowing, saturating};
 ///
 /// In the contracts `number` is the number of a value, and the exact result is that of whole numbers
 /// without bounds. `wrap` of it is the type's number that is congruent to it modulo `2 ^ BITS`, and
-/// `clamp` of it the type's number that is nearest. Each contract begins with the exact clause. `swap`, the
-/// range of what a call takes, and `width` say nothing of the result: the search for a proof uses them.
+/// `clamp` of it the type's number that is nearest. Each contract begins with the exact clause. The range of
+/// what a call takes and `width` come last and say nothing of the result: the search for a proof uses them.
 pub trait SumCalls: Stored + LowBits {
+    // A law, because the search does not swap the operands by itself.
+    ghost sum_commutes: { (a b : Self) → let number = Self.number in
+        number a +ℤ number b ≡ number b +ℤ number a } = { λ a b. +ℤ_comm (Self.number a) (Self.number b) };
+
     /// The sum, wrapped.
     // On the low bits, which an `Int` stores, so neither number is made first. `+` adds the numbers, of which its condition speaks.
     final fn wrapping_add(self, rhs: Self) -> Self
@@ -50,9 +55,8 @@ pub trait SumCalls: Stored + LowBits {
         ensures below { let sum = Self.number self +ℤ Self.number rhs in
             let lowest = lo Self.IS_SIGNED Self.BITS in
             sum <ℤ lowest → Self.number result ≡ lowest }
-        ensures self_in_range { InRange Self.IS_SIGNED Self.BITS (Self.number self) }
         ensures result_in_range { InRange Self.IS_SIGNED Self.BITS (Self.number result) }
-        ensures swap { Self.number self +ℤ Self.number rhs ≡ Self.number rhs +ℤ Self.number self }
+        ensures self_in_range { InRange Self.IS_SIGNED Self.BITS (Self.number self) }
         ensures rhs_in_range { InRange Self.IS_SIGNED Self.BITS (Self.number rhs) }
         ensures width { Self.valid }
     {
@@ -64,7 +68,6 @@ pub trait SumCalls: Stored + LowBits {
         ensures exact { let sum = Self.number self +ℤ Self.number rhs in
             let fits = InRange Self.IS_SIGNED Self.BITS sum in
             SomeIff (option_map Self.number result) fits sum }
-        ensures swap { Self.number self +ℤ Self.number rhs ≡ Self.number rhs +ℤ Self.number self }
         ensures zero { let number = Self.number in
             number rhs ≡ pos 0 → option_map number result ≡ Some (number self) }
         ensures self_in_range { InRange Self.IS_SIGNED Self.BITS (Self.number self) }
@@ -92,7 +95,6 @@ pub trait SumCalls: Stored + LowBits {
             InRange Self.IS_SIGNED Self.BITS sum → Self.number result.0 ≡ sum }
         ensures congruent { let sum = Self.number self +ℤ Self.number rhs in
             Congruent Self.BITS (Self.number result.0) sum }
-        ensures swap { Self.number self +ℤ Self.number rhs ≡ Self.number rhs +ℤ Self.number self }
         ensures self_in_range { InRange Self.IS_SIGNED Self.BITS (Self.number self) }
         ensures rhs_in_range { InRange Self.IS_SIGNED Self.BITS (Self.number rhs) }
         ensures width { Self.valid }
@@ -133,8 +135,8 @@ pub trait SumCalls: Stored + LowBits {
         ensures below { let difference = Self.number self -ℤ Self.number rhs in
             let lowest = lo Self.IS_SIGNED Self.BITS in
             difference <ℤ lowest → Self.number result ≡ lowest }
-        ensures self_in_range { InRange Self.IS_SIGNED Self.BITS (Self.number self) }
         ensures result_in_range { InRange Self.IS_SIGNED Self.BITS (Self.number result) }
+        ensures self_in_range { InRange Self.IS_SIGNED Self.BITS (Self.number self) }
         ensures rhs_in_range { InRange Self.IS_SIGNED Self.BITS (Self.number rhs) }
         ensures width { Self.valid }
     {

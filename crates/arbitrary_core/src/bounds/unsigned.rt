@@ -47,8 +47,8 @@ impl<T: UnsignedStorage + HasWidth<BITS>, const BITS: usize> SaturatingAdd for U
         ensures exact { InRange T.SIGNED BITS (self.now +ℤ v.now) → result ≡ self.now +ℤ v.now }
         ensures above { hi T.SIGNED BITS <ℤ (self.now +ℤ v.now) → result ≡ hi T.SIGNED BITS }
         ensures below { (self.now +ℤ v.now) <ℤ lo T.SIGNED BITS → result ≡ lo T.SIGNED BITS }
-        ensures self_in_range { InRange T.SIGNED BITS self.now }
         ensures result_in_range { InRange T.SIGNED BITS result }
+        ensures self_in_range { InRange T.SIGNED BITS self.now }
         ensures v_in_range { InRange T.SIGNED BITS v.now }
     {
         UInt::<T, BITS>::new(saturating::add(self.value(), v.value(), BITS))
@@ -66,8 +66,8 @@ impl<T: UnsignedStorage + HasWidth<BITS>, const BITS: usize> SaturatingSub for U
         ensures exact { InRange T.SIGNED BITS (self.now -ℤ v.now) → result ≡ self.now -ℤ v.now }
         ensures above { hi T.SIGNED BITS <ℤ (self.now -ℤ v.now) → result ≡ hi T.SIGNED BITS }
         ensures below { (self.now -ℤ v.now) <ℤ lo T.SIGNED BITS → result ≡ lo T.SIGNED BITS }
-        ensures self_in_range { InRange T.SIGNED BITS self.now }
         ensures result_in_range { InRange T.SIGNED BITS result }
+        ensures self_in_range { InRange T.SIGNED BITS self.now }
         ensures v_in_range { InRange T.SIGNED BITS v.now }
     {
         UInt::<T, BITS>::new(saturating::sub(self.value(), v.value(), BITS))
