@@ -18,6 +18,12 @@ pub fn high_half(x: u8) -> u4
     u4::extract_u8(x, 4)
 }
 
+pub fn low_half(x: u8) -> u4
+    ensures { result ≡ pos (x % 16) }
+{
+    u4::extract_u8(x, 0)
+}
+
 pub fn joined_by_or(x: u8) -> u8
     ensures { result ≡ x }
 {
@@ -203,6 +209,14 @@ pub fn moved_up_in_place(x: u12) -> u12
     moved
 }
 
+pub fn moved_down_in_place(x: u12) -> u12
+    ensures { result ≡ int_div x (pos 16) }
+{
+    let mut moved = x;
+    moved >>= 4;
+    moved
+}
+
 pub fn packed_in_place(high: u4, low: u8) -> u12
     ensures { result ≡ pos 256 *ℤ high +ℤ pos low }
 {
@@ -230,6 +244,34 @@ pub fn signed_moved_down_in_place(x: i12) -> i12
     let mut moved = x;
     moved >>= 4;
     moved
+}
+
+pub fn signed_moved_up_in_place(x: i12) -> i12
+    requires low { neg_ℤ (pos 128) ≤ℤ x }
+    requires high { x <ℤ pos 128 }
+    ensures { result ≡ pos 16 *ℤ x }
+{
+    let mut moved = x;
+    moved <<= 4;
+    moved
+}
+
+pub fn signed_turned_over_and_back(x: i12, mask: i12) -> i12
+    ensures { result ≡ x }
+{
+    let mut turned = x;
+    turned ^= mask;
+    turned ^= mask;
+    turned
+}
+
+pub fn signed_masked_in_place(x: i12) -> i12
+    ensures low { pos 0 ≤ℤ result }
+    ensures high { result <ℤ pos 16 }
+{
+    let mut low = x;
+    low &= i12::new(15);
+    low
 }
 
 pub fn signed_joined_in_place(x: i12, more: i12) -> i12
@@ -305,6 +347,15 @@ pub fn checked_shift_fits(x: u12, other: u12) -> u12
     }
 }
 
+pub fn checked_right_shift(x: u12, other: u12) -> u12
+    ensures { result ≡ int_div x (pos 16) }
+{
+    match x.checked_shr(4) {
+        Some(shifted) => shifted,
+        None => other,
+    }
+}
+
 pub fn overflowing_shift_turns_over(x: u12) -> u12
     ensures { result ≡ int_div x (pos 2) }
 {
@@ -333,4 +384,10 @@ pub fn ones_and_zeros(x: i12) -> u32
 
 pub fn table_by_count(table: &[u8; 13], x: u12) -> u8 {
     table[x.trailing_ones() as usize]
+}
+
+pub fn four_by_plus(a: u4, b: u4, c: u4, d: u4) -> u16
+    ensures { pos result ≡ pos 4096 *ℤ a +ℤ pos 256 *ℤ b +ℤ pos 16 *ℤ c +ℤ d }
+{
+    (a.as_u16() << 12) + (b.as_u16() << 8) + (c.as_u16() << 4) + d.as_u16()
 }

@@ -5,6 +5,12 @@ ghost use Rattle.arbitrary_int.specs.Residue.{Congruent};
 
 use arbitrary_int::prelude::*;
 
+pub fn zeros_of_all() -> u32
+    ensures { result ≡ 0 }
+{
+    u5::max_value().count_zeros()
+}
+
 pub fn zeros_of_none(x: u5) -> u32
     ensures none { x ≡ pos 0 → result ≡ 5 }
     ensures some { x ≡ pos 31 → result ≡ 0 }
@@ -77,6 +83,12 @@ pub fn trailing_zeros_are_zeros(x: i5) -> bool
     ensures { IsTrue result }
 {
     x.trailing_zeros() <= x.count_zeros()
+}
+
+pub fn leading_ones_are_ones(x: i5) -> bool
+    ensures { IsTrue result }
+{
+    x.leading_ones() <= x.count_ones()
 }
 
 pub fn trailing_ones_are_ones(x: u5) -> bool

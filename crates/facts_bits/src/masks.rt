@@ -1,7 +1,7 @@
 //! Facts about numbers under a known mask.
 #![tactic(auto, using(arbitrary_laws::proofs::masks::Rulesets::known_masks))]
 
-ghost use Rattle.std.specs.Prelude.{◌≡◌, ◌↔◌, ◌/◌, ◌%◌, ◌*◌, ◌+ℤ◌, ◌*ℤ◌, ◌≤ℤ◌, ◌<ℤ◌, pos, int_div, unsigned_abs, IsTrue};
+ghost use Rattle.std.specs.Prelude.{◌≡◌, ◌↔◌, ◌/◌, ◌%◌, ◌*◌, ◌+ℤ◌, ◌-ℤ◌, ◌*ℤ◌, ◌≤ℤ◌, ◌<ℤ◌, pos, int_div, unsigned_abs, IsTrue};
 ghost use Rattle.std.specs.Int.{int_rem_euclid};
 ghost use Rattle.arbitrary_int.specs.Residue.{Congruent};
 
@@ -97,6 +97,13 @@ pub fn bit(x: u12) -> bool
 
 pub fn odd(x: i12) -> bool
     ensures { IsTrue result ↔ (int_rem_euclid x (pos 2) ≡ pos 1) }
+{
+    x & i12::new(1) == i12::new(1)
+}
+
+pub fn odd_from_zero_on(x: i12) -> bool
+    requires { pos 0 ≤ℤ x }
+    ensures { IsTrue result ↔ (x -ℤ pos 2 *ℤ int_div x (pos 2) ≡ pos 1) }
 {
     x & i12::new(1) == i12::new(1)
 }

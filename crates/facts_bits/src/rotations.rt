@@ -12,16 +12,35 @@ pub fn nibbles_swapped_twice(x: u8) -> u8
     once.rotate_left(4).value()
 }
 
+pub fn halves_of_a_ring(x: u24) -> u24
+    ensures { result ≡ x }
+{
+    x.rotate_left(12).rotate_left(12)
+}
+
 pub fn ring_is_left_or_right(x: u24) -> bool
     ensures { IsTrue result }
 {
     x.rotate_left(4) == x.rotate_right(20)
 }
 
+pub fn turned_by_the_width(x: u12) -> u12
+    ensures { result ≡ x }
+{
+    x.rotate_left(12)
+}
+
 pub fn turned_three_times(x: u12) -> u12
     ensures { result ≡ x }
 {
     x.rotate_left(4).rotate_left(4).rotate_left(4)
+}
+
+#[tactic(auto, using(arbitrary_laws::proofs::rotations::Rulesets::reversals))]
+pub fn two_shifts(x: u12) -> bool
+    ensures { IsTrue result }
+{
+    x.rotate_left(4) == (x << 4) | (x >> 8)
 }
 
 // ---- by quotient and remainder
@@ -60,4 +79,11 @@ pub fn highest_bit_is_the_lowest_then(x: u12) -> bool
     ensures { IsTrue result }
 {
     x.rotate_left(1) & u12::new(1) == x >> 11
+}
+
+#[tactic(auto, using(arbitrary_laws::proofs::rotations::Rulesets::rotated_numbers))]
+pub fn highest_byte_is_the_lowest_then(x: u24) -> bool
+    ensures { IsTrue result }
+{
+    x.rotate_left(8) & u24::new(0xFF) == x >> 16
 }

@@ -60,6 +60,26 @@ pub fn set_then_test(x: u24, place: u5) -> bool
 }
 
 #[tactic(auto, using(arbitrary_laws::proofs::places::Rulesets::bit_tests))]
+pub fn clear_then_test(x: u24, place: u8) -> bool
+    requires { place < 24 }
+    ensures { IsTrue result }
+{
+    let cleared = x & !(u24::new(1) << place);
+    (cleared >> place) & u24::new(1) == u24::new(0)
+}
+
+#[tactic(auto, using(arbitrary_laws::proofs::places::Rulesets::bit_tests))]
+pub fn clear_then_test_another(x: u24, place: u8, other: u8) -> bool
+    requires place { place < 24 }
+    requires other { other < 24 }
+    requires apart { place ≢ other }
+    ensures { IsTrue result }
+{
+    let cleared = x & !(u24::new(1) << other);
+    ((cleared >> place) & u24::new(1) == u24::new(1)) == ((x >> place) & u24::new(1) == u24::new(1))
+}
+
+#[tactic(auto, using(arbitrary_laws::proofs::places::Rulesets::bit_tests))]
 pub fn set_then_test_another_by_mask(x: u24, place: u8, other: u8) -> bool
     requires place { place < 24 }
     requires other { other < 24 }
@@ -69,6 +89,18 @@ pub fn set_then_test_another_by_mask(x: u24, place: u8, other: u8) -> bool
     let mask = u24::new(1) << place;
     let set = x | (u24::new(1) << other);
     (set & mask == u24::new(0)) == (x & mask == u24::new(0))
+}
+
+#[tactic(auto, using(arbitrary_laws::proofs::places::Rulesets::bit_tests))]
+pub fn clear_then_test_another_by_mask(x: u24, place: u8, other: u8) -> bool
+    requires place { place < 24 }
+    requires other { other < 24 }
+    requires apart { place ≢ other }
+    ensures { IsTrue result }
+{
+    let mask = u24::new(1) << place;
+    let cleared = x & !(u24::new(1) << other);
+    (cleared & mask == u24::new(0)) == (x & mask == u24::new(0))
 }
 
 #[tactic(auto, using(arbitrary_laws::proofs::orders::Rulesets::order))]

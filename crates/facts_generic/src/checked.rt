@@ -6,14 +6,14 @@ ghost use Rattle.arbitrary_int.specs.Range.{InRange};
 
 use arbitrary_int::prelude::*;
 
-pub fn checked_shift_is_some<V: ShiftCalls>(x: V, n: u32) -> bool
+pub fn checked_shift_is_some<V: FixedWidth>(x: V, n: u32) -> bool
     requires { V.valid }
     ensures { IsTrue result }
 {
     x.checked_shl(n).is_some() == ((n as usize) < V::BITS)
 }
 
-pub fn checked_product_with_one<V: Integer + ProductCalls>(x: V) -> bool
+pub fn checked_product_with_one<V: FixedWidth>(x: V) -> bool
     requires width { V.valid }
     requires one { InRange V.IS_SIGNED V.BITS (pos 1) }
     ensures { IsTrue result }
@@ -21,7 +21,7 @@ pub fn checked_product_with_one<V: Integer + ProductCalls>(x: V) -> bool
     x.checked_mul(V::masked_new(1u8)) == Some(x)
 }
 
-pub fn checked_difference_back<V: Integer + SumCalls>(x: V, y: V) -> bool
+pub fn checked_difference_back<V: FixedWidth>(x: V, y: V) -> bool
     requires { V.valid }
     ensures { IsTrue result }
 {
@@ -31,7 +31,7 @@ pub fn checked_difference_back<V: Integer + SumCalls>(x: V, y: V) -> bool
     }
 }
 
-pub fn checked_is_wrapping<V: Integer + SumCalls>(x: V, y: V) -> bool
+pub fn checked_is_wrapping<V: FixedWidth>(x: V, y: V) -> bool
     requires { V.valid }
     ensures { IsTrue result }
 {
@@ -41,7 +41,7 @@ pub fn checked_is_wrapping<V: Integer + SumCalls>(x: V, y: V) -> bool
     }
 }
 
-pub fn clamped_sum_and_back<V: UnsignedInteger + SumCalls>(x: V, y: V) -> bool
+pub fn clamped_sum_and_back<V: FixedWidth + UnsignedInteger>(x: V, y: V) -> bool
     requires { V.valid }
     ensures { IsTrue result }
 {

@@ -7,6 +7,12 @@ ghost use Rattle.arbitrary_int.specs.Residue.{Congruent};
 
 use arbitrary_int::prelude::*;
 
+pub fn sum_of_three<V: FixedWidth>(a: V, b: V, c: V) -> V
+    ensures { Congruent V.BITS (V.number result) (V.number a +ℤ V.number b +ℤ V.number c) }
+{
+    a.wrapping_add(b).wrapping_add(c)
+}
+
 pub fn moved_by_a_difference<V: FixedWidth>(position: V, to: V, from: V) -> V
     ensures { Congruent V.BITS (V.number result)
         (V.number position +ℤ V.number to -ℤ V.number from) }
@@ -40,6 +46,16 @@ pub fn polynomial_of_any_type<V: FixedWidth>(a: V, b: V, c: V, x: V) -> V
         .wrapping_add(b)
         .wrapping_mul(x)
         .wrapping_add(c)
+}
+
+pub fn checksum_of_five<V: FixedWidth>(a: V, b: V, c: V, d: V, e: V) -> V
+    ensures { Congruent V.BITS (V.number result)
+        (V.number a +ℤ V.number b +ℤ V.number c +ℤ V.number d +ℤ V.number e) }
+{
+    a.wrapping_add(b)
+        .wrapping_add(c)
+        .wrapping_add(d)
+        .wrapping_add(e)
 }
 
 pub fn next_random(state: u48) -> u48

@@ -7,6 +7,13 @@ ghost use Rattle.arbitrary_int.specs.Operation.{bitwise_and};
 
 use arbitrary_int::prelude::*;
 
+pub fn difference_is_sum<V: FixedWidth>(x: V, y: V) -> bool
+    requires { V.valid }
+    ensures { IsTrue result }
+{
+    x.wrapping_sub(y) == x.wrapping_add(V::zero().wrapping_sub(y))
+}
+
 pub fn product_distributes<V: FixedWidth>(x: V, y: V, z: V) -> bool
     requires { V.valid }
     ensures { IsTrue result }
@@ -19,6 +26,13 @@ pub fn left_shift_of_sum<V: FixedWidth>(x: V, y: V) -> bool
     ensures { IsTrue result }
 {
     x.wrapping_add(y).wrapping_shl(2) == x.wrapping_shl(2).wrapping_add(y.wrapping_shl(2))
+}
+
+pub fn right_shift_of_xor<V: FixedWidth>(x: V, y: V) -> bool
+    requires { V.valid }
+    ensures { IsTrue result }
+{
+    (x ^ y).wrapping_shr(2) == x.wrapping_shr(2) ^ y.wrapping_shr(2)
 }
 
 pub fn right_and_left_shift_mask<V: FixedWidth>(x: V) -> bool
@@ -76,8 +90,47 @@ pub fn sum_with_a_difference<V: FixedWidth>(x: V, y: V) -> bool
     x.wrapping_add(y.wrapping_sub(x)) == y
 }
 
-pub fn overflow_is_the_same_in_either_order<V: Integer + SumCalls>(x: V, y: V) -> bool
+pub fn negated_twice<V: FixedWidth>(x: V) -> bool
+    requires { V.valid }
+    ensures { IsTrue result }
+{
+    V::zero().wrapping_sub(V::zero().wrapping_sub(x)) == x
+}
+
+pub fn product_with_one<V: FixedWidth + UnsignedInteger>(x: V) -> bool
+    requires { V.valid }
+    ensures { IsTrue result }
+{
+    x.wrapping_mul(V::from_(1u8)) == x
+}
+
+pub fn clamped_results_commute<V: FixedWidth>(x: V, y: V) -> bool
+    ensures { IsTrue result }
+{
+    x.saturating_add(y) == y.saturating_add(x) && x.saturating_mul(y) == y.saturating_mul(x)
+}
+
+pub fn overflow_is_the_same_in_either_order<V: FixedWidth>(x: V, y: V) -> bool
     ensures { IsTrue result }
 {
     x.overflowing_add(y) == y.overflowing_add(x)
+}
+
+pub fn checked_products_commute<V: FixedWidth>(x: V, y: V) -> bool
+    ensures { IsTrue result }
+{
+    x.checked_mul(y) == y.checked_mul(x)
+}
+
+pub fn shifts_by_none<V: FixedWidth>(x: V) -> bool
+    ensures { IsTrue result }
+{
+    x.wrapping_shl(0) == x && x.wrapping_shr(0) == x
+}
+
+pub fn checked_sum_with_zero<V: FixedWidth>(x: V) -> bool
+    requires { V.valid }
+    ensures { IsTrue result }
+{
+    x.checked_add(V::zero()) == Some(x)
 }

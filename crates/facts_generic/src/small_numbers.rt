@@ -1,7 +1,7 @@
 //! Laws about constants at any width of one storage that has room for them.
 #![tactic(auto, using(arbitrary_laws::proofs::written::AnyWidth::any_width))]
 
-ghost use Rattle.std.specs.Prelude.{◌≡◌, ◌≤◌, ◌+ℤ◌, ◌<ℤ◌, false, pos, IsTrue};
+ghost use Rattle.std.specs.Prelude.{◌≡◌, ◌≤◌, ◌<◌, ◌+ℤ◌, ◌<ℤ◌, false, pos, IsTrue};
 ghost use Rattle.arbitrary_int.specs.Range.{hi};
 
 use arbitrary_int::prelude::*;
@@ -30,6 +30,14 @@ pub fn below_the_least<const BITS: usize>() -> bool
     Int::<i32, BITS>::min_value()
         .checked_add(Int::<i32, BITS>::new(-1))
         .is_none()
+}
+
+pub fn product_with_one<const BITS: usize>(x: Int<i32, BITS>) -> bool
+    requires some { 1 < BITS }
+    requires fits { BITS ≤ 32 }
+    ensures { IsTrue result }
+{
+    x.checked_mul(Int::<i32, BITS>::new(1)) == Some(x)
 }
 
 pub fn mask_of_a_nibble<const BITS: usize>(x: UInt<u32, BITS>) -> UInt<u32, BITS>

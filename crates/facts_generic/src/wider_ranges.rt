@@ -25,7 +25,7 @@ pub fn widened_with_no_sign<V: Integer, W: Integer>(x: V) -> W
     W::from_(x)
 }
 
-pub fn wide_sum<V: Integer, W: Integer + SumCalls>(x: V, y: V) -> W
+pub fn wide_sum<V: FixedWidth, W: FixedWidth>(x: V, y: V) -> W
     requires width { W.valid }
     requires sign { V.IS_SIGNED ≡ W.IS_SIGNED }
     requires wider { V.BITS < W.BITS }

@@ -13,10 +13,18 @@ pub fn sum_associates<V: FixedWidth>(x: V, y: V, z: V) -> bool
 }
 
 /// A sum that clamps is at most the greatest number.
-pub fn clamped_at_most<V: Integer + SumCalls>(x: V, y: V) -> bool
+pub fn clamped_at_most<V: FixedWidth>(x: V, y: V) -> bool
     ensures { IsTrue result }
 {
     x.saturating_add(y) <= V::max_value()
+}
+
+/// A number less itself is 0.
+pub fn less_itself<V: FixedWidth>(x: V) -> bool
+    ensures { IsTrue result }
+{
+    let nothing = x.wrapping_sub(x);
+    nothing == V::zero()
 }
 
 /// A left shift of both operands of `|`.
@@ -41,7 +49,7 @@ pub fn is_even<V: UnsignedInteger>(x: V) -> bool
 }
 
 /// 0 is between the ends of the range.
-pub fn zero_between_ends<V: Integer + ValidWidth>() -> bool
+pub fn zero_between_ends<V: FixedWidth + ValidWidth>() -> bool
     ensures { IsTrue result }
 {
     V::min_value() <= V::zero() && V::zero() <= V::max_value()

@@ -134,6 +134,12 @@ pub fn signed_product(a: i6, b: i6) -> i12
     i12::from_(a) * i12::from_(b)
 }
 
+pub fn negated_twice(x: i12) -> i12
+    ensures { result ≡ x }
+{
+    x.wrapping_neg().wrapping_neg()
+}
+
 pub fn negated(x: i12) -> i12
     requires { neg_ℤ (pos 2047) ≤ℤ x }
     ensures { result ≡ neg_ℤ x }

@@ -11,6 +11,18 @@ pub fn distance(from: i12, to: i12) -> u12
     to.wrapping_sub(from).to_unsigned()
 }
 
+pub fn turn(from: u14, to: u14) -> i14
+    ensures { Congruent 14 result (to -ℤ from) }
+{
+    i14::from_unsigned(to.wrapping_sub(from))
+}
+
+pub fn turn_by_conversion(from: u14, to: u14) -> i14
+    ensures { Congruent 14 result (to -ℤ from) }
+{
+    to.wrapping_sub(from).as_::<i14>()
+}
+
 pub fn low_bits_of_sum(a: i24, b: i24) -> i12
     ensures { Congruent 12 result (a +ℤ b) }
 {

@@ -10,6 +10,12 @@ pub fn louder(volume: u7, step: u7) -> u7
     volume.saturating_add(step)
 }
 
+pub fn softer(volume: u7, step: u7) -> u7
+    ensures { result ≤ℤ volume }
+{
+    volume.saturating_sub(step)
+}
+
 pub fn slider(volume: u7, change: i8) -> u7
     ensures up { pos 0 ≤ℤ change → volume ≤ℤ result }
     ensures down { change ≤ℤ pos 0 → result ≤ℤ volume }
@@ -43,6 +49,14 @@ pub fn signed_distance(from: u12, to: u12) -> i12
     i12::from_unsigned(to.wrapping_sub(from))
 }
 
+pub fn signed_distance_behind(from: u12, to: u12) -> i12
+    requires near { (from -ℤ to) ≤ℤ pos 2048 }
+    requires behind { to ≤ℤ from }
+    ensures { result ≡ to -ℤ from }
+{
+    to.wrapping_sub(from).as_::<i12>()
+}
+
 pub fn counted(counter: u48) -> Option<u48>
     ensures some { IfSome result (λ next. next ≡ counter +ℤ pos 1) }
 {
@@ -59,6 +73,12 @@ pub fn averaged(a: i24, b: i24) -> i24
     ensures { (pos 2 *ℤ result) ≤ℤ (a +ℤ b) }
 {
     ((i25::from_(a) + i25::from_(b)) >> 1).as_::<i24>()
+}
+
+pub fn scaled(a: i24, gain: i12) -> i36
+    ensures { result ≡ a *ℤ gain }
+{
+    a.as_::<i36>() * gain.as_::<i36>()
 }
 
 pub fn percent(part: u24) -> u24

@@ -22,3 +22,9 @@ pub fn complement_is_negation_less_one(x: i12) -> bool
 {
     x == i12::min_value() || !x == x.wrapping_neg() - i12::new(1)
 }
+
+pub fn negated_twice(x: u24) -> u24
+    ensures { result ≡ x }
+{
+    x.wrapping_neg().wrapping_neg()
+}

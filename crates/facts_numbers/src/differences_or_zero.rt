@@ -16,6 +16,12 @@ pub fn lesser_by_difference(x: u12, y: u12) -> bool
     x - x.saturating_sub(y) == x.min(y)
 }
 
+pub fn by_the_greater(x: u24, y: u24) -> bool
+    ensures { IsTrue result }
+{
+    x.saturating_sub(y) == x.max(y) - y
+}
+
 pub fn one_of_two_is_none(x: u24, y: u24) -> bool
     ensures { IsTrue result }
 {

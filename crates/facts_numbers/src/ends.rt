@@ -99,6 +99,12 @@ pub fn other_quotients_by_itself(x: u48) -> bool
             && x.overflowing_div(x) == (u48::new(1), false))
 }
 
+pub fn first_power_with_its_count(x: i12) -> bool
+    ensures { IsTrue result }
+{
+    x.saturating_pow_counted(1).0 == x
+}
+
 pub fn shifted_by_none<const BITS: usize>(x: Int<i32, BITS>) -> bool
     ensures { IsTrue result }
 {

@@ -36,6 +36,12 @@ pub fn checked_is_overflowing(a: u24, b: u24) -> bool
     a.checked_add(b).is_none() == a.overflowing_add(b).1
 }
 
+pub fn checked_mul_is_overflowing(a: u5, b: u5) -> bool
+    ensures { IsTrue result }
+{
+    a.checked_mul(b).is_none() == a.overflowing_mul(b).1
+}
+
 pub fn checked_shl_is_overflowing(a: u24, n: u32) -> bool
     ensures { IsTrue result }
 {
@@ -86,6 +92,12 @@ pub fn overflow_is_a_carry(a: u120, b: u120) -> bool
     a.overflowing_add(b).1 == (a.wrapping_add(b) < a)
 }
 
+pub fn borrow_is_an_order(a: u120, b: u120) -> bool
+    ensures { IsTrue result }
+{
+    a.overflowing_sub(b).1 == (a < b)
+}
+
 pub fn difference_wraps_above(a: u24, b: u24) -> bool
     ensures { IsTrue result }
 {
@@ -104,6 +116,13 @@ pub fn checked_quotient(a: u24, b: u24) -> bool
     ensures { IsTrue result }
 {
     a.checked_div(b) == Some(a / b)
+}
+
+pub fn overflowing_quotient(a: u24, b: u24) -> bool
+    requires { b ≢ pos 0 }
+    ensures { IsTrue result }
+{
+    !a.overflowing_div(b).1
 }
 
 pub fn signed_quotient_overflows(a: i12) -> bool
@@ -142,6 +161,12 @@ pub fn checked_or_greatest_saturates(a: u12, b: u12) -> bool
     ensures { IsTrue result }
 {
     a.checked_add(b).unwrap_or(u12::max_value()) == a.saturating_add(b)
+}
+
+pub fn checked_tells_that_the_sum_fits(a: u12, b: u12) -> bool
+    ensures { IsTrue result }
+{
+    a.checked_add(b).is_some() == (a.as_u32() + b.as_u32() < 4096)
 }
 
 pub fn saturated_up_and_down_is_no_more(a: u12, b: u12) -> bool

@@ -1,6 +1,6 @@
 //! Facts about numbers that are stored, halved, scaled and squared, and about what is refused.
 
-ghost use Rattle.std.specs.Prelude.{◌≡◌, ◌↔◌, ◌≤◌, ◌-ℤ◌, ◌≤ℤ◌, ◌<ℤ◌, pos, IsTrue};
+ghost use Rattle.std.specs.Prelude.{◌≡◌, ◌↔◌, ◌≤◌, ◌+ℤ◌, ◌-ℤ◌, ◌≤ℤ◌, ◌<ℤ◌, pos, IsTrue, IsNone};
 
 use arbitrary_int::prelude::*;
 
@@ -55,6 +55,19 @@ pub fn gain(sample: i12) -> i12
     ensures { pos 0 ≤ℤ sample → sample ≤ℤ result }
 {
     sample.saturating_mul(i12::new(2))
+}
+
+pub fn wide_sum(a: u120, b: u120) -> u120
+    requires { (a +ℤ b) <ℤ pos 1000 }
+    ensures { result ≡ a +ℤ b }
+{
+    a.wrapping_add(b)
+}
+
+pub fn wide_signed_difference(a: i120, b: i120) -> Option<i120>
+    ensures { a ≡ b → ¬ (IsNone result) }
+{
+    a.checked_sub(b)
 }
 
 pub fn by_ranges(x: u4) -> u8

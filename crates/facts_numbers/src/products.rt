@@ -17,12 +17,20 @@ pub fn rounded(a: i12, b: i12) -> i25 {
     (i25::from_(a) * i25::from_(b) + i25::new(1024)) >> 11
 }
 
+pub fn divided(a: i12, b: i12) -> i24 {
+    i24::from_(a) * i24::from_(b) / i24::new(16)
+}
+
 pub fn scaled_by_a_byte(sample: i12, scale: u8) -> i12 {
     i12::from_(i20::from_(sample) * i20::from_(scale) / i20::new(256))
 }
 
 pub fn offset(gain: u4, sample: i12) -> i17 {
     i17::from_(sample) * i17::from_(gain) - i17::new(5)
+}
+
+pub fn added_and_shifted(a: i12, b: i12, c: i12) -> i25 {
+    (i25::from_(a) * i25::from_(b) + i25::from_(c)) >> 3
 }
 
 pub fn clamped(a: i12, b: i12) -> i12 {
@@ -48,6 +56,10 @@ pub fn squares(a: i12, b: i12) -> i25
     let x = i25::from_(a);
     let y = i25::from_(b);
     x * x + y * y
+}
+
+pub fn one_more(a: i12, b: i12) -> Option<i24> {
+    (i24::from_(a) * i24::from_(b)).checked_add(i24::new(1))
 }
 
 pub fn of_an_unsigned_number(a: u12, b: i12) -> i24 {

@@ -10,6 +10,12 @@ pub fn greatest_is_at_least_each(a: i12, b: i12, c: i12) -> bool
     a.max(b).max(c) >= b
 }
 
+pub fn least_is_at_most_greatest(a: i60, b: i60, c: i60) -> bool
+    ensures { IsTrue result }
+{
+    a.min(b).min(c) <= a.max(b).max(c)
+}
+
 pub fn spread(a: i12, b: i12, c: i12) -> i13
     ensures { pos 0 ≤ℤ result }
 {
@@ -61,4 +67,10 @@ pub fn held_at_any_width<const BITS: usize>(x: Int<i32, BITS>, y: Int<i32, BITS>
     ensures { IsTrue result }
 {
     x.min(y) <= x.max(y)
+}
+
+pub fn greater_of_itself(x: i7) -> i7
+    ensures { result ≡ x }
+{
+    x.max(x).min(x)
 }

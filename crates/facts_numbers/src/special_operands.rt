@@ -10,6 +10,12 @@ pub fn add_zero(a: u24) -> u24
     a + u24::new(0)
 }
 
+pub fn sub_zero(a: i127) -> i127
+    ensures { result ≡ a }
+{
+    a - i127::zero()
+}
+
 pub fn sub_self(a: i127) -> i127
     ensures { result ≡ pos 0 }
 {
@@ -33,6 +39,12 @@ pub fn zero_div(b: u24) -> u24
     ensures { result ≡ pos 0 }
 {
     u24::new(0) / b
+}
+
+pub fn checked_div_one(a: i48) -> bool
+    ensures { IsTrue result }
+{
+    a.checked_div(i48::new(1)) == Some(a)
 }
 
 pub fn checked_mul_one(a: u24) -> bool
@@ -95,6 +107,12 @@ pub fn max_is_all_ones() -> bool
     !u24::new(0) == u24::max_value()
 }
 
+pub fn min_is_complement_of_max() -> bool
+    ensures { IsTrue result }
+{
+    !i24::max_value() == i24::min_value()
+}
+
 pub fn every_number_is_at_most_max(a: i127) -> bool
     ensures { IsTrue result }
 {
@@ -136,4 +154,10 @@ pub fn minus_one_quotient(a: i48) -> i48
     ensures { result ≡ neg_ℤ a }
 {
     a / i48::new(-1)
+}
+
+pub fn try_new_value(a: i48) -> bool
+    ensures { IsTrue result }
+{
+    i48::try_new(a.value()) == Ok(a)
 }

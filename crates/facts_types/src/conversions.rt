@@ -80,6 +80,12 @@ pub fn millivolts_as(x: i12) -> i32
     x.as_i32() * 2500 / 2048
 }
 
+pub fn millivolts_value(x: i12) -> i32
+    ensures { result ≡ int_div (x *ℤ pos 2500) (pos 2048) }
+{
+    i32::from(x.value()) * 2500 / 2048
+}
+
 pub fn left_justified(x: i16) -> i12
     ensures { (pos 16 *ℤ result) ≤ℤ x }
 {
@@ -192,6 +198,12 @@ pub fn clamped_then_new(x: u16) -> u12
     ensures { result ≤ℤ pos x }
 {
     u12::new(x.min(4095))
+}
+
+pub fn clamped_on_both_sides(x: i32) -> i12
+    ensures { neg_ℤ (pos 2048) ≤ℤ x → x ≤ℤ pos 2047 → result ≡ x }
+{
+    i12::new(x.max(-2048).min(2047) as i16)
 }
 
 pub fn clamped_by_clamp(x: i16) -> i12

@@ -53,6 +53,12 @@ pub fn none_above(low: u7, high: u7) -> bool
     range_inclusive(low, high).all(|x| x <= high)
 }
 
+pub fn greatest(low: u7, high: u7) -> Option<u7>
+    ensures { IfSome result (λ x. x ≤ℤ high) }
+{
+    range_inclusive(low, high).max()
+}
+
 pub fn with_three_ones(low: u7, high: u7) -> Option<u7>
     ensures { IfSome result (λ x. x ≤ℤ high) }
 {

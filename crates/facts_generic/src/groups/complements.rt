@@ -11,3 +11,9 @@ pub fn complement_of_a_difference<V: FixedWidth>(x: V, y: V) -> bool
 {
     !x.wrapping_sub(y) == (!x).wrapping_add(y)
 }
+
+pub fn complement_of_a_sum<V: FixedWidth>(x: V, y: V) -> bool
+    ensures { IsTrue result }
+{
+    !x.wrapping_add(y) == (!x).wrapping_sub(y)
+}

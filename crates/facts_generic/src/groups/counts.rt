@@ -12,6 +12,13 @@ pub fn ones_of_both<V: FixedWidth>(x: V, y: V) -> bool
     (x | y).count_ones() + (x & y).count_ones() == x.count_ones() + y.count_ones()
 }
 
+pub fn ones_of_disjoint<V: FixedWidth>(x: V, y: V) -> bool
+    requires { V.valid }
+    ensures { IsTrue result }
+{
+    x & y != V::zero() || (x | y).count_ones() == x.count_ones() + y.count_ones()
+}
+
 pub fn ones_of_shared_bits<V: FixedWidth>(x: V, y: V) -> bool
     ensures { IsTrue result }
 {

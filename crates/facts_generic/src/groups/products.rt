@@ -12,6 +12,12 @@ pub fn product_of_a_difference<V: FixedWidth>(x: V, y: V, z: V) -> bool
     x.wrapping_mul(y.wrapping_sub(z)) == x.wrapping_mul(y).wrapping_sub(x.wrapping_mul(z))
 }
 
+pub fn left_shift_of_a_difference<V: FixedWidth>(x: V, y: V) -> bool
+    ensures { IsTrue result }
+{
+    x.wrapping_sub(y).wrapping_shl(3) == x.wrapping_shl(3).wrapping_sub(y.wrapping_shl(3))
+}
+
 pub fn left_shift_of_a_product<V: FixedWidth>(x: V, y: V) -> bool
     ensures { IsTrue result }
 {

@@ -6,6 +6,13 @@ ghost use Rattle.std.specs.Prelude.{IsTrue};
 
 use arbitrary_int::prelude::*;
 
+pub fn left_summand_taken_away<V: FixedWidth>(x: V, y: V) -> bool
+    requires { V.valid }
+    ensures { IsTrue result }
+{
+    x.wrapping_add(y).wrapping_sub(x) == y
+}
+
 pub fn differences_swap<V: FixedWidth>(x: V, y: V, z: V) -> bool
     requires { V.valid }
     ensures { IsTrue result }
