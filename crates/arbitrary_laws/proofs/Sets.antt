@@ -105,6 +105,7 @@ use Rattle.arbitrary_laws.proofs.sums.SerialNumbers.{none-apart, step-back, turn
 use Rattle.arbitrary_laws.proofs.sums.WrappedWords.{word_difference-right, word_sum-after, word_sum-before, word_sum-left, wrap-masked, wrap-remainder, wrap-word_difference}
 use Rattle.arbitrary_laws.proofs.words.ApartParts.{apart_joined, apart_parts, below_moved, below_within, into_within, joined_apart, masked_within, moved_above, moved_within, or_apart, within_above, within_apart, within_around}
 use Rattle.arbitrary_laws.proofs.words.LowestZeros.{lowest_by_zeros}
+use Rattle.arbitrary_laws.proofs.words.MergedParts.{merges}
 use Rattle.arbitrary_laws.proofs.words.Multiples.{multiples}
 use Rattle.arbitrary_laws.proofs.words.OverflowFlags.{one_bits}
 use Rattle.arbitrary_laws.proofs.words.WrittenMasks.{and_none, and_runs, differing, written_masks}
@@ -143,7 +144,7 @@ pub ruleset numbers = (wrap-of_in_range, wrap-congruent, wrap-wrap, clamp-fits, 
 
 -- register words: any expression of `&`, `|`, `^`, `!`, shifts and conversions over written masks is a sum of fields. The laws compute on the
 -- masks, so none of them says how many fields there are, or how wide they are
-pub ruleset words = (written_masks, apart_parts, multiples, lowest_by_zeros)
+pub ruleset words = (written_masks, apart_parts, multiples, merges, lowest_by_zeros)
 
 -- the same for a `UInt` whose lowest field is written and whose rest stays, and for pages of a `UInt` that are compared: fewer laws of parts, and
 -- the range of a number. With all laws of `words` these take the search to its limits

@@ -4,4 +4,5 @@ pub mod LowestZeros
 pub mod WrittenMasks
 pub mod ApartParts
 pub mod Multiples
+pub mod MergedParts
 pub mod OverflowFlags

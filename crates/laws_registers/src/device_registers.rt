@@ -147,3 +147,13 @@ pub fn round_up(size: u32) -> u32
 {
     (size + 7) & !7
 }
+
+/// Writes a channel number, merged without a second mask.
+pub fn merged_channel(control: u32, channel: u32) -> u32
+    requires channel_fits { channel < 16 }
+    ensures low { result % 256 ≡ control % 256 }
+    ensures channel { result / 256 % 16 ≡ channel }
+    ensures high { result / 4096 ≡ control / 4096 }
+{
+    control ^ ((control ^ (channel << 8)) & 0x0F00)
+}

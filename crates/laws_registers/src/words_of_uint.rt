@@ -119,3 +119,13 @@ pub fn same_page(a: u12, b: u12) -> bool
 {
     (a ^ b) & u12::new(0xFC0) == u12::new(0)
 }
+
+/// The middle field of another word, merged without a second mask.
+pub fn merged(word: u24, field: u24) -> u24
+    ensures low { int_rem result (pos 16) ≡ int_rem word (pos 16) }
+    ensures middle { int_rem (int_div result (pos 16)) (pos 256)
+        ≡ int_rem (int_div field (pos 16)) (pos 256) }
+    ensures high { int_div result (pos 4096) ≡ int_div word (pos 4096) }
+{
+    word ^ ((field ^ word) & u24::new(0xFF0))
+}
