@@ -2,7 +2,7 @@
 //! `bitrun_text` reads the words, `running` runs the steps at one type, and `serving` reads and writes the bytes.
 
 ghost use Rattle.std.specs.Prelude.{◌≡◌, ◌≤◌, length, map, filter, IfOk, IfErr, All};
-ghost use Rattle.bitrun_text.specs.Kind.{type_row, type_of, types_of};
+ghost use Rattle.bitrun_text.specs.Kind.{type_row, type_of};
 ghost use Rattle.arbitrary_int.specs.Steps.{StepWithin};
 ghost use Rattle.std.specs.List.{AllZip};
 ghost use Rattle.bitrun_text.specs.Text.{Left, has_items};
@@ -52,54 +52,18 @@ fn output_with<'a, A: Allocator>(
         (type_row (type_of kind)).2 lines.old.words lines.old.later) }
 {
     match kind {
-        Kind::Run(register) => output_of(alloc, register, lines),
-        Kind::Wide(pair) => wide_output_of(alloc, pair, lines),
-    }
-}
-
-/// The output of the lines from the second on, with registers of this type.
-fn output_of<'a, A: Allocator>(
-    alloc: &'a A,
-    register: RegisterType,
-    lines: &mut Cursor,
-) -> Result<Vec<u8, &'a A>, Fault>
-    requires { length lines.old.later ≤ 65536 }
-    ensures found { IfOk result
-        (λ text. IsOutputAt (type_row register).1 (type_row register).2 output_text
-        lines.old.words lines.old.later text.items) }
-    ensures fault { IfErr result
-        (LinesFault (type_row register).1 (type_row register).2 lines.old.words lines.old.later) }
-{
-    match register {
-        RegisterType::U1 => output_at::<u1, A>(alloc, lines),
-        RegisterType::I1 => output_at::<i1, A>(alloc, lines),
-        RegisterType::U7 => output_at::<u7, A>(alloc, lines),
-        RegisterType::I7 => output_at::<i7, A>(alloc, lines),
-        RegisterType::U14 => output_at::<u14, A>(alloc, lines),
-        RegisterType::I14 => output_at::<i14, A>(alloc, lines),
-        RegisterType::U120 => output_at::<u120, A>(alloc, lines),
-        RegisterType::I120 => output_at::<i120, A>(alloc, lines),
-    }
-}
-
-/// The output of the lines from the second on, with registers of these two types.
-fn wide_output_of<'a, A: Allocator>(
-    alloc: &'a A,
-    pair: WidePair,
-    lines: &mut Cursor,
-) -> Result<Vec<u8, &'a A>, Fault>
-    requires { length lines.old.later ≤ 65536 }
-    ensures found { let types = types_of pair in let narrow = type_row types.1 in IfOk result
-        (λ text. IsOutputAt (type_row types.0).1 (type_row types.0).2
-        (wide_output_text narrow.1 narrow.2) lines.old.words lines.old.later text.items) }
-    ensures fault { let wide = type_row (types_of pair).0 in
-        IfErr result (LinesFault wide.1 wide.2 lines.old.words lines.old.later) }
-{
-    match pair {
-        WidePair::U14U7 => wide_output_at::<u14, u7, A>(alloc, lines),
-        WidePair::U14I7 => wide_output_at::<u14, i7, A>(alloc, lines),
-        WidePair::I14U7 => wide_output_at::<i14, u7, A>(alloc, lines),
-        WidePair::I120U14 => wide_output_at::<i120, u14, A>(alloc, lines),
+        Kind::Run(RegisterType::U1) => output_at::<u1, A>(alloc, lines),
+        Kind::Run(RegisterType::I1) => output_at::<i1, A>(alloc, lines),
+        Kind::Run(RegisterType::U7) => output_at::<u7, A>(alloc, lines),
+        Kind::Run(RegisterType::I7) => output_at::<i7, A>(alloc, lines),
+        Kind::Run(RegisterType::U14) => output_at::<u14, A>(alloc, lines),
+        Kind::Run(RegisterType::I14) => output_at::<i14, A>(alloc, lines),
+        Kind::Run(RegisterType::U120) => output_at::<u120, A>(alloc, lines),
+        Kind::Run(RegisterType::I120) => output_at::<i120, A>(alloc, lines),
+        Kind::Wide(WidePair::U14U7) => wide_output_at::<u14, u7, A>(alloc, lines),
+        Kind::Wide(WidePair::U14I7) => wide_output_at::<u14, i7, A>(alloc, lines),
+        Kind::Wide(WidePair::I14U7) => wide_output_at::<i14, u7, A>(alloc, lines),
+        Kind::Wide(WidePair::I120U14) => wide_output_at::<i120, u14, A>(alloc, lines),
     }
 }
 

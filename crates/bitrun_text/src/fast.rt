@@ -1,6 +1,5 @@
-//! Fast lines: steps that begin with the name and end with an LF. A line with one space between its words needs no
-//! call, so all of it stays in processor registers. If a function returns `None`, the caller reads the words of the
-//! line.
+//! Fast lines: steps that begin with the name and end with an LF. A line with single spaces needs no call, so all of
+//! it stays in processor registers. If a function returns `None`, the caller reads the line word by word.
 
 ghost use Rattle.std.specs.Prelude.{◌≡◌, ◌≤◌, ◌<◌, ◌+◌, ◌-◌, ◌*◌, ◌^◌, [], true, length, take, drop, get_or, Some, IfSome};
 ghost use Rattle.arbitrary_int.specs.Steps.{StepWithin};
@@ -159,8 +158,7 @@ fn by(op: ByOp, text: &[u8], at: usize, count: usize) -> Option<(Step, usize)>
     ))
 }
 
-/// The number of a register after the blank at the place, and the place of the blank after the
-/// number.
+/// The number of a register after the blank at the place, and the place of the next blank.
 #[inline(always)]
 fn next_register(text: &[u8], at: usize, count: usize) -> Option<(usize, usize)>
     requires blank { is_blank (get_or text.now at 0) ≡ true }
@@ -181,8 +179,7 @@ fn next_register(text: &[u8], at: usize, count: usize) -> Option<(usize, usize)>
     }
 }
 
-/// The number of a register after the blank at the place, and the place after the line, on which
-/// nothing else follows.
+/// The register that ends the line, after the blank at the place, and the place after the line.
 #[inline(always)]
 fn last_register(text: &[u8], at: usize, count: usize) -> Option<(usize, usize)>
     requires blank { is_blank (get_or text.now at 0) ≡ true }
@@ -199,8 +196,7 @@ fn last_register(text: &[u8], at: usize, count: usize) -> Option<(usize, usize)>
     Some((number as usize, end))
 }
 
-/// The amount after the blank at the place, and the place after the line, on which nothing else
-/// follows.
+/// The amount that ends the line, after the blank at the place, and the place after the line.
 #[inline(always)]
 fn last_amount(text: &[u8], at: usize) -> Option<(u32, usize)>
     requires blank { is_blank (get_or text.now at 0) ≡ true }
@@ -216,8 +212,7 @@ fn last_amount(text: &[u8], at: usize) -> Option<(u32, usize)>
     Some((number as u32, end))
 }
 
-/// The number after the blank at the place, which is below the limit, and the place after its
-/// digits.
+/// The number below the limit, after the blank at the place, and the place after its digits.
 #[inline(always)]
 fn number(text: &[u8], at: usize, limit: u64) -> Option<(u64, usize)>
     requires blank { is_blank (get_or text.now at 0) ≡ true }

@@ -68,8 +68,7 @@ pub fn step_named(word: &[u8], operands: &mut Cursor, count: usize) -> Option<St
     step_with(operation, operands, count)
 }
 
-/// The step of an operation on `count` registers, with the operands that the words of the line
-/// name.
+/// The step of an operation on `count` registers, with the operands that the line names.
 #[tactic(auto, using(crate::proofs::StepWords::taken))]
 fn step_with(operation: Operation, operands: &mut Cursor, count: usize) -> Option<Step>
     ensures step { result ≡ step_with count operation operands.old.words }

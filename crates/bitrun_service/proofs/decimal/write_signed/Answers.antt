@@ -1,5 +1,4 @@
--- For `write_signed` in src/decimal.rt: before the digits there is room for the minus sign. Decimals.antt has the
--- lengths.
+-- For `write_signed` in src/decimal.rt: there is room for the minus sign. Decimals.antt has the lengths.
 use Rattle.std.proofs.Common.{◌≡◌, ◌+◌, ◌-◌, ◌∙◌, ap, arith, to_z-of_z, unsigned_abs}
 use Rattle.std.proofs.lemmas.List.{drop-set}
 use Rattle.bitrun_service.proofs.Decimals.{length-decimal, minus_first}

@@ -1,5 +1,4 @@
--- The invariant of the loop over the blanks: the blanks before the place do not change the step. Each iteration
--- comes nearer to the end of the text.
+-- The invariant of the loop over the blanks: those before the place do not change the step. The text left shrinks.
 use Rattle.std.proofs.Common.{◌≡◌, ◌≤◌, ◌<◌, ◌-◌, length, drop}
 use Rattle.bitrun_text.specs.Text.{left_of}
 use Rattle.bitrun_text.specs.Fast.{Ends}

@@ -1,5 +1,4 @@
--- The invariant of the loop over the digits: those before the place write the number. Each iteration comes nearer
--- to the end of the text.
+-- The invariant of the loop over the digits: those before the place write the number. The text left shrinks.
 use Rattle.std.proofs.Common.{◌≤◌, ◌<◌, ◌+◌, ◌-◌, ◌*◌, ◌^◌, length, drop}
 use Rattle.bitrun_text.specs.Fast.{Reads}
 use Rattle.bitrun_text.proofs.numeral.digits.Given as goal

@@ -1,6 +1,5 @@
--- For `value_of` in src/numeral.rt: masking does not change the number exactly if it is in range. Each outcome of
--- the test has one goal. Both lemmas are in proofs/Values.antt, and need the bound of 120 bits that src/numeral.rt
--- requires.
+-- For `value_of` in src/numeral.rt: masking does not change the number exactly if it is in range, a goal for each
+-- outcome of the test. The lemmas of proofs/Values.antt need the bound of 120 bits.
 use Rattle.std.proofs.Common.{◌≡◌, sym, ap, ◌∙◌, rules, to_z, of_z, to_z-of_z}
 use Rattle.std.specs.Int.{w128}
 use Rattle.arbitrary_int.specs.Residue.{wrap}

@@ -1,5 +1,4 @@
--- The invariant of the loop over the empty lines: those before the place have no step, and each is one byte. Each
--- iteration comes nearer to the end of the text.
+-- The invariant of the loop over the empty lines: those passed have no step and one byte each. The text left shrinks.
 use Rattle.std.proofs.Common.{◌≡◌, ◌≤◌, ◌+◌, ◌-◌, ℕ, List, length, drop}
 use Rattle.arbitrary_int.specs.declared.steps.Step.{Step}
 use Rattle.bitrun_text.specs.Text.{word_lines}

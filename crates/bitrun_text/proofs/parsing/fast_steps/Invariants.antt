@@ -1,5 +1,4 @@
--- The invariant of the loop over the lines: those before the place are read, whatever lines came before them, and
--- each counts once. Each iteration comes nearer to the end of the text.
+-- The invariant of the loop over the lines: those passed are read, and each counts once. The text left shrinks.
 use Rattle.std.proofs.Common.{◌≡◌, ◌≤◌, ◌+◌, ◌-◌, List, ℕ, length, drop}
 use Rattle.bitrun_text.specs.Text.{word_lines}
 use Rattle.bitrun_text.specs.Form.{ReadSoFar}
