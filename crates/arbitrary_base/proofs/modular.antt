@@ -3,7 +3,6 @@ pub mod Congruence
 pub mod Residue
 pub mod Truncation
 pub mod RoundTrip
-pub mod LowBitSums
 pub mod LowBitOperation
 pub mod ExactOrCongruent
 pub mod Inverse

@@ -9,7 +9,6 @@ ghost use Rattle.arbitrary_base.specs.Residue.{Congruent, wrap};
 ghost use Rattle.arbitrary_base.specs.Saturating.{clamp};
 ghost use Rattle.arbitrary_base.specs.Operation.{wrapped_product};
 
-use crate::low_bits::LowBits;
 use crate::stored::Stored;
 use arbitrary_base::{checked, overflowing, power, saturating, wrapping};
 
@@ -21,7 +20,7 @@ use arbitrary_base::{checked, overflowing, power, saturating, wrapping};
 /// is out of range is the least signed number divided by -1. Each contract begins with the exact clause.
 /// The range of what a call takes and `width` come last and say nothing of the result: the search for a proof
 /// uses them.
-pub trait ProductCalls: Stored + LowBits {
+pub trait ProductCalls: Stored {
     // A law, because the search does not swap the operands by itself.
     ghost product_commutes: { (a b : Self) → let number = Self.number in
         number a *ℤ number b ≡ number b *ℤ number a } = { λ a b. *ℤ_comm (Self.number a) (Self.number b) };
@@ -40,7 +39,7 @@ pub trait ProductCalls: Stored + LowBits {
         ensures rhs_in_range { InRange Self.IS_SIGNED Self.BITS (Self.number rhs) }
         ensures width { Self.valid }
     {
-        Self::from_u128_bits(self.low_bits().wrapping_mul(rhs.low_bits()))
+        Self::from_storage(wrapping::mul(self.to_storage(), rhs.to_storage(), Self::BITS))
     }
 
     /// The product, or the end of the range that is nearest to it.
@@ -246,4 +245,4 @@ pub trait ProductCalls: Stored + LowBits {
     }
 }
 
-impl<N: Stored + LowBits> ProductCalls for N {}
+impl<N: Stored> ProductCalls for N {}

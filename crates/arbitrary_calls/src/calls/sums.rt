@@ -7,9 +7,8 @@ ghost use Rattle.arbitrary_base.specs.Residue.{Congruent, wrap};
 ghost use Rattle.arbitrary_base.specs.Saturating.{clamp};
 ghost use Rattle.arbitrary_base.specs.Operation.{wrapped_difference, wrapped_sum};
 
-use crate::low_bits::LowBits;
 use crate::stored::Stored;
-use arbitrary_base::{checked, overflowing, saturating};
+use arbitrary_base::{checked, overflowing, saturating, wrapping};
 
 /// Sums and differences. Out of range they wrap, saturate, are refused, or set a flag.
 ///
@@ -17,13 +16,12 @@ use arbitrary_base::{checked, overflowing, saturating};
 /// without bounds. `wrap` of it is the type's number that is congruent to it modulo `2 ^ BITS`, and
 /// `clamp` of it the type's number that is nearest. Each contract begins with the exact clause. The range of
 /// what a call takes and `width` come last and say nothing of the result: the search for a proof uses them.
-pub trait SumCalls: Stored + LowBits {
+pub trait SumCalls: Stored {
     // A law, because the search does not swap the operands by itself.
     ghost sum_commutes: { (a b : Self) → let number = Self.number in
         number a +ℤ number b ≡ number b +ℤ number a } = { λ a b. +ℤ_comm (Self.number a) (Self.number b) };
 
     /// The sum, wrapped.
-    // On the low bits, which an `Int` stores, so neither number is made first. `+` adds the numbers, of which its condition speaks.
     final fn wrapping_add(self, rhs: Self) -> Self
         ensures operation { let number = Self.number in
             number result ≡ wrapped_sum Self.IS_SIGNED Self.BITS (number self) (number rhs) }
@@ -39,7 +37,7 @@ pub trait SumCalls: Stored + LowBits {
         ensures rhs_in_range { InRange Self.IS_SIGNED Self.BITS (Self.number rhs) }
         ensures width { Self.valid }
     {
-        Self::from_u128_bits(self.low_bits().wrapping_add(rhs.low_bits()))
+        Self::from_storage(wrapping::add(self.to_storage(), rhs.to_storage(), Self::BITS))
     }
 
     /// The sum, or the end of the range that is nearest to it.
@@ -119,7 +117,7 @@ pub trait SumCalls: Stored + LowBits {
         ensures rhs_in_range { InRange Self.IS_SIGNED Self.BITS (Self.number rhs) }
         ensures width { Self.valid }
     {
-        Self::from_u128_bits(self.low_bits().wrapping_sub(rhs.low_bits()))
+        Self::from_storage(wrapping::sub(self.to_storage(), rhs.to_storage(), Self::BITS))
     }
 
     /// The difference, or the end of the range that is nearest to it.
@@ -189,4 +187,4 @@ pub trait SumCalls: Stored + LowBits {
     }
 }
 
-impl<N: Stored + LowBits> SumCalls for N {}
+impl<N: Stored> SumCalls for N {}
