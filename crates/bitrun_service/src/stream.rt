@@ -7,6 +7,7 @@ ghost use Rattle.arbitrary_int.specs.Watched.{inner_of, has_failed};
 ghost use Rattle.arbitrary_int.specs.Streams.{AppendsBeginning};
 ghost use Rattle.bitrun_service.specs.Stream.{ReadFault};
 
+use arbitrary_base::streams::write_full;
 use arbitrary_int::Watched;
 use bitrun_text::fault::Fault;
 use std::alloc::Allocator;
@@ -57,13 +58,8 @@ pub fn write_all<W: Write>(writer: &mut Watched<W>, bytes: &[u8]) -> Result<(), 
     ensures failed { OnErr result (IsTrue (has_failed writer.new)) }
     ensures only { IfErr result (λ fault. fault ≡ Fault.Write) }
 {
-    let mut at = 0;
-    while at < bytes.len() {
-        match writer.write(&bytes[at..]) {
-            Ok(0) => return Err(Fault::Write),
-            Ok(count) => at += count,
-            Err(_) => return Err(Fault::Write),
-        }
+    match write_full(writer, bytes) {
+        Ok(()) => Ok(()),
+        Err(_) => Err(Fault::Write),
     }
-    Ok(())
 }
