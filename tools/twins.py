@@ -29,7 +29,7 @@ PAIRS = [f'arbitrary_core/src/{module}' for module in [
 WIDTHS = [8, 16, 32, 64, 128]
 FAMILIES = ['arbitrary_base/src/storage/bits{}.rt', 'arbitrary_traits/src/primitives/bits{}.rt']
 
-# the code of a test cannot be in another crate
+# the comparison that each crate of tests has of its own
 EQUAL = '*/src/same.rt'
 
 
