@@ -1,6 +1,5 @@
-//! The bits of the values of `UInt` and `Int`, with zeros above them. The calls on bits use these, and so do
-//! sums and products that wrap. The others use the number in its storage (`stored`). A further representation
-//! needs an impl of both.
+//! The bits of the values of `UInt` and `Int`, with zeros above them. Rotations, reversals and counts use these. The
+//! other calls use the number in its storage (`stored`). A further representation needs an impl of both.
 
 ghost use Rattle.std.specs.Prelude.{◌≡◌, ◌≤◌, ◌<◌, ◌^◌};
 ghost use Rattle.arbitrary_base.specs.Range.{InRange};
