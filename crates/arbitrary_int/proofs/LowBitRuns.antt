@@ -82,9 +82,9 @@ pub record LowRun (s : Bool) (A : ℕ) (wide narrow : List ℤ × Result ⊤ Sto
   pub wide_ends : wide.1 ≡ Ok tt
   pub narrow_is : narrow ≡ (map (wrap s A) wide.0, Ok tt)
 
-later-low : (s : Bool) (A k : ℕ) (wide narrow : List ℤ × Result ⊤ Stop) → LowRun s A wide narrow → LowRun s A (later k wide) (later k narrow)
-later-low s A k (regs, Ok u) narrow r = record { wide_ends = r.wide_ends; narrow_is = ap (later k) r.narrow_is }
-later-low s A k (regs, Err stop) narrow r = let e = r.wide_ends in absurd (cc)
+later-low : (s : Bool) (A : ℕ) (wide narrow : List ℤ × Result ⊤ Stop) → LowRun s A wide narrow → LowRun s A (later wide) (later narrow)
+later-low s A (regs, Ok u) narrow r = record { wide_ends = r.wide_ends; narrow_is = ap later r.narrow_is }
+later-low s A (regs, Err stop) narrow r = let e = r.wide_ends in absurd (cc)
 
 pub low-run : (s t : Bool) (A B : ℕ) (steps : List Step) (regs : List ℤ) → 1 ≤ A → A ≤ B → All (IsLowBit A) steps
     → LowRun s A (RunOf t B steps regs) (RunOf s A steps (map (wrap s A) regs))
@@ -98,7 +98,7 @@ low-run s t A B (step ∷ steps) regs h g l =
     ap (result_map_both (set (map (wrap s A) regs) to) (λ why. why)) a.narrow_is ∙ ap Ok (sym (map-set (wrap s A) regs to a.number)) in
     let rest = low-run s t A B steps new h g (All-tail (IsLowBit A) step steps l) in
     rw (RunOf-ok t B step steps regs new wide, RunOf-ok s A step steps (map (wrap s A) regs) (map (wrap s A) new) narrow)
-    (later-low s A 1 (RunOf t B steps new) (RunOf s A steps (map (wrap s A) new)) rest)
+    (later-low s A (RunOf t B steps new) (RunOf s A steps (map (wrap s A) new)) rest)
 
 -- on no registers there are no steps
 pub no-steps : (steps : List Step) → All (StepWithin 0) steps → steps ≡ []

@@ -9,20 +9,25 @@ use Rattle.arbitrary_int.specs.declared.steps.Step.{Step}
 use Rattle.arbitrary_int.specs.declared.steps.Stop.{Stop}
 use Rattle.arbitrary_int.specs.declared.steps.Why.{Why}
 
-later-zero : (r : List ℤ × Result ⊤ Stop) → later 0 r ≡ r
-later-zero (regs, Ok u) = refl
-later-zero (regs, Err e) = let z : 0 + e.at ≡ e.at = omega arith in ap (λ (n : ℕ). (regs, Err (record { at = n; why = e.why }))) z
+-- the same ending, with the places counted from k steps before
+abbrev pub delayed : ℕ → List ℤ × Result ⊤ Stop → List ℤ × Result ⊤ Stop
+delayed k (regs, Ok u) = (regs, Ok u)
+delayed k (regs, Err stop) = (regs, Err (record { at = k + stop.at; why = stop.why }))
 
-later-later : (j k : ℕ) (r : List ℤ × Result ⊤ Stop) → later j (later k r) ≡ later (j + k) r
-later-later j k (regs, Ok u) = refl
-later-later j k (regs, Err e) = let z : j + (k + e.at) ≡ (j + k) + e.at = omega arith in ap (λ (n : ℕ). (regs, Err (record { at = n; why = e.why }))) z
+delayed-zero : (r : List ℤ × Result ⊤ Stop) → delayed 0 r ≡ r
+delayed-zero (regs, Ok u) = refl
+delayed-zero (regs, Err e) = let z : 0 + e.at ≡ e.at = omega arith in ap (λ (n : ℕ). (regs, Err (record { at = n; why = e.why }))) z
+
+delayed-later : (k : ℕ) (r : List ℤ × Result ⊤ Stop) → delayed k (later r) ≡ delayed (k + 1) r
+delayed-later k (regs, Ok u) = refl
+delayed-later k (regs, Err e) = let z : k + (1 + e.at) ≡ (k + 1) + e.at = omega arith in ap (λ (n : ℕ). (regs, Err (record { at = n; why = e.why }))) z
 
 pub run-start : (s : Bool) (B : ℕ) (steps : List Step) (regs : List ℤ)
-    → RunOf s B steps regs ≡ later 0 (RunOf s B (drop 0 steps) regs)
-run-start s B steps regs = sym (later-zero (RunOf s B steps regs))
+    → RunOf s B steps regs ≡ delayed 0 (RunOf s B (drop 0 steps) regs)
+run-start s B steps regs = sym (delayed-zero (RunOf s B steps regs))
 
 pub RunOf-ok : (s : Bool) (B : ℕ) (step : Step) (steps : List Step) (regs new : List ℤ)
-    → meaning s B step regs ≡ Ok new → RunOf s B (step ∷ steps) regs ≡ later 1 (RunOf s B steps new)
+    → meaning s B step regs ≡ Ok new → RunOf s B (step ∷ steps) regs ≡ later (RunOf s B steps new)
 RunOf-ok s B step steps regs new e = rw (e, RunOf) refl
 
 pub RunOf-err : (s : Bool) (B : ℕ) (step : Step) (steps : List Step) (regs : List ℤ) (why : Why)
@@ -31,26 +36,26 @@ RunOf-err s B step steps regs why e = rw (e, RunOf) refl
 
 pub run-step : (s : Bool) (B : ℕ) (steps : List Step) (k : ℕ) (step : Step) (regs new : List ℤ) (whole : List ℤ × Result ⊤ Stop)
     → k < length steps → step ≡ get_or steps k step → meaning s B step regs ≡ Ok new
-    → whole ≡ later k (RunOf s B (drop k steps) regs) → whole ≡ later (k + 1) (RunOf s B (drop (k + 1) steps) new)
+    → whole ≡ delayed k (RunOf s B (drop k steps) regs) → whole ≡ delayed (k + 1) (RunOf s B (drop (k + 1) steps) new)
 run-step s B steps k step regs new whole h is e w =
     let d : drop k steps ≡ get_or steps k step ∷ drop (suc k) steps = drop-cons steps k step h in
     let d' : drop k steps ≡ step ∷ drop (k + 1) steps = d ∙ (λ i. (sym is) i ∷ drop ((sym (add-one k)) i) steps) in
-    w ∙ ap (λ (l : List Step). later k (RunOf s B l regs)) d' ∙ ap (later k) (RunOf-ok s B step (drop (k + 1) steps) regs new e)
-    ∙ later-later k 1 (RunOf s B (drop (k + 1) steps) new)
+    w ∙ ap (λ (l : List Step). delayed k (RunOf s B l regs)) d' ∙ ap (delayed k) (RunOf-ok s B step (drop (k + 1) steps) regs new e)
+    ∙ delayed-later k (RunOf s B (drop (k + 1) steps) new)
 
 pub run-stop : (s : Bool) (B : ℕ) (steps : List Step) (k : ℕ) (step : Step) (regs : List ℤ) (why : Why) (whole : List ℤ × Result ⊤ Stop)
     → k < length steps → step ≡ get_or steps k step → meaning s B step regs ≡ Err why
-    → whole ≡ later k (RunOf s B (drop k steps) regs) → whole ≡ (regs, Err (record { at = k; why = why }))
+    → whole ≡ delayed k (RunOf s B (drop k steps) regs) → whole ≡ (regs, Err (record { at = k; why = why }))
 run-stop s B steps k step regs why whole h is e w =
     let d : drop k steps ≡ step ∷ drop (suc k) steps = drop-cons steps k step h ∙ (λ i. (sym is) i ∷ drop (suc k) steps) in
     let z : k + 0 ≡ k = omega arith in
-    w ∙ ap (λ (l : List Step). later k (RunOf s B l regs)) d ∙ ap (later k) (RunOf-err s B step (drop (suc k) steps) regs why e)
+    w ∙ ap (λ (l : List Step). delayed k (RunOf s B l regs)) d ∙ ap (delayed k) (RunOf-err s B step (drop (suc k) steps) regs why e)
     ∙ ap (λ (n : ℕ). (regs, Err (record { at = n; why = why }))) z
 
 pub run-end : (s : Bool) (B : ℕ) (steps : List Step) (k : ℕ) (regs : List ℤ) (whole : List ℤ × Result ⊤ Stop)
-    → length steps ≤ k → whole ≡ later k (RunOf s B (drop k steps) regs) → whole ≡ (regs, Ok tt)
+    → length steps ≤ k → whole ≡ delayed k (RunOf s B (drop k steps) regs) → whole ≡ (regs, Ok tt)
 run-end s B steps k regs whole h w =
     let d : drop k steps ≡ [] = drop_of_length-le steps h in
-    w ∙ ap (λ (l : List Step). later k (RunOf s B l regs)) d
+    w ∙ ap (λ (l : List Step). delayed k (RunOf s B l regs)) d
 
 pub ruleset runs = (run-start, run-step, run-stop, run-end)

@@ -9,7 +9,7 @@ use Rattle.std.proofs.lemmas.List.{get_or_default}
 use Rattle.std.proofs.lemmas.List.Elements.{All-head, All-tail}
 use Rattle.arbitrary_base.specs.Range.{lo, hi, in_range}
 use Rattle.arbitrary_base.proofs.modular.Truncation.{in_range-true}
-use Rattle.arbitrary_int.proofs.RunLemmas.{RunOf-ok, RunOf-err, run-stop, run-end}
+use Rattle.arbitrary_int.proofs.RunLemmas.{RunOf-ok, RunOf-err, delayed, run-stop, run-end}
 use Rattle.arbitrary_int.specs.Steps.{exact_or_refused, meaning, result_of, target_of, unless_zero}
 use Rattle.arbitrary_int.specs.Runs.{later, RunOf}
 use Rattle.arbitrary_int.specs.Widths.{IsCheckedArithmetic, carried_out, RangeWithin}
@@ -64,13 +64,13 @@ meaning-wider s t A B step regs new c i e = by_result (result_of s A step regs) 
         ap (result_map_both (set regs (target_of step)) (λ why. why)) (result-wider s t A B step regs x c i p ∙ sym p) ∙ e
     by_result (Err why) p = let r : Err why ≡ Ok new = sym (ap (result_map_both (set regs (target_of step)) (λ why. why)) p) ∙ e in absurd (cc)
 
-later-carried : (step : Step) (steps : List Step) (q : List ℤ × Result ⊤ Stop) → carried_out (later 1 q).1 (step ∷ steps) ≡ step ∷ carried_out q.1 steps
+later-carried : (step : Step) (steps : List Step) (q : List ℤ × Result ⊤ Stop) → carried_out (later q).1 (step ∷ steps) ≡ step ∷ carried_out q.1 steps
 later-carried step steps (regs, Ok u) = refl
 later-carried step steps (regs, Err stop) = let e : 1 + stop.at ≡ suc stop.at = omega arith in ap (λ (n : ℕ). take n (step ∷ steps)) e
 
-later-registers : (k : ℕ) (q : List ℤ × Result ⊤ Stop) → (later k q).0 ≡ q.0
-later-registers k (regs, Ok u) = refl
-later-registers k (regs, Err stop) = refl
+later-registers : (q : List ℤ × Result ⊤ Stop) → (later q).0 ≡ q.0
+later-registers (regs, Ok u) = refl
+later-registers (regs, Err stop) = refl
 
 wider-turn : (s t : Bool) (A B : ℕ) (step : Step) (steps : List Step) (regs : List ℤ) → RangeWithin s A t B → IsCheckedArithmetic step
     → ((new : List ℤ) → RunOf t B (carried_out (RunOf s A steps new).1 steps) new ≡ ((RunOf s A steps new).0, Ok tt))
@@ -79,7 +79,7 @@ wider-turn : (s t : Bool) (A B : ℕ) (step : Step) (steps : List Step) (regs : 
 wider-turn s t A B step steps regs c i rest (Ok new) p =
     let q = RunOf s A steps new in
     let w : meaning t B step regs ≡ Ok new = meaning-wider s t A B step regs new c i p in
-    rw (RunOf-ok s A step steps regs new p, later-carried step steps q, later-registers 1 q, RunOf-ok t B step (carried_out q.1 steps) regs new w, rest new) refl
+    rw (RunOf-ok s A step steps regs new p, later-carried step steps q, later-registers q, RunOf-ok t B step (carried_out q.1 steps) regs new w, rest new) refl
 wider-turn s t A B step steps regs c i rest (Err why) p = rw (RunOf-err s A step steps regs why p) refl
 
 -- what a run of exact steps carried out, a wider type carries out alike
@@ -97,14 +97,14 @@ wider-ended s t A B steps regs new ending e f c l = rw (e, f) (wider-run s t A B
 
 -- at a step that stops, and at the end
 pub wider-stop : (s t : Bool) (A B : ℕ) (steps : List Step) (k : ℕ) (d : Step) (regs now new : List ℤ) (why : Why) → k < length steps
-    → RunOf s A steps regs ≡ later k (RunOf s A (drop k steps) now) → meaning s A (get_or steps k d) now ≡ Err why → new ≡ now
+    → RunOf s A steps regs ≡ delayed k (RunOf s A (drop k steps) now) → meaning s A (get_or steps k d) now ≡ Err why → new ≡ now
     → RangeWithin s A t B → All IsCheckedArithmetic steps → RunOf t B (take k steps) regs ≡ (new, Ok tt)
 wider-stop s t A B steps k d regs now new why h rest stops same c l =
     let whole = run-stop s A steps k (get_or steps k d) now why (RunOf s A steps regs) h (get_or_default steps k d (get_or steps k d) h) stops rest in
     wider-ended s t A B steps regs new (Err (record { at = k; why = why })) (same ∙ sym (ap (λ (r : List ℤ × Result ⊤ Stop). r.0) whole)) (sym (ap (λ (r : List ℤ × Result ⊤ Stop). r.1) whole)) c l
 
 pub wider-end : (s t : Bool) (A B : ℕ) (steps : List Step) (k : ℕ) (regs now : List ℤ) → length steps ≤ k
-    → RunOf s A steps regs ≡ later k (RunOf s A (drop k steps) now)
+    → RunOf s A steps regs ≡ delayed k (RunOf s A (drop k steps) now)
     → RangeWithin s A t B → All IsCheckedArithmetic steps → RunOf t B steps regs ≡ (now, Ok tt)
 wider-end s t A B steps k regs now h rest c l =
     let whole = run-end s A steps k now (RunOf s A steps regs) h rest in
