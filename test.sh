@@ -1,6 +1,6 @@
 #!/usr/bin/env bash
 # The gate. It checks names, twin files and pages, then proves, tests and runs every crate (`rt ci`), and runs the program on damaged and
-# random inputs, and with each allocation refused in turn. Then it tries further wrong bodies. Before its last line it prints what it took.
+# random inputs, and with each allocation refused in turn. Then it tries wrong bodies. Before its last line it prints what it took.
 set -euo pipefail
 unset CDPATH
 cd -- "$(dirname -- "$0")"
@@ -16,6 +16,8 @@ python3 tools/pages.py
 python3 tools/document_examples.py
 python3 tools/believed.py
 python3 tools/bitrun_cases.py
+# each edit in wrong-bodies/ finds its text
+python3 tools/wrong_bodies.py --some 0
 log="$(mktemp)"
 spent="$(mktemp)"
 nice python3 tools/refused_memory.py &
@@ -26,12 +28,16 @@ wait "$memory"
 programs=(crates/bitrun/out/bitrun crates/bitrun/out/bitrun.by-rattle)
 python3 tools/endings.py "${programs[@]}"
 python3 tools/fuzz.py "${programs[@]}"
-# wrong bodies that the check must refuse: each that a page shows, and of the others as many as are named, which the commit chooses
+# wrong bodies that the check must refuse: each that a page shows, each that is named here, and of the others as many as `--some` says
 python3 tools/wrong_bodies.py pages
-python3 tools/wrong_bodies.py --some 8 bounds
+python3 tools/wrong_bodies.py --some 8 bounds \
+    bounds/{i7_sum_out_of_range,new_of_u7_one_past_the_greatest,u53_shifted_by_its_width_as_u128}
 python3 tools/wrong_bodies.py --some 8 facts_generic laws_bits laws_numbers laws_registers laws_shifts laws_words programs examples
 python3 tools/wrong_bodies.py --some 4 arbitrary_base arbitrary_traits arbitrary_core arbitrary_constants arbitrary_calls arbitrary_int \
-    bit_fields bitrun_text bitrun_service
+    bit_fields bitrun_text bitrun_service \
+    arbitrary_base/{multiplies_as_often_as_the_exponent_says,quotient_rounds_down,shifts_left_without_the_mask,sum_drops_the_width} \
+    arbitrary_int/{leaves_the_narrow_registers_alone_at_a_stop,leaves_zero_in_the_registers,masks_first_and_runs_narrow_only} \
+    bit_fields/{clears_the_bits_above_the_field,every_two_fields_are_disjoint,no_two_fields_are_disjoint}
 # prove.py must find laws again for functions whose attributes it does not read
 python3 tools/prove.py --anew --jobs 1 laws_shifts reversals::rev_and rotations::rotl_and shifts::shl_and right_rotations::and_turned \
     moved_bits::complement_moved back_rotations::left_is_right_by_the_rest

@@ -1,10 +1,11 @@
 #!/usr/bin/env python3
 """wrong_bodies.py [--some N] [CRATE | CRATE/EDIT ..]
 
-Fails unless the prover refuses the wrong bodies in `wrong-bodies` of these crates, or these of a crate, or all. With `--some` it tries N of
-them, which the commit selects. It uses the crates below as `rt check` or `rt ci` last proved them.
+Fails unless the prover refuses the wrong bodies in `wrong-bodies` of these crates, or these of a crate, or all. With `--some` it tries all that
+are named as CRATE/EDIT, and N of the others, which the commit selects. It uses the crates below as `rt check` or `rt ci` last proved them.
 
-A file there is an edit as in `must-fail`, under a line that names the function that it makes wrong:
+Each file there is an edit. It names the function that it makes wrong, a file, and pairs of lines: a text that is once in the file, and the
+text in its place. Before any check, the script fails if an edit does not find its text, so `--some 0` tests only that. An edit:
 
     function: shifts::shl
     file: src/shifts.rt
@@ -30,6 +31,8 @@ from program import ROOT
 KIT = Path(subprocess.check_output(['rt', 'doc'], text=True)).parent
 # The folders of a crate that a check reads.
 PARTS = ['src', 'specs', 'proofs']
+# How many edits of a crate a sample has before it takes another crate, whose first check costs a minute.
+FEW = 4
 # The prover's words for a function that it refuses, and for one that hangs on another: on what it calls, or on what now calls it.
 REFUSED = re.compile(r'not proved|no proof')
 HANGS = re.compile(r'it calls|it passes|a call of|a cycle of calls')
@@ -54,7 +57,7 @@ class WrongBody:
                 self.function = text
             elif word == 'file':
                 self.file = text
-                whole = (path.parent.parent / text).read_text()
+                whole = (path.parents[1] / text).read_text()
             elif word == 'says':
                 self.says.append(text)
             elif word == 'old':
@@ -158,10 +161,13 @@ def files(named):
     return sorted((ROOT / 'crates' / crate / 'wrong-bodies').glob(f'{edit or "*"}.edit')) or sys.exit(f'{named}: there is no wrong body')
 
 
-def chosen(bodies, count):
-    """So many of these wrong bodies, by the commit: which come first when each is hashed behind it."""
+def chosen(paths, count):
+    """As many of these wrong bodies, in the order of their hashes behind the commit, but with FEW of each crate together."""
     commit = subprocess.check_output(['git', 'rev-parse', 'HEAD'], cwd=ROOT)
-    return sorted(bodies, key=lambda it: hashlib.sha256(commit + it.path.stem.encode()).digest())[:count]
+    crates = {}
+    for it in sorted(paths, key=lambda it: hashlib.sha256(commit + it.stem.encode()).digest()):
+        crates.setdefault(it.parents[1], []).append(it)
+    return sorted((it for edits in crates.values() for it in edits), key=lambda it: crates[it.parents[1]].index(it) // FEW)[:count]
 
 
 def main():
@@ -171,12 +177,14 @@ def main():
     asked = asked.parse_args()
     uses = libraries()
     crates = [it for it in uses if (ROOT / 'crates' / it / 'wrong-bodies').is_dir()]
-    bodies = [WrongBody(it) for named in asked.named or crates for it in files(named)]
+    bodies = {it: WrongBody(it) for named in asked.named or crates for it in files(named)}
     if asked.some is not None:
-        bodies = chosen(bodies, asked.some)
+        named = [it for name in asked.named if '/' in name for it in files(name)]
+        others = [it for it in bodies if it not in named]
+        bodies = {it: bodies[it] for it in named + chosen(others, asked.some)}
     bad = []
     for crate in uses:
-        bad += tried(crate, [it for it in bodies if it.path.parent.parent.name == crate], uses)
+        bad += tried(crate, [body for path, body in bodies.items() if path.parents[1].name == crate], uses)
     print(*bad, f'{len(bodies) - len(bad)} wrong bodies refused, {len(bad)} not', sep='\n')
     return 1 if bad else 0
 
