@@ -1,6 +1,6 @@
 #!/usr/bin/env bash
 # The gate. It checks names, twin files and pages, then proves, tests and runs every crate (`rt ci`), and runs the program on damaged and
-# random inputs, and with each allocation refused in turn. Then it tries wrong bodies. Before its last line it prints what it took.
+# random inputs, and with little memory. Then it tries wrong bodies. Before its last line it prints what it took.
 set -euo pipefail
 unset CDPATH
 cd -- "$(dirname -- "$0")"
@@ -20,11 +20,8 @@ python3 tools/bitrun_cases.py
 python3 tools/wrong_bodies.py --some 0
 log="$(mktemp)"
 spent="$(mktemp)"
-nice python3 tools/refused_memory.py &
-memory=$!
-trap 'kill "$memory" 2> /dev/null || true; rm -f "$log" "$spent"' EXIT
+trap 'rm -f "$log" "$spent"' EXIT
 rt ci | tee "$log"
-wait "$memory"
 programs=(crates/bitrun/out/bitrun crates/bitrun/out/bitrun.by-rattle)
 python3 tools/endings.py "${programs[@]}"
 python3 tools/fuzz.py "${programs[@]}"

@@ -2,12 +2,15 @@
 """endings.py [PROGRAM ..]
 
 Runs the built `bitrun` on good inputs and on each fault of an input, a reader or a writer, each with an output that is open, full, closed, or
-read by nobody. It compares the output and the status with a table, and checks that standard error is empty. PROGRAM is by default what
+read by nobody. It compares the output and the status with a table, and checks that standard error is empty. It also runs some inputs with
+more and more memory: the program must print the fault of memory until there is enough, and then the output. PROGRAM is by default what
 `bitrun.sh` builds.
 """
 import os
+import resource
 import subprocess
 import sys
+from itertools import dropwhile, groupby
 
 from program import programs
 
@@ -41,6 +44,12 @@ ROWS = [
     *[('open', late(good), b'fault: line %d\n' % (good + 3), 2) for good in (4997, 16, 17, 64, 65, 1024, 1025, 4096, 4097)],
     ('open', b'run u7\n1 2\n' + 6 * b'\n' + 8189 * b'not 0 1\n' + b'not 0 2', b'fault: line 8198\n', 2),
 ]
+# The sizes of memory that are tried, in bytes, and the inputs: a short one, many steps, and many registers.
+SIZES = range(0, 1 << 21, 1 << 14)
+LIMITED = [0, 4, 5]
+REFUSED = b'fault: memory\n', 3, b''
+# With less memory the program does not start, and the loader reports that or is killed.
+NOT_STARTED = [127, -11]
 # What else may hold of standard output. Nothing is printed then; the status is the fault's, or where all else is well 5.
 OUTPUTS = ['full', 'closed', 'unread']
 
@@ -75,6 +84,13 @@ def ending(program, source, data, sink='open'):
     return printed, process.wait(), error
 
 
+def with_memory(program, data, size):
+    """What is printed, the status, and the text on standard error, where the program has at most that many bytes of data."""
+    done = subprocess.run(
+        [program], input=data, capture_output=True, preexec_fn=lambda: resource.setrlimit(resource.RLIMIT_DATA, (size, size)))
+    return done.stdout, done.returncode, done.stderr
+
+
 def main():
     rows = [(source, data, 'open', (printed, status, b'')) for source, data, printed, status in ROWS]
     rows += [(source, data, sink, (b'', status or 5, b'')) for source, data, _, status in ROWS for sink in OUTPUTS]
@@ -85,7 +101,14 @@ def main():
             if found != wanted:
                 failed += 1
                 print(f'{program}: on {data[:60]}, with input {source} and output {sink}: {found}, should be {wanted}')
-        print(f'{program}: {len(rows)} endings tried')
+        for _, data, printed, status in map(ROWS.__getitem__, LIMITED):
+            endings = (with_memory(program, data, size) for size in SIZES)
+            found = [it for it, _ in groupby(dropwhile(lambda it: it[1] in NOT_STARTED, endings))]
+            wanted = [REFUSED, (printed, status, b'')]
+            if found != wanted:
+                failed += 1
+                print(f'{program}: on {data[:60]}, with more and more memory: {found}, should be {wanted}')
+        print(f'{program}: {len(rows)} endings tried, and {len(LIMITED)} inputs with {len(SIZES)} sizes of memory')
     return 1 if failed else 0
 
 

@@ -117,24 +117,38 @@ fn longest_input(rt: HostRuntime) -> Result<(), Fail> {
     Ok(())
 }
 
+// The heap grows by 8 bytes from run to run, so it refuses one growth after the other. A second step frees memory that
+// later growths use. So the inputs with one step are those with which each growth is refused.
 #[test]
 fn memory_is_refused(rt: HostRuntime) -> Result<(), Fail> {
-    for (input, outcome) in [
-        (STOPPED, Ok(())),
-        (WIDE, Ok(())),
-        (BAD, Err(Fault::Line(4))),
-    ] {
+    let rows: [(&[u8], Result<(), Fault>, &[u8]); 5] = [
+        (
+            b"run u7\n100 50 0\ncadd 0 0 1\n",
+            Ok(()),
+            b"100 50 0\nstopped at 0: refused\n",
+        ),
+        (
+            b"wide u14 i7\n200 300\nwmul 0 0 1\n",
+            Ok(()),
+            b"10848 300\n-32 44\ndone\n",
+        ),
+        (STOPPED, Ok(()), b"100 50 22\nstopped at 1: refused\n"),
+        (WIDE, Ok(()), b"10848 16083\n-32 -45\ndone\n"),
+        (BAD, Err(Fault::Line(4)), b""),
+    ];
+    for (input, outcome, text) in rows {
         let mut refused = 0;
         for step in 1..800usize {
             let heap = LocalHeap::new(rt.alloc(), 8 * step)?;
             let mut reader = Watched::new(input);
             let mut writer = Watched::new(Vec::new(rt.alloc()));
             let output = serve_in(&heap, &mut reader, &mut writer);
+            let written = writer.into_inner();
             if output != Err(Fault::Memory) {
                 assert_eq!(rt; output, outcome);
+                assert_eq!(rt; written.as_slice(), text);
                 break;
             }
-            let written = writer.into_inner();
             assert!(rt; written.is_empty());
             refused = step;
         }
