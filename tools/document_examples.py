@@ -12,19 +12,15 @@ import sys
 from pathlib import Path
 
 ROOT = Path(__file__).resolve().parent.parent
-# The modules of tests that docs/CALLS.md makes, with what each brings in. A table runs in vectors_examples, unless its title is
-# named here.
-USES = {
-    'vectors_examples/src/calls.rt': [
-        'use crate::same::same;', 'use arbitrary_int::prelude::*;',
-        'use std::io::sink;', 'use std::test::Fail;',
-    ],
-    'bit_fields/src/vectors/calls.rt': ['use crate::{Record, disjoint};', 'use arbitrary_int::prelude::*;'],
-}
-ELSEWHERE = {'Fields in a record': 'bit_fields/src/vectors/calls.rt'}
+# The tests that the tables of calls make, with what they bring in.
+CALLS = ROOT / 'crates/vectors_examples/src/calls.rt'
+USES = [
+    'use crate::same::same;', 'use arbitrary_int::prelude::*;', 'use bit_fields::{Record, disjoint};', 'use std::io::sink;',
+    'use std::test::Fail;',
+]
 # How many examples one test has: what a proof takes grows with the square of a test's length.
 AT_ONCE = 8
-FROM_RUST = ROOT / 'crates/pages/src/from_rust.rt'
+FROM_RUST = ROOT / 'crates/vectors_examples/src/from_rust.rt'
 PROVING = ROOT / 'crates/pages'
 SETS = ROOT / 'docs/SETS.md'
 # The page of sets writes a number without its type.
@@ -50,8 +46,8 @@ def tables(page):
         yield title, examples
 
 
-def tests(name, known, examples, line):
-    """Tests of the examples, so many in each, with what of the known values they name. The line says how an example is asked."""
+def tests(name, known, examples):
+    """Tests of the examples, AT_ONCE in each, with what of the known values they name."""
     lines = []
     for start in range(0, len(examples), AT_ONCE):
         part = examples[start:start + AT_ONCE]
@@ -61,19 +57,16 @@ def tests(name, known, examples, line):
         lines += ['', '#[test]', f'fn {name}{number}(rt: HostRuntime){" -> Result<(), Fail>" if takes_memory else ""} {{']
         lines += ['    let alloc = rt.alloc();'] if takes_memory else []
         lines += [f'    let {word} = {value};' for word, value in known if word in words]
-        lines += ['    ' + line.format(*example) for example in part]
+        lines += [f'    same(&rt, {expression}, {value});' for expression, value in part]
         lines += ['    Ok(())', '}'] if takes_memory else ['}']
     return lines
 
 
-def calls(module):
-    """The module of tests that the tables of calls make there."""
-    uses = USES[module]
-    line = 'same(&rt, {}, {});' if 'use crate::same::same;' in uses else 'assert_eq!(rt; {}, {});'
-    lines = ['//! The examples of docs/CALLS.md.', '', *uses]
+def calls():
+    """The module of tests that the tables of calls make."""
+    lines = ['//! The examples of docs/CALLS.md.', '', *USES]
     for title, examples in tables('docs/CALLS.md'):
-        if ELSEWHERE.get(title, 'vectors_examples/src/calls.rt') == module:
-            lines += tests(re.sub(r'\W+', '_', title.lower()), [], examples, line)
+        lines += tests(re.sub(r'\W+', '_', title.lower()), [], examples)
     return '\n'.join(lines) + '\n'
 
 
@@ -85,9 +78,9 @@ def from_rust():
         known[name] = f'[{known[first]}, {known[second]}]' if first else number + kind if kind == 'u8' else f'{kind}::new({number})'
     lines = [
         '//! The table "In Rust you wrote" of docs/DIFFERENCES.md.', '',
-        'use crate::constants::{Device, LIMIT, Limits, TOP, greatest, limit};', 'use arbitrary_int::prelude::*;',
+        'use crate::same::same;', 'use arbitrary_int::prelude::*;', 'use pages::constants::{Device, LIMIT, Limits, TOP, greatest, limit};',
     ]
-    return '\n'.join(lines + tests('lines_from', known.items(), examples, 'assert_eq!(rt; {}, {});')) + '\n'
+    return '\n'.join(lines + tests('lines_from', known.items(), examples)) + '\n'
 
 
 def squeezed(text):
@@ -138,8 +131,7 @@ def quoted():
 
 def main():
     wrong = []
-    modules = [(ROOT / 'crates' / module, calls(module)) for module in USES]
-    for file, text in [*modules, (FROM_RUST, from_rust())]:
+    for file, text in [(CALLS, calls()), (FROM_RUST, from_rust())]:
         if '--write' in sys.argv[1:]:
             file.write_text(text)
         elif squeezed(file.read_text()) != squeezed(text):

@@ -12,8 +12,6 @@ use arbitrary_base::truncation::low_mask;
 use arbitrary_int::traits::Numbered;
 
 pub mod laws;
-#[cfg(test)]
-mod vectors;
 
 /// A record of 128 bits. Bit 0 is the lowest.
 #[derive(Clone, Copy, Debug, PartialEq, Eq)]

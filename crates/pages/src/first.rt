@@ -34,13 +34,3 @@ pub fn control(mode: u3, prescaler: u5, offset: i14) -> Record
     register.put(8, offset);
     register
 }
-
-#[test]
-fn checksum_wraps(rt: HostRuntime) {
-    assert_eq!(rt; checksum(u12::new(4000), u12::new(200)), u12::new(104));
-}
-
-#[test]
-fn minimum_is_inverted(rt: HostRuntime) {
-    assert_eq!(rt; inverted(i14::new(-8192)), i15::new(8192));
-}

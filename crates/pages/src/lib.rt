@@ -1,5 +1,5 @@
-//! The code on the pages: the functions of the README, the forms of docs/PROVING.md, the lines of docs/DIFFERENCES.md, and facts of
-//! docs/SETS.md.
+//! The code on the pages: the functions of the README, the forms of docs/PROVING.md, the constants of docs/DIFFERENCES.md, and facts of
+//! docs/SETS.md. `vectors_examples` has the tests.
 #![tactic(auto)]
 
 pub mod clauses;
@@ -8,8 +8,6 @@ pub mod constants;
 pub mod copies;
 pub mod fields;
 pub mod first;
-#[cfg(test)]
-mod from_rust;
 pub mod generic;
 pub mod places;
 pub mod sets;

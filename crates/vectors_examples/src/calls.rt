@@ -2,6 +2,7 @@
 
 use crate::same::same;
 use arbitrary_int::prelude::*;
+use bit_fields::{Record, disjoint};
 use std::io::sink;
 use std::test::Fail;
 
@@ -345,4 +346,20 @@ fn many_values(rt: HostRuntime) {
         i7::backward_checked(i7::max_value(), 127),
         Some(i7::new(-64)),
     );
+}
+
+#[test]
+fn fields_in_a_record(rt: HostRuntime) {
+    same(&rt, Record { bits: 168 }.get::<i5>(3), i5::new(-11));
+    same(&rt, Record { bits: 0x1234 }.get::<u8>(4), 0x23);
+    same(
+        &rt,
+        {
+            let mut record = Record { bits: 0 };
+            record.put(3, u5::new(21));
+            record.bits
+        },
+        168,
+    );
+    same(&rt, disjoint(0, 4, 4, 5), true);
 }
