@@ -49,7 +49,7 @@ SIZES = range(0, 1 << 21, 1 << 14)
 LIMITED = [0, 4, 5]
 REFUSED = b'fault: memory\n', 3, b''
 # With less memory the program does not start, and the loader reports that or is killed.
-NOT_STARTED = [127, -11]
+NOT_STARTED = [127, -9, -11]
 # What else may hold of standard output. Nothing is printed then; the status is the fault's, or where all else is well 5.
 OUTPUTS = ['full', 'closed', 'unread']
 
