@@ -1,4 +1,5 @@
-//! Test vectors of the calls. Each expected result comes from outside the library.
+//! Test vectors of the calls. Each expected result comes from outside the library. `vectors_base` has those of the
+//! base.
 #![tactic(auto)]
 
 #[cfg(test)]
@@ -6,9 +7,13 @@ mod arithmetic;
 #[cfg(test)]
 mod bits;
 #[cfg(test)]
+mod bytes;
+#[cfg(test)]
 mod ends;
 #[cfg(test)]
 mod first_version;
+#[cfg(test)]
+mod keys;
 #[cfg(test)]
 mod powers;
 #[cfg(test)]
@@ -21,5 +26,9 @@ mod same;
 mod signs;
 #[cfg(test)]
 mod steps;
+#[cfg(test)]
+mod streams;
+#[cfg(test)]
+mod texts;
 #[cfg(test)]
 mod widths;

@@ -17,12 +17,18 @@ fn sums_stop_at_the_first_overflow(rt: HostRuntime) {
 
 #[test]
 fn sums_at_the_ends(rt: HostRuntime) {
-    same(&rt, try_sum(repeat_n(u7::new(1), 127)), Some(u7::new(127)));
-    same(&rt, try_sum(repeat_n(u7::new(1), 128)), None);
-    same(&rt, try_sum(repeat_n(i7::new(1), 63)), Some(i7::new(63)));
-    same(&rt, try_sum(repeat_n(i7::new(-1), 64)), Some(i7::new(-64)));
-    same(&rt, try_sum(repeat_n(i7::new(1), 64)), None);
-    same(&rt, try_sum(repeat_n(i7::new(-1), 65)), None);
+    for (count, sum) in [(127, Some(u7::new(127))), (128, None)] {
+        same(&rt, try_sum(repeat_n(u7::new(1), count)), sum);
+    }
+    let (one, minus_one) = (i7::new(1), i7::new(-1));
+    for (number, count, sum) in [
+        (one, 63, Some(i7::new(63))),
+        (minus_one, 64, Some(i7::new(-64))),
+        (one, 64, None),
+        (minus_one, 65, None),
+    ] {
+        same(&rt, try_sum(repeat_n(number, count)), sum);
+    }
 }
 
 #[test]
@@ -36,13 +42,13 @@ fn products_stop_at_the_first_overflow(rt: HostRuntime) {
     same(&rt, try_product(repeat_n(u7::new(2), 8)), None);
     let signed = [i7::new(4), i7::new(4), i7::new(3)];
     same(&rt, try_product(signed.iter().copied()), Some(i7::new(48)));
-    same(
-        &rt,
-        try_product(repeat_n(i7::new(-2), 3)),
-        Some(i7::new(-8)),
-    );
-    same(&rt, try_product(repeat_n(i7::new(2), 6)), None);
-    same(&rt, try_product(repeat_n(i7::new(-2), 6)), None);
+    for (number, count, product) in [
+        (i7::new(-2), 3, Some(i7::new(-8))),
+        (i7::new(2), 6, None),
+        (i7::new(-2), 6, None),
+    ] {
+        same(&rt, try_product(repeat_n(number, count)), product);
+    }
     let none: [Int<i8, 1>; 0] = [];
     same(&rt, try_product(none.iter().copied()), None);
 }
@@ -59,15 +65,17 @@ fn a_range_gives_each_value_once(rt: HostRuntime) {
 
 #[test]
 fn a_range_over_all_values_ends(rt: HostRuntime) {
-    let mut up = range_inclusive(i1::new(-1), i1::new(0));
-    same(&rt, up.next(), Some(i1::new(-1)));
-    same(&rt, up.next(), Some(i1::new(0)));
-    same(&rt, up.next(), None);
-    let mut down = range_inclusive(i1::new(-1), i1::new(0));
-    same(&rt, down.next_back(), Some(i1::new(0)));
-    same(&rt, down.next_back(), Some(i1::new(-1)));
-    same(&rt, down.next_back(), None);
-    same(&rt, range_inclusive(i1::new(0), i1::new(-1)).next(), None);
+    let (least, greatest) = (i1::new(-1), i1::new(0));
+    let mut up = range_inclusive(least, greatest);
+    let mut down = range_inclusive(least, greatest);
+    for (next, last) in [
+        (Some(least), Some(greatest)),
+        (Some(greatest), Some(least)),
+        (None, None),
+    ] {
+        same(&rt, (up.next(), down.next_back()), (next, last));
+    }
+    same(&rt, range_inclusive(greatest, least).next(), None);
     let mut last = None;
     for value in range_inclusive(u7::min_value(), u7::max_value()) {
         last = Some(value);
@@ -82,27 +90,22 @@ fn steps_up_and_down(rt: HostRuntime) {
         u120::steps_between(&u120::min_value(), &u120::max_value()),
         (usize::MAX, None),
     );
-    same(
-        &rt,
-        i7::steps_between(&i7::new(-64), &i7::new(63)),
-        (127, Some(127)),
-    );
-    same(&rt, i7::steps_between(&i7::new(1), &i7::new(0)), (0, None));
+    for (from, to, steps) in [
+        (i7::new(-64), i7::new(63), (127, Some(127))),
+        (i7::new(1), i7::new(0), (0, None)),
+    ] {
+        same(&rt, i7::steps_between(&from, &to), steps);
+    }
     same(
         &rt,
         UInt::<u64, 64>::steps_between(&UInt::<u64, 64>::new(0), &UInt::<u64, 64>::new(u64::MAX)),
         (usize::MAX, Some(usize::MAX)),
     );
-    same(
-        &rt,
-        i7::forward_checked(i7::min_value(), 127),
-        Some(i7::new(63)),
-    );
-    same(&rt, i7::forward_checked(i7::min_value(), 128), None);
-    same(
-        &rt,
-        i7::backward_checked(i7::max_value(), 127),
-        Some(i7::new(-64)),
-    );
-    same(&rt, i7::backward_checked(i7::max_value(), 128), None);
+    for (count, up, down) in [
+        (127, Some(i7::new(63)), Some(i7::new(-64))),
+        (128, None, None),
+    ] {
+        same(&rt, i7::forward_checked(i7::min_value(), count), up);
+        same(&rt, i7::backward_checked(i7::max_value(), count), down);
+    }
 }

@@ -1,9 +1,12 @@
 //! Test vectors of `run_wide`. `lib` says where the values come from.
 
+ghost use Rattle.std.specs.Prelude.{◌≡◌, length};
+
 use crate::same::same;
 use crate::steps::two;
 use arbitrary_int::prelude::*;
 use arbitrary_int::{ByOp, OneOp, Step, Stop, TwoOp, Why, run, run_wide, well_formed};
+use std::process::Abort;
 
 /// A left shift of register 0.
 fn shifted(amount: u32) -> [Step; 1] {
@@ -27,15 +30,29 @@ fn product_and_complement() -> [Step; 2] {
     ]
 }
 
+/// Runs the steps at both widths, and then on registers that are truncated first. No run stops.
+fn runs<W: FixedWidth, N: FixedWidth>(
+    rt: &impl Abort,
+    steps: &[Step],
+    wide: &mut [W],
+    narrow: &mut [N],
+    first: &mut [N],
+)
+    requires narrow { length narrow.old ≡ length wide.old }
+    requires first { length first.old ≡ length wide.old }
+{
+    assert!(rt; well_formed(steps, wide.len()));
+    same(rt, run_wide(steps, wide, narrow), Ok(()));
+    same(rt, run(steps, first), Ok(()));
+}
+
 #[test]
 fn a_shift_by_the_narrow_width_is_no_low_bit_step(rt: HostRuntime) {
     let steps = shifted(7);
     let mut wide = [u14::new(1)];
     let mut narrow = [u7::new(0)];
     let mut first = [u7::new(1)];
-    assert!(rt; well_formed(&steps, 1));
-    same(&rt, run_wide(&steps, &mut wide, &mut narrow), Ok(()));
-    same(&rt, run(&steps, &mut first), Ok(()));
+    runs(&rt, &steps, &mut wide, &mut narrow, &mut first);
     same(&rt, wide, [u14::new(128)]);
     same(&rt, narrow, [u7::new(0)]);
     same(&rt, first, [u7::new(1)]);
@@ -47,9 +64,7 @@ fn a_shift_below_the_narrow_width_is_one(rt: HostRuntime) {
     let mut wide = [u14::new(3)];
     let mut narrow = [i7::new(0)];
     let mut first = [i7::new(3)];
-    assert!(rt; well_formed(&steps, 1));
-    same(&rt, run_wide(&steps, &mut wide, &mut narrow), Ok(()));
-    same(&rt, run(&steps, &mut first), Ok(()));
+    runs(&rt, &steps, &mut wide, &mut narrow, &mut first);
     same(&rt, wide, [u14::new(192)]);
     same(&rt, narrow, [i7::new(-64)]);
     same(&rt, first, narrow);
@@ -61,9 +76,7 @@ fn low_bits_without_a_sign(rt: HostRuntime) {
     let mut wide = [u14::new(200), u14::new(300)];
     let mut narrow = [u7::new(0), u7::new(0)];
     let mut first = [u7::new(72), u7::new(44)];
-    assert!(rt; well_formed(&steps, 2));
-    same(&rt, run_wide(&steps, &mut wide, &mut narrow), Ok(()));
-    same(&rt, run(&steps, &mut first), Ok(()));
+    runs(&rt, &steps, &mut wide, &mut narrow, &mut first);
     same(&rt, wide, [u14::new(10848), u14::new(16083)]);
     same(&rt, narrow, [u7::new(96), u7::new(83)]);
     same(&rt, first, narrow);
@@ -75,9 +88,7 @@ fn low_bits_with_a_sign(rt: HostRuntime) {
     let mut wide = [u14::new(200), u14::new(300)];
     let mut narrow = [i7::new(0), i7::new(0)];
     let mut first = [i7::new(-56), i7::new(44)];
-    assert!(rt; well_formed(&steps, 2));
-    same(&rt, run_wide(&steps, &mut wide, &mut narrow), Ok(()));
-    same(&rt, run(&steps, &mut first), Ok(()));
+    runs(&rt, &steps, &mut wide, &mut narrow, &mut first);
     same(&rt, wide, [u14::new(10848), u14::new(16083)]);
     same(&rt, narrow, [i7::new(-32), i7::new(-45)]);
     same(&rt, first, narrow);
