@@ -2,13 +2,30 @@
 import re
 from contextlib import contextmanager
 
-from relevance import imports
+from relevance import GROUPS, imports, path
 
-ATTRIBUTE = re.compile(r'#\[tactic\(auto(?:, using\(([^)]*)\))?(?:, unfolding\(([^)]*)\))?\)\]')
+ATTRIBUTE = re.compile(r'#(!?)\[tactic\(auto(?:, using\(([^)]*)\))?(?:, unfolding\(([^)]*)\))?\)\]')
+# How the path of a group begins.
+OPENED = path((GROUPS, ''))
+
+
+def without_laws(text):
+    """This text with attributes that name no set and open no group, but still open the user's definitions."""
+    return ATTRIBUTE.sub(lambda found: attribute([], opened(found), found[1]), text)
+
+
+def opened(found):
+    """The definitions that an attribute opens besides groups."""
+    return [it for it in re.split(', *', found[3] or '') if it and not it.startswith(OPENED)]
+
+
+def attribute(using, unfolding, mark=''):
+    lists = [f', {word}({", ".join(paths)})' for word, paths in (('using', using), ('unfolding', unfolding)) if paths]
+    return f'#{mark}[tactic(auto{"".join(lists)})]'
 
 
 def with_attribute(text, function, paths):
-    """The text of a file with the attribute on this function that names these sets, or none."""
+    """The text of a file with the attribute on this function that names these sets and groups, or none."""
     lines, starts = text.splitlines(keepends=True), {}
     for number, line in enumerate(lines):
         if re.search(rf'\bfn {re.escape(function.name.split("::")[-1])}\b', line):
@@ -20,9 +37,11 @@ def with_attribute(text, function, paths):
     start = max((it for it in starts if it < function.line), default=min(starts))
     place = starts[start]
     kept = [it for it in lines[start:place] if not ATTRIBUTE.search(it)]
-    unfolding = [found[2] for found in map(ATTRIBUTE.search, lines[start:place]) if found and found[2]]
-    inner = ', '.join(['auto', *([f'using({", ".join(paths)})'] if paths else []), *(f'unfolding({it})' for it in unfolding)])
-    return ''.join([*lines[:start], *kept, f'{re.match(" *", lines[place])[0]}#[tactic({inner})]\n', *lines[place:]])
+    # it replaces the attribute of the function, or else of the file
+    old = ATTRIBUTE.search(''.join(lines[start:place])) or next((it for it in ATTRIBUTE.finditer(text) if it[1]), None)
+    groups = [it for it in paths if it.startswith(OPENED)]
+    new = attribute([it for it in paths if it not in groups], [*(opened(old) if old else []), *groups])
+    return ''.join([*lines[:start], *kept, f'{re.match(" *", lines[place])[0]}{new}\n', *lines[place:]])
 
 
 def with_sets(text, sets):
@@ -40,11 +59,6 @@ def with_sets(text, sets):
         lines = [it for it in lines if not it.startswith((f'pub ruleset {name} = ', f'-- {comment}'))]
         lines += ['', f'-- {comment}', f'pub ruleset {name} = ({", ".join(has[law] for law in laws)})']
     return re.sub(r'\n{3,}', '\n\n', '\n'.join(lines)) + '\n'
-
-
-def path(entry):
-    """A set as an attribute names it."""
-    return '::'.join([*entry[0].removeprefix('Rattle.').split('.'), entry[1]])
 
 
 def changes(folder, solutions):

@@ -2,8 +2,8 @@
 """prove.py CRATE [FUNCTION ..] [--write]
 
 Finds laws that prove what the check leaves open: in a whole crate, or in these functions, each named as the check names it, without the crate:
-`module::function` or `Type::call`. It prints what the attribute of each has to name: a set of laws of arbitrary_laws if one is enough, else a few
-laws, which become a `ruleset` of the crate's own proofs/Laws.antt.
+`module::function` or `Type::call`. It prints what the attribute of each has to name: a set of laws of arbitrary_laws if one is enough, in generic
+code a group that it opens, else a few laws, which become a `ruleset` of the crate's own proofs/Laws.antt.
 
 With `--write` it writes those attributes and that file, adds to crates.txt the libraries that have the laws, and checks again. It changes no
 contract and no body, and without `--write` nothing.
@@ -19,15 +19,14 @@ import sys
 import tempfile
 import time
 from concurrent.futures import ThreadPoolExecutor
-from contextlib import ExitStack
 from pathlib import Path
 
 if not shutil.which('rt'):
     sys.exit('prove.py: there is no rt on the PATH: install the Rattle kit, whose rt proves the crates')
 
-from attributes import changed, changes, path, write
+from attributes import changed, changes, without_laws, write
 from program import ROOT
-from relevance import Index, words
+from relevance import Index, is_group, path, words
 from wrong_bodies import KIT, PARTS, below, command, libraries
 
 # The crate that has the laws for callers. The libraries below it have more laws.
@@ -38,10 +37,10 @@ STARTED = time.monotonic()
 STEPS = 2000000
 FEW = 250000
 # What each round tries at a goal: with so many steps the sets up to this rank, one at a time, and so many of the best laws.
-ROUNDS = [[(FEW, 40, (8, 24))], [(STEPS, 12, (8,)), (FEW, 1000, (16, 48))], [(STEPS, 60, (24, 80))]]
+ROUNDS = [[(FEW, 40, (8, 24))], [(STEPS, 12, (8,)), (FEW, 1000, (16, 48))], [(STEPS, 1000, (24, 80))]]
 # The other goals of a function are tried with so many of the lists that close its first. A function gets so many steps at most.
 LISTS = 4
-MOST = 300000000
+MOST = 600000000
 # A check takes this much memory, in GB, and this many seconds at least.
 MEMORY = 2.5
 START = 15
@@ -51,7 +50,7 @@ ERROR = re.compile(r'^(?:\./)?(\S*:? ?error(?:\[[\w-]+\])?: .*)', re.M)
 UNKNOWN = re.compile(r'error: (`\w+` has no function `[^`]*`)')
 # What the check offers for a function with open goals: the file of its answers, and in it each goal.
 OFFER = re.compile(r'^help: write \./proofs/(\S+)/Answers\.antt with these lines.*\n((?:    .*\n|\n)*)', re.M)
-GOAL = re.compile(r'^pub (\S+) : (.+)\n(?:unfolding .*\n)?\1(.*) = \?$', re.M)
+GOAL = re.compile(r'^pub (\S+) : (.+)\n(?:unfolding (.*)\n)?\1(.*) = \?$', re.M)
 PLACE = re.compile(r'^-- (\S+\.rt):(\d+):\d+$', re.M)
 # A goal that values break, whatever the laws.
 FALSE = re.compile(r'^note: `(\S+)` of proofs/(\S+)/Answers\.antt may be false: the known facts allow (.*?): help', re.M)
@@ -62,7 +61,11 @@ NOTE = re.compile(r'^note: `(\S+)` of proofs/(\S+)/Answers\.antt must prove: (.*
 # What a check says of answers: an attempt that failed, and a goal with what is known there.
 FAILED = re.compile(r'^\./proofs/(\S+)/Answers\.antt:\d+:\d+: .*?`try-(\d+)`', re.M)
 HOLE = re.compile(r'^\./proofs/(\S+)/Answers\.antt:\d+:\d+: goal \? in `(\S+)`\n((?: .*\n)*)', re.M)
-USING = re.compile(r'(#!?\[tactic\(auto), using\([^)]*\)')
+# What comes before the names of what is known at a goal, and in their place where another goal has the same.
+KNOWN = 'names you can use'
+ABOVE = re.compile(r'as in `(\S+)` above')
+# A parameter of generic code, whose bound has laws.
+GENERIC = re.compile(r'\bg\.')
 
 
 class Stop(Exception):
@@ -81,13 +84,21 @@ class Function:
         file, line = PLACE.search(offer).groups()
         self.file, self.line = file, int(line)
         self.head = '\n'.join(it for it in offer.splitlines() if it.startswith('use '))
-        self.goals = {goal: (type_, rest) for goal, type_, rest in GOAL.findall(offer)}
+        self.goals = {goal: it for goal, *it in GOAL.findall(offer)}
         # by goal, values that break it whatever the laws
         self.broken = {}
         # by goal: what the check says of it, the lists that were tried with their steps, and those that closed it, the best first
         self.shown = dict.fromkeys(self.goals, '')
         self.tried = {goal: {} for goal in self.goals}
         self.closed = {goal: [] for goal in self.goals}
+
+    def said(self, goal):
+        """What the check says of a goal, with what it says of another where it refers to that."""
+        text, named = self.shown[goal], {goal}
+        while (found := ABOVE.search(text)) and found[1] in self.shown and found[1] not in named:
+            named.add(found[1])
+            text = text.replace(found[0], '') + self.shown[found[1]].partition(KNOWN)[2]
+        return text
 
     def open_goals(self):
         return [goal for goal in self.goals if not self.closed[goal]]
@@ -98,13 +109,15 @@ class Function:
         lines = [self.head, 'use Rattle.std.proofs.Common.{arith as the_arith}']
         lines += [f'use {module}.{{{name} as {here}}}' for (module, name), here in entries.items()]
         for number, (goal, laws, steps) in enumerate(attempts):
-            type_, rest = self.goals[goal]
-            name = f'try-{number}'
             call = ', '.join(['the_arith', *(entries[law] for law in laws)])
-            lines += ['', f'{name} : {type_}', f'{name}{rest} = grind ({call}) steps {steps}']
-        for goal, (type_, rest) in self.goals.items():
-            lines += ['', f'pub {goal} : {type_}', f'{goal}{rest} = ?']
+            lines += self.answer('', f'try-{number}', goal, f'grind ({call}) steps {steps}')
+        for goal in self.goals:
+            lines += self.answer('pub ', goal, goal, '?')
         return '\n'.join(lines) + '\n'
+
+    def answer(self, mark, name, goal, proof):
+        type_, opened, rest = self.goals[goal]
+        return ['', f'{mark}{name} : {type_}', *([f'unfolding {opened}'] if opened else []), f'{name}{rest} = {proof}']
 
 
 class Copies:
@@ -168,21 +181,32 @@ class Copies:
 
         self.side_by_side(work, self.rooms, shares)
 
-    def confirmed(self, solutions):
-        """Those of these functions that the check proves with their attributes."""
-        names = [it.name for it in solutions]
-        if not names:
+    def proved(self, room, solutions):
+        """Those of these functions that a check in this copy proves with their attributes."""
+        if not solutions:
             return {}
-        say(f'attributes: {len(names)} functions')
-        shares = [names[number :: self.count] for number in range(self.count)]
-        with ExitStack() as stack:
-            for room in self.rooms:
-                stack.enter_context(changed(changes(room / 'crate', solutions)))
-            said = self.side_by_side(lambda room, share: self.check(room, share) if share else '', self.rooms, shares)
-        proved = {name for it in said for name, verdict in verdicts(self.crate, it).items() if verdict == 'proved'}
+        with changed(changes(room / 'crate', solutions)):
+            verdict = verdicts(self.crate, self.check(room, [it.name for it in solutions]))
         for it, found in solutions.items():
-            say(f'{it.name}: {"proved" if it.name in proved else "not proved"} by {in_words(*found)}')
-        return {it: found for it, found in solutions.items() if it.name in proved}
+            say(f'{it.name}: {"proved" if verdict.get(it.name) == "proved" else "not proved"} by {in_words(*found)}')
+        return {it: found for it, found in solutions.items() if verdict.get(it.name) == 'proved'}
+
+    def confirmed(self, solutions):
+        """Those of these functions that the check proves with their attributes, a share in each copy."""
+        if solutions:
+            say(f'attributes: {len(solutions)} functions')
+        found = self.side_by_side(self.proved, self.rooms, shares(list(solutions.items()), self.count, dict))
+        return {it: by for proved in found for it, by in proved.items()}
+
+    def in_groups(self, functions, groups):
+        """Those of these functions that the check proves if their attribute opens a group. Each copy tries another group."""
+        confirmed = {}
+        for start in range(0, len(groups), self.count):
+            left = [it for it in functions if it not in confirmed]
+            tried = [{it: ([group], []) for it in left} for group in groups[start : start + self.count]]
+            for proved in self.side_by_side(self.proved, self.rooms, tried):
+                confirmed.update(proved)
+        return confirmed
 
     def side_by_side(self, work, *lists):
         """What this work returns for each entry of the lists. If one fails, or at an interrupt, it ends the running checks."""
@@ -196,6 +220,11 @@ class Copies:
                 raise
 
 
+def shares(listed, count, kind=list):
+    """So many parts of a list, one for each copy."""
+    return [kind(listed[number::count]) for number in range(count)]
+
+
 def cost(listed):
     """How long these attempts at a function take, in steps. The function itself takes some of them."""
     return STEPS + sum(steps for _, _, steps in listed)
@@ -203,7 +232,7 @@ def cost(listed):
 
 def strengths(shown, index):
     """The words of a goal and, with less strength, of what is known there: of the facts that are shown, and of what the calls before it ensure."""
-    goal, _, known = shown.partition('names you can use')
+    goal, _, known = shown.partition(KNOWN)
     facts = ' '.join(re.findall(r'^ *c\.\S+ : (.*)$', known, re.M))
     calls = {word for call in re.findall(r'\bc\.(\w+)', known) for word in index.ensured.get(call, ())}
     return {**dict.fromkeys(words(facts) | calls, 0.8), **dict.fromkeys(words(goal), 1.0)}
@@ -291,10 +320,10 @@ class Search:
     def round(self, what, plan):
         """Tries this at the first open goal of each function, and at the others if something closes it: if nothing does, the function stays open."""
         first = {it: it.open_goals()[0] for it in self.functions if it.open_goals()}
-        tried = self.try_all({(it, goal): self.choices(it.shown[goal], plan) for it, goal in first.items()}, what)
+        tried = self.try_all({(it, goal): self.choices(it.said(goal), plan) for it, goal in first.items()}, what)
         left = [it for it in tried if it.closed[first[it]] and it.open_goals()]
         self.try_all({(it, goal): with_all(it.closed[first[it]][:LISTS]) for it in left for goal in it.open_goals()}, f'{what}, other goals')
-        self.try_all({(it, goal): self.choices(it.shown[goal], plan) for it in left for goal in it.open_goals()}, f'{what}, goals apart')
+        self.try_all({(it, goal): self.choices(it.said(goal), plan) for it in left for goal in it.open_goals()}, f'{what}, goals apart')
         for it in tried:
             count = len(it.open_goals())
             say(f'{it.name}: {count} of {len(it.goals)} goals open')
@@ -360,29 +389,12 @@ class Search:
 
     def by_rank(self, function, rank):
         """The set of this rank for the first goal of a function."""
-        return [self.index.ranked_sets(strengths(next(iter(function.shown.values())), self.index))[rank]], []
+        return [self.index.ranked_sets(strengths(function.said(next(iter(function.goals))), self.index))[rank]], []
 
     def is_solved_without(self, function, named, laws):
-        """Drops what names one of these sets, or has no laws but these. Returns whether each goal is still closed by something."""
-        function.closed = {goal: [it for it in closed if it[0] not in named and not {*it} <= {*laws}] for goal, closed in function.closed.items()}
+        """Drops what has no sets and no laws but these. Returns whether each goal is still closed by something."""
+        function.closed = {goal: [it for it in closed if not {*it} <= {*named, *laws}] for goal, closed in function.closed.items()}
         return all(function.closed.values())
-
-    def by_one_set(self, functions):
-        """Tries each set at each goal of functions whose laws do not prove them together. Returns those that another choice may prove."""
-        first = {it: next(iter(it.goals)) for it in functions}
-        self.try_all({(it, goal): with_all([name] for name in self.index.for_callers) for it, goal in first.items()}, 'one set for all goals')
-        self.try_all({(it, goal): with_all(filter(self.is_set, it.closed[first[it]])) for it in functions for goal in it.goals}, 'one set for all goals')
-        return [it for it in functions if all(it.closed.values())]
-
-    def by_few_laws(self, functions):
-        """Tries the best laws and no set at each goal of functions that no set proves. Returns those that they may prove, with as few as do."""
-        plan = [(STEPS, 0, tuple(sorted(count for plan in ROUNDS for _, _, counts in plan for count in counts)))]
-        for function in functions:
-            function.closed = {goal: [it for it in closed if not self.is_set(it)] for goal, closed in function.closed.items()}
-        self.try_all({(it, goal): self.choices(it.shown[goal], plan) for it in functions for goal in it.open_goals()}, 'laws alone')
-        found = [it for it in functions if all(it.closed.values())]
-        self.lessen(found)
-        return found
 
 
 def likeness(here, there):
@@ -417,17 +429,17 @@ def first_check(crate, names, jobs):
 
 def found_in(copies, index, functions):
     """By function, what closes its goals as the check confirms it: public sets, and further laws."""
-    search, confirmed, refused = Search(copies, index, functions), {}, []
+    search, confirmed = Search(copies, index, functions), {}
     search.show_goals()
+    if generic := [it for it in functions if any(map(GENERIC.search, it.shown.values()))]:
+        say(f'groups: {len(generic)} functions')
+        confirmed = copies.in_groups(generic, index.groups)
     for number, plan in enumerate(ROUNDS, 1):
+        search.functions = [it for it in functions if it not in confirmed]
         search.round(f'round {number} of {len(ROUNDS)}', plan)
-        closed = [it for it in functions if it not in confirmed and not it.open_goals()]
+        closed = [it for it in search.functions if not it.open_goals()]
         search.lessen(closed)
         confirmed.update(search.confirmed(closed))
-        refused += [it for it in closed if it not in confirmed and it not in refused]
-    # laws that close a goal can keep the search from another goal of the function
-    for further in (search.by_one_set, search.by_few_laws):
-        confirmed.update(search.confirmed(further([it for it in refused if it not in confirmed])))
     # the check does more with an attribute than with an attempt
     for rank in range(LISTS):
         confirmed.update(copies.confirmed({it: search.by_rank(it, rank) for it in functions if it not in confirmed}))
@@ -437,18 +449,15 @@ def found_in(copies, index, functions):
 def bare(copies, names):
     """Those of these functions that have open goals without the laws of attributes, which a new attribute replaces. Takes those away from them in
     each copy."""
-    source = copies.rooms[0] / 'crate/src'
-    texts = {file: file.read_text() for file in source.rglob('*.rt')}
-    write({file: USING.sub(r'\1', text) for file, text in texts.items()})
+    texts = {file: file.read_text() for room in copies.rooms for file in (room / 'crate/src').rglob('*.rt')}
+    write({file: without_laws(text) for file, text in texts.items()})
     say('the goals without the laws of attributes')
-    said = copies.check(copies.rooms[0], names)
+    said = ''.join(copies.side_by_side(lambda room, share: copies.check(room, share) if share else '', copies.rooms, shares(names, copies.count)))
     write(texts)
     found = offers(said)
     for name in (name for name in names if name not in found):
         say(f'{name}: without laws {verdicts(copies.crate, said).get(name, "unknown")}')
     functions = [found[name] for name in names if name in found]
-    for room in copies.rooms[1:]:
-        shutil.copytree(copies.rooms[0] / 'kept', room / 'kept', dirs_exist_ok=True)
     for room in copies.rooms:
         write(changes(room / 'crate', {it: ([], []) for it in functions}))
     return functions
@@ -457,7 +466,7 @@ def bare(copies, names):
 def texts_with(crate, folder, solutions):
     """The new text of each file that gets these attributes and laws, and of crates.txt where it lacks the libraries that have them."""
     new = changes(folder, solutions)
-    needed = {entry[0].split('.')[1] for named, laws in solutions.values() for entry in [*named, *laws]} & set(libraries())
+    needed = {path(entry).split('::')[0] for named, laws in solutions.values() for entry in [*named, *laws]} & set(libraries())
     if lacking := sorted(needed - {*libraries()[crate], crate}):
         file = ROOT / 'crates.txt'
         new[file] = re.sub(rf'^({crate}\b[^:\n]*):?', rf'\1: {" ".join(lacking)}', file.read_text(), flags=re.M)
@@ -487,7 +496,7 @@ def searched(crate, names, functions, jobs):
     index = Index([ROOT / 'crates' / it for it in with_laws], KIT / 'rattle')
     with tempfile.TemporaryDirectory(prefix='prove-') as room:
         copies = Copies(crate, Path(room), uses, jobs)
-        has_laws = any(USING.search(file.read_text()) for file in (copies.folder / 'src').rglob('*.rt'))
+        has_laws = any(without_laws(text) != text for text in map(Path.read_text, (copies.folder / 'src').rglob('*.rt')))
         functions = bare(copies, names) if has_laws else functions
         return functions, found_in(copies, index, functions)
 
@@ -512,7 +521,8 @@ def prove(crate, names, is_writing, is_anew, jobs):
         verdict = written(crate, folder, solutions, names, jobs)
     for function, (named, laws) in solutions.items():
         if verdict[function.name] == 'proved':
-            print(f'proved: {function.name}: using {", ".join([*map(path, named), *(law for _, law in laws)])}')
+            word = 'unfolding' if any(map(is_group, named)) else 'using'
+            print(f'proved: {function.name}: {word} {", ".join([*map(path, named), *(law for _, law in laws)])}')
     left = [name for name in unproved if verdict[name] != 'proved']
     for name in left:
         it = functions.get(name)

@@ -22,6 +22,18 @@ GIVES = re.compile(r'^ +ghost (\w+)_gives = \{(.*(?:\n {9,}.*)*)', re.M)
 COMPARISONS = {'eq': {'int_eq'}, **{it: {'int_cmp', f'is_{it}'} for it in ('lt', 'le', 'gt', 'ge')}}
 # Words that a term has whatever it is about.
 PLAIN = set('≡ ≢ ℕ ℤ × ⊎ ∷ [] pos suc zero Bool true false List Width InRange IsTrue Decides'.split())
+# The module of the groups of laws of bounds, and the public one, which an attribute names to open a group.
+GROUPS, PUBLIC_GROUPS = 'Rattle.arbitrary_core.proofs.GenericLaws', 'Rattle.arbitrary_int.specs.GenericLaws'
+
+
+def path(entry):
+    """A law, a set or a group as an attribute names it."""
+    module = PUBLIC_GROUPS if is_group(entry) else entry[0]
+    return '::'.join([*module.split('.')[1:], entry[1]])
+
+
+def is_group(entry):
+    return entry[0] == GROUPS
 
 
 def imports(text):
@@ -67,16 +79,17 @@ class Index:
 
     def __init__(self, crates, kit):
         """Reads the crates of these folders, of which the first has the sets for callers, and of the kit the laws that those sets have."""
-        self.laws, self.sets, gives, ensured, names = {}, {}, dict(COMPARISONS), {}, set()
+        self.laws, self.sets, self.groups, gives, ensured, names = {}, {}, [], dict(COMPARISONS), {}, set()
         for crate in crates:
             for file in sorted(it for part in ('specs', 'proofs') for it in (crate / part).rglob('*.antt')):
                 text, top = file.read_text(), crate / file.relative_to(crate).parts[0]
                 imported = imports(text)
                 names.update(name for module, name in imported.values() if '.specs' in module or module.startswith('Prim'))
+                module = '.'.join(['Rattle', *file.relative_to(crate.parent).with_suffix('').parts])
                 if top.name == 'specs':
                     names.update(DEFINED.findall(text))
-                elif self.is_public(top, file):
-                    module = '.'.join(['Rattle', *file.relative_to(crate.parent).with_suffix('').parts])
+                    self.groups += filter(is_group, imported.values() if module == PUBLIC_GROUPS else [])
+                elif module != GROUPS and self.is_public(top, file):
                     self.laws.update(((module, name), text) for name, text in laws(text))
                     for name, members in SET.findall(text):
                         self.sets[module, name] = [imported.get(it, (module, it)) for it in members.split(', ')]
