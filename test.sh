@@ -35,9 +35,10 @@ python3 tools/wrong_bodies.py --some 4 arbitrary_base arbitrary_traits arbitrary
     arbitrary_base/{multiplies_as_often_as_the_exponent_says,quotient_rounds_down,shifts_left_without_the_mask,sum_drops_the_width} \
     arbitrary_int/{leaves_the_narrow_registers_alone_at_a_stop,leaves_zero_in_the_registers,masks_first_and_runs_narrow_only} \
     bit_fields/{clears_the_bits_above_the_field,every_two_fields_are_disjoint,no_two_fields_are_disjoint}
-# prove.py must find laws again for functions whose attributes it does not read
+# prove.py must find laws again for functions whose attributes it does not read, and in generic code a group
 python3 tools/prove.py --anew --jobs 1 laws_shifts reversals::rev_and rotations::rotl_and shifts::shl_and right_rotations::and_turned \
-    moved_bits::complement_moved back_rotations::left_is_right_by_the_rest
+    moved_bits::complement_moved
+python3 tools/prove.py --anew --jobs 1 facts_generic groups::bit_sums::other_bits_by_difference
 times > "$spent"
 awk -F '[ms ]+' -v wall="$SECONDS" '{ sum += 60 * ($1 + $3) + $2 + $4 }
     END { printf "processor seconds %.0f, wall %.0f min\n", sum, wall / 60 }' "$spent"
