@@ -103,12 +103,13 @@ use Rattle.arbitrary_laws.proofs.sums.Ring.{difference-of_difference_right, diff
 use Rattle.arbitrary_laws.proofs.sums.Saturations.{clamped-difference_twice, clamped-differences_exchanged, difference-of_clamped_sum}
 use Rattle.arbitrary_laws.proofs.sums.SerialNumbers.{none-apart, step-back, turned-none, turned-of_least, turned-with_sign, turned-without_sign}
 use Rattle.arbitrary_laws.proofs.sums.WrappedWords.{word_difference-right, word_sum-after, word_sum-before, word_sum-left, wrap-masked, wrap-remainder, wrap-word_difference}
-use Rattle.arbitrary_laws.proofs.words.ApartParts.{apart_joined, apart_parts, below_moved, below_within, into_within, joined_apart, masked_within, moved_above, moved_within, or_apart, within_above, within_apart, within_around}
+use Rattle.arbitrary_laws.proofs.words.ApartParts.{apart_parts}
+use Rattle.arbitrary_laws.proofs.words.JoinedReads.{joined_reads}
 use Rattle.arbitrary_laws.proofs.words.LowestZeros.{lowest_by_zeros}
 use Rattle.arbitrary_laws.proofs.words.MergedParts.{merges}
 use Rattle.arbitrary_laws.proofs.words.Multiples.{multiples}
 use Rattle.arbitrary_laws.proofs.words.OverflowFlags.{one_bits}
-use Rattle.arbitrary_laws.proofs.words.WrittenMasks.{and_none, and_runs, differing, written_masks}
+use Rattle.arbitrary_laws.proofs.words.WrittenMasks.{and_none, and_runs, differing, differing_above, written_masks}
 use Rattle.arbitrary_laws.proofs.written.AnyWidth.{negative-in_range, number-in_range, number-in_range_signed}
 use Rattle.arbitrary_laws.proofs.written.KnownBytes.{bytes-of_negative, bytes-of_positive}
 use Rattle.arbitrary_laws.proofs.written.KnownCount.{popcount-of_numeral}
@@ -142,13 +143,12 @@ pub ruleset orders = (Decides-int_eq, le-tested, lt-tested, ge-tested, gt-tested
 -- conversions, quotients, remainders, small powers, and calls on written numbers
 pub ruleset numbers = (wrap-of_in_range, wrap-congruent, wrap-wrap, clamp-fits, length-bits, num-bits_residue, val-bits_in_range, in_range-tells, sums-associate, or_three, signed_primitive, sum-right, sum-left, difference-right, difference-left, product-right, product-left, word_sum-right, congruent-by_remainder, Decides-int_eq, wrap-wide, and-truncated, or-truncated, xor-truncated, not-truncated, sum-truncated, difference-truncated, product-truncated, left-truncated, left_rotation-converted, right_rotation-converted, reversal-converted, and-at_128, or-at_128, xor-at_128, shifted_right-is_shr, primitive_and, primitive_or, primitive_xor, sum-exact, difference-exact, product-exact, sum-left_of_ExactSums, sum-right_of_ExactSums, difference-left_of_ExactSums, difference-right_of_ExactSums, sum-converted, difference-converted, product-converted, sum-of_sum, sum-of_difference_of_ExactSums, difference-of_sum_of_ExactSums, difference-of_difference, quotient-beside, quotient-orders, quotient-of_product, quotient-of_quotient, signed_quotient-beside, signed_quotient-below, signed_quotient-orders, signed_quotient-by_more, quotient-of_parts, signed_quotient-of_parts, lt-tested, le-tested, quotient-none, quotient-of_next, quotients-exchanged, quotient-of_negated, quotients-ordered, ints, gt-tested, ge-tested, signed_quotient-with_remainder, quotient-with_remainder, power-zero, power-one, power-twice, power-thrice, quotient-self, quotient-times, wrap-of_positive, wrap-of_negative, signed_wrap-of_positive, signed_wrap-of_negative, and-of_positive, or-of_positive, xor-of_positive, not-of_positive, left-of_positive, right-of_positive, rotated_left-of_positive, rotated_right-of_positive, reversed-of_positive, and-of_negative, or-of_negative, xor-of_negative, not-of_negative, left-of_negative, right-of_negative, rotated_left-of_negative, rotated_right-of_negative, reversed-of_negative, and-with_negative, or-with_negative, xor-with_negative, popcount-of_numeral, popcount-of_negative, front-of_numeral, front-of_negative, front_ones-of_numeral, front_ones-of_negative, tail-of_numeral, tail_ones-of_negative, tail_ones-of_numeral, bytes-of_positive, bytes-of_negative, number-in_range, number-in_range_signed, negative-in_range, mod_self, apart-at_least, apart-above, turned-none, turned-with_sign, turned-of_least, turned-without_sign, step-back, none-apart, least-falls, greatest-rises, power-rises)
 
--- register words: any expression of `&`, `|`, `^`, `!`, shifts and conversions over written masks is a sum of fields. The laws compute on the
--- masks, so none of them says how many fields there are, or how wide they are
-pub ruleset words = (written_masks, apart_parts, multiples, merges, lowest_by_zeros)
+-- register words of primitives: any expression of `&`, `|`, `^`, `!`, shifts, rotations and conversions over written masks is a sum of fields. The
+-- laws compute on the masks, so none of them says how many fields there are, or how wide they are
+pub ruleset words = (written_masks, apart_parts, multiples, merges, lowest_by_zeros, rotated_left-number, rotated_right-number, ints)
 
--- the same for a `UInt` whose lowest field is written and whose rest stays, and for pages of a `UInt` that are compared: fewer laws of parts, and
--- the range of a number. With all laws of `words` these take the search to its limits
-pub ruleset uint_words = (and_runs, and_none, differing, or_apart, joined_apart, apart_joined, masked_within, moved_within, within_apart, within_above, below_within, moved_above, below_moved, within_around, into_within, val-bits_in_range, ints)
+-- words of a `UInt` with fewer laws, and each field read by itself. With all laws of `words` these take the search to its limits
+pub ruleset uint_words = (and_runs, and_none, differing, differing_above, apart_parts, joined_reads, rotated_left-number, rotated_right-number)
 
 -- carry, overflow and borrow by one bit of a primitive or a `UInt`
 pub ruleset overflow_flags = (one_bits, ints)

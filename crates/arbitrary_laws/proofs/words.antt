@@ -2,6 +2,7 @@
 pub mod LowestOne
 pub mod LowestZeros
 pub mod WrittenMasks
+pub mod JoinedReads
 pub mod ApartParts
 pub mod Multiples
 pub mod MergedParts

@@ -65,3 +65,10 @@ pub fn lowest_pending(pending: u32) -> bool
 {
     pending & pending.wrapping_neg() == 1 << pending.trailing_zeros()
 }
+
+/// Whether two addresses are in one line of a cache.
+pub fn same_line(a: u32, b: u32) -> bool
+    ensures { IsTrue result ↔ (a / 64 ≡ b / 64) }
+{
+    (a ^ b) >> 6 == 0
+}

@@ -1,7 +1,9 @@
 //! Instructions of RISC-V and ARM, encoded and decoded with constant masks and shifts.
 #![tactic(auto, using(arbitrary_laws::proofs::Sets::words))]
 
-ghost use Rattle.std.specs.Prelude.{◌≡◌, ◌/◌, ◌%◌, ◌*◌, ◌+◌, ◌<◌};
+ghost use Rattle.std.specs.Prelude.{◌≡◌, ◌/◌, ◌%◌, ◌*◌, ◌+◌, ◌<◌, ◌*ℤ◌, ◌+ℤ◌, pos};
+
+use arbitrary_int::prelude::*;
 
 /// The distance of a branch, without its sign.
 pub fn b_immediate(word: u32) -> u32
@@ -55,4 +57,20 @@ pub fn arm_data(cond: u32, opcode: u32, s: u32, rn: u32, rd: u32, operand: u32) 
         + rn * 65536 + rd * 4096 + operand }
 {
     (cond << 28) | (1 << 25) | (opcode << 21) | (s << 20) | (rn << 16) | (rd << 12) | operand
+}
+
+/// Writes the register that a load reads from.
+pub fn with_base(word: u32, base: u5) -> u32
+    ensures low { result % 32768 ≡ word % 32768 }
+    ensures base { pos (result / 32768 % 32) ≡ base }
+    ensures high { result / 1048576 ≡ word / 1048576 }
+{
+    (word & !(0x1F << 15)) | (base.as_u32() << 15)
+}
+
+/// The byte of the operands of an instruction of x86.
+pub fn operands(mode: u2, register: u3, memory: u3) -> u8
+    ensures { pos result ≡ mode *ℤ pos 64 +ℤ register *ℤ pos 8 +ℤ memory }
+{
+    (mode.value() << 6) | (register.value() << 3) | memory.value()
 }

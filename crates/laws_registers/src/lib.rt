@@ -1,5 +1,5 @@
 //! Register words under constant masks, with contracts in quotients and remainders. None has a proof of its own:
-//! each file names one public set of laws, `words` or `overflow_flags`, and a few functions name a smaller set.
+//! each file names `words`, `uint_words` or `overflow_flags`, and a few functions name another set.
 #![tactic(auto)]
 
 pub mod addresses;

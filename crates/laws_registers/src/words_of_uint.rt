@@ -1,5 +1,5 @@
 //! Words of a `UInt` with constant masks and shifts. The contracts are in quotients and remainders.
-#![tactic(auto, using(arbitrary_laws::proofs::Sets::words))]
+#![tactic(auto, using(arbitrary_laws::proofs::Sets::uint_words))]
 
 ghost use Rattle.std.specs.Prelude.{◌≡◌, ◌↔◌, ◌%◌, ◌+ℤ◌, ◌*ℤ◌, ◌<ℤ◌, pos, int_rem, int_div, IsTrue};
 
@@ -60,6 +60,7 @@ pub fn three(a: u4, b: u3, c: u5) -> u12
 }
 
 /// A byte and a carry in front, rotated up by one place.
+#[tactic(auto, using(arbitrary_laws::proofs::Sets::words))]
 pub fn rotated_with_carry(word: u9) -> u9
     ensures { result ≡ int_rem word (pos 256) *ℤ pos 2 +ℤ int_div word (pos 256) }
 {
@@ -96,7 +97,6 @@ pub fn tested(v: u15) -> bool
 }
 
 /// Writes the lowest field from a number of its own width. The others stay.
-#[tactic(auto, using(arbitrary_laws::proofs::Sets::uint_words))]
 pub fn coarse(v: u15, x: u5) -> u15
     ensures low { int_rem result (pos 32) ≡ x }
     ensures high { int_div result (pos 32) ≡ int_div v (pos 32) }
@@ -113,7 +113,6 @@ pub fn middle(v: u24, x: u4) -> u24
 }
 
 /// Whether two addresses are in one page of 64.
-#[tactic(auto, using(arbitrary_laws::proofs::Sets::uint_words))]
 pub fn same_page(a: u12, b: u12) -> bool
     ensures { IsTrue result ↔ (int_div a (pos 64) ≡ int_div b (pos 64)) }
 {
@@ -121,6 +120,7 @@ pub fn same_page(a: u12, b: u12) -> bool
 }
 
 /// The middle field of another word, merged without a second mask.
+#[tactic(auto, using(arbitrary_laws::proofs::Sets::words))]
 pub fn merged(word: u24, field: u24) -> u24
     ensures low { int_rem result (pos 16) ≡ int_rem word (pos 16) }
     ensures middle { int_rem (int_div result (pos 16)) (pos 256)
@@ -128,4 +128,38 @@ pub fn merged(word: u24, field: u24) -> u24
     ensures high { int_div result (pos 4096) ≡ int_div word (pos 4096) }
 {
     word ^ ((field ^ word) & u24::new(0xFF0))
+}
+
+/// Writes a register's number into an instruction.
+#[tactic(auto, using(arbitrary_laws::proofs::words::JoinedReads::masked_reads))]
+pub fn with_register(word: u28, register: u3) -> u28
+    ensures field { int_rem (int_div result (pos 1024)) (pos 8) ≡ register }
+    ensures low { int_rem result (pos 1024) ≡ int_rem word (pos 1024) }
+    ensures high { int_div result (pos 8192) ≡ int_div word (pos 8192) }
+{
+    (word & !u28::new(0x1C00)) | (u28::from_(register) << 10)
+}
+
+/// The row and the line of one scroll register with the rest of another.
+pub fn with_rows(v: u15, t: u15) -> u15
+    ensures column { int_rem result (pos 32) ≡ int_rem v (pos 32) }
+    ensures row { int_rem (int_div result (pos 32)) (pos 32)
+        ≡ int_rem (int_div t (pos 32)) (pos 32) }
+    ensures line { int_div result (pos 4096) ≡ int_div t (pos 4096) }
+{
+    (v & u15::new(0x041F)) | (t & u15::new(0x7BE0))
+}
+
+/// Whether two addresses are in one page of 4,096.
+pub fn same_page_by_shift(a: u20, b: u20) -> bool
+    ensures { IsTrue result ↔ (int_div a (pos 4096) ≡ int_div b (pos 4096)) }
+{
+    (a ^ b) >> 12 == u20::new(0)
+}
+
+/// A rotation by a written amount.
+pub fn rotated(word: u9) -> u9
+    ensures { result ≡ int_rem word (pos 128) *ℤ pos 4 +ℤ int_div word (pos 128) }
+{
+    word.rotate_left(2)
 }

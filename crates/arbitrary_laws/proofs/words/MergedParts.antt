@@ -3,7 +3,7 @@ use Rattle.std.specs.Prelude.{◌≡◌, ℕ, suc, ◌+◌, ◌-◌}
 use Rattle.std.specs.Int.Bits.{bit_and, bit_xor, xor_add_and}
 use lib.Bits.{and_self}
 use Rattle.std.proofs.Common.{sym, ap, ◌∙◌, arith}
-use Rattle.std.proofs.lemmas.Nat.{and_assoc, and_comm, xor_comm}
+use Rattle.std.proofs.lemmas.Nat.{and_assoc, xor_comm}
 use Rattle.std.proofs.lemmas.Nat.Bits.{bit_at_and, bit_at_xor, same_from_bits}
 
 module _ (n m : ℕ) where

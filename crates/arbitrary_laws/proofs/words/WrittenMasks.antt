@@ -6,9 +6,9 @@ use Rattle.std.specs.Int.{bit_at}
 use lib.Bits.{xor_self}
 use Rattle.std.proofs.Common.{refl, sym, ap, ap₂, ◌∙◌, arith, div-add-mod', mod-lt}
 use Rattle.std.proofs.Math.Nat.{add-mul, mod-mod}
-use Rattle.std.proofs.lemmas.Nat.{and_assoc, and_block, and_comm, and_le_l, and_le_r, and_mask, pow_pos, shl-shr}
+use Rattle.std.proofs.lemmas.Nat.{and_assoc, and_block, and_comm, and_le_l, and_le_r, and_mask, pow_pos, shl-shr, xor_shr}
 use Rattle.std.proofs.lemmas.Nat.Bits.{bit_at_and, bit_at_xor, bit_at-lt, same_from_bits}
-use Rattle.arbitrary_laws.proofs.words.LowestOne.{low_bit, low_power, none}
+use Rattle.arbitrary_laws.proofs.words.LowestOne.{low_bit, low_power, none, power}
 
 -- a mask that is moved up
 pub up : (n a k : ℕ) → bit_and n (a * 2 ^ k) ≡ bit_and (n / 2 ^ k) a * 2 ^ k
@@ -111,7 +111,10 @@ and_of_xor a b m =
         ∙ digits (bit_at x i) (bit_at y i) (bit_at z i) (bit_at-lt x i) (bit_at-lt y i) (bit_at-lt z i)
         ∙ sym (bit_at_xor (bit_and x z) (bit_and y z) i ∙ ap₂ (λ (n k : ℕ). (n + k) % 2) (bit_at_and x z i) (bit_at_and y z i))
 
--- the first part of the conclusion shows the search what to match
+same_from_xor : (x y : ℕ) → bit_xor x y ≡ 0 → x ≡ y
+same_from_xor x y e = omega (arith, e, xor_add_and x y, and_le_l x y, and_le_r x y)
+
+-- the first part of each conclusion shows the search what to match
 pub differing : (a b m : ℕ) → (bit_and (bit_xor a b) (suc m) ≡ bit_and (bit_xor a b) (suc m))
     × ((bit_and (bit_xor a b) (suc m) ≡ 0 → bit_and a (suc m) ≡ bit_and b (suc m))
     × (bit_and a (suc m) ≡ bit_and b (suc m) → bit_and (bit_xor a b) (suc m) ≡ 0))
@@ -119,7 +122,18 @@ differing a b m =
     let x = bit_and a (suc m) in
     let y = bit_and b (suc m) in
     let e = and_of_xor a b m in
-    (refl, (λ f. omega (arith, e, f, xor_add_and x y, and_le_l x y, and_le_r x y), λ f. e ∙ ap (λ (i : ℕ). bit_xor i y) f ∙ xor_self y))
+    (refl, (λ f. same_from_xor x y (sym e ∙ f), λ f. e ∙ ap (λ (i : ℕ). bit_xor i y) f ∙ xor_self y))
+
+-- likewise for all bits from a place on
+pub differing_above : (a b d : ℕ) → 0 < d → bit_and d (d - 1) ≡ 0 → (bit_xor a b / d ≡ bit_xor a b / d)
+    × ((bit_xor a b / d ≡ 0 → a / d ≡ b / d) × (a / d ≡ b / d → bit_xor a b / d ≡ 0))
+differing_above a b d c p =
+    let h = power d c p in
+    let x = a / d in
+    let y = b / d in
+    let e : bit_xor a b / d ≡ bit_xor x y =
+    ap (λ (i : ℕ). bit_xor a b / i) h.1 ∙ xor_shr a b h.0 ∙ sym (ap (λ (i : ℕ). bit_xor (a / i) (b / i)) h.1) in
+    (refl, (λ f. same_from_xor x y (sym e ∙ f), λ f. e ∙ ap (λ (i : ℕ). bit_xor i y) f ∙ xor_self y))
 
 -- a word under written masks, written numbers that are set in it or turned over, and words that differ under a mask
-pub ruleset written_masks = (and_runs, and_none, and_of_and, through_runs, through_none, or_written, written_or, xor_written, differing)
+pub ruleset written_masks = (and_runs, and_none, and_of_and, through_runs, through_none, or_written, written_or, xor_written, differing, differing_above)
