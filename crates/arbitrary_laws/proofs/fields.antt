@@ -4,11 +4,9 @@ pub mod FieldReads
 pub mod JoinedFields
 pub mod JoinedWords
 pub mod LowestField
-pub mod MaskedField
 pub mod MovedIn
 pub mod PlacedField
 pub mod PrimitiveFlags
-pub mod ReadBack
 pub mod ReplacedField
 pub mod SideBySide
 pub mod SignedField

@@ -1,5 +1,5 @@
 //! Fields that are written in place into a number of these types. The other bits do not change.
-#![tactic(auto, using(arbitrary_laws::proofs::fields::Rulesets::cleared_fields))]
+#![tactic(auto, using(arbitrary_laws::proofs::words::JoinedReads::masked_reads))]
 
 ghost use Rattle.std.specs.Prelude.{◌≡◌, ◌/◌, ◌%◌, unsigned_abs};
 

@@ -1,5 +1,5 @@
 //! The bits of a byte under a constant mask, shifted and joined: colours of fewer bits, instructions, text.
-#![tactic(auto, using(arbitrary_laws::proofs::fields::MaskedField::masked_fields))]
+#![tactic(auto, using(arbitrary_laws::proofs::Sets::words))]
 
 ghost use Rattle.std.specs.Prelude.{◌≡◌, ◌+◌, ◌*◌, ◌/◌, pos, ◌+ℤ◌, ◌*ℤ◌};
 

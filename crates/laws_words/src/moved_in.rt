@@ -1,6 +1,6 @@
 //! Numbers that are shifted left, also past the end of their type, with new bits at the low end: shift
 //! registers, writers of bits.
-#![tactic(auto, using(arbitrary_laws::proofs::fields::Rulesets::moved_in))]
+#![tactic(auto, using(arbitrary_laws::proofs::Sets::uint_words))]
 
 ghost use Rattle.std.specs.Prelude.{◌≡◌, ◌/◌, ◌%◌, ◌+ℤ◌, ◌*ℤ◌, pos, unsigned_abs, IsTrue, if◌then◌else◌};
 
@@ -19,6 +19,7 @@ pub fn nibble_read_back(word: u24, nibble: u4) -> u4
     longer.as_::<u4>()
 }
 
+#[tactic(auto, using(arbitrary_laws::proofs::Sets::words))]
 pub fn rotated_through_carry(x: u12, carry: u1) -> (u12, u1)
     ensures { pos 2 *ℤ x +ℤ carry ≡ result.0 +ℤ pos 4096 *ℤ result.1 }
 {

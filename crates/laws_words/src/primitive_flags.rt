@@ -1,5 +1,5 @@
 //! Flags of a primitive under a constant mask: set, cleared, toggled and tested. The other fields do not change.
-#![tactic(auto, using(arbitrary_laws::proofs::fields::Rulesets::primitive_flags))]
+#![tactic(auto, using(arbitrary_laws::proofs::Sets::words))]
 
 ghost use Rattle.std.specs.Prelude.{◌≡◌, ◌↔◌, ◌/◌, ◌%◌, ◌+◌, IsTrue};
 

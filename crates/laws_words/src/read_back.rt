@@ -1,5 +1,5 @@
 //! One of three fields that were joined by `|`, read back in the same function.
-#![tactic(auto, using(arbitrary_laws::proofs::fields::Rulesets::read_back))]
+#![tactic(auto, using(arbitrary_laws::proofs::Sets::words))]
 
 ghost use Rattle.std.specs.Prelude.{IsTrue};
 
@@ -12,6 +12,7 @@ pub fn first(hour: u5, minute: u6, second: u5) -> bool
     (word >> 11).as_::<u5>() == hour
 }
 
+#[tactic(auto, using(arbitrary_laws::proofs::Sets::uint_words))]
 pub fn middle_byte(a: u8, b: u8, c: u8) -> bool
     ensures { IsTrue result }
 {

@@ -1,5 +1,5 @@
 //! Fields that are written in place into a word. The other bits do not change.
-#![tactic(auto, using(arbitrary_laws::proofs::fields::Rulesets::replaced_fields))]
+#![tactic(auto, using(arbitrary_laws::proofs::Sets::words))]
 
 ghost use Rattle.std.specs.Prelude.{◌≡◌, ◌/◌, ◌%◌, ◌*◌, ◌+◌, ◌+ℤ◌, ◌*ℤ◌, pos, if◌then◌else◌};
 ghost use Rattle.arbitrary_int.specs.Field.{field};

@@ -1,12 +1,11 @@
 -- A number that is shifted left, also past the end of its type, with new bits joined below it by `|`:
--- `(history << 1) | bit`; and two or three fields below a constant: `0xD000 | (x << 8) | (y << 4) | n`.
--- SideBySide.antt has fields that lose no bit.
+-- `(history << 1) | bit`. SideBySide.antt has fields that lose no bit.
 use Rattle.std.specs.Prelude.{◌≡◌, ℕ, ◌+◌, ◌*◌, ◌/◌, ◌%◌, ◌^◌, ◌<◌}
 use Rattle.std.specs.Int.Bits.{bit_or}
-use Rattle.std.proofs.Common.{sym, ap, subst, ◌∙◌, arith, div-add-mod', mod-eq_of_lt}
+use Rattle.std.proofs.Common.{ap, subst, ◌∙◌, arith}
 use Rattle.std.proofs.Math.Arith.{mod-mul}
 use Rattle.std.proofs.Math.Nat.{mod-mod, mul-add-mod_self_right, mul-mod_left}
-use Rattle.std.proofs.lemmas.Grind.{low_zeros, or_after_shift}
+use Rattle.std.proofs.lemmas.Grind.{low_zeros}
 use Rattle.std.proofs.lemmas.Nat.{or_comm}
 use Rattle.arbitrary_laws.proofs.fields.SideBySide.{beside}
 
@@ -23,19 +22,3 @@ or_moved_in x c w b p q e g =
 
 pub or_moved_above : (b x c w : ℕ) → c ≡ 2 ^ low_zeros 128 c → 0 < w / c → w ≡ w / c * c → b < c → bit_or b (x * c % w) ≡ x * c % w + b
 or_moved_above b x c w p q e g = or_comm b (x * c % w) ∙ or_moved_in x c w b p q e g
-
-regroup : (x m d y : ℕ) → x * (m * d) + y * d ≡ (x * m + y) * d
-regroup x m d y = grind arith
-
-pub or_two_moved_in : (x c w y d v b : ℕ) → c ≡ 2 ^ low_zeros 128 c → d ≡ 2 ^ low_zeros 128 d → c ≡ c / d * d → 0 < w / c → w ≡ w / c * c
-    → y * d < c → b < d → y * d < v → bit_or (bit_or (x * c % w) (y * d % v)) b ≡ x * c % w + y * d + b
-or_two_moved_in x c w y d v b p o r q e g h j =
-    let s : y * d % v ≡ y * d = mod-eq_of_lt j in
-    let first : bit_or (x * c % w) (y * d % v) ≡ x * c % w + y * d = ap (bit_or (x * c % w)) s ∙ or_moved_in x c w (y * d) p q e g in
-    let l = none_below x c w (omega arith) q e in
-    let t = div-add-mod' (x * c % w) c in
-    let u = x * c % w / c in
-    let m : x * c % w ≡ u * c = omega arith in
-    let z : x * c % w + y * d ≡ (u * (c / d) + y) * d = ap (λ (n : ℕ). n + y * d) m ∙ ap (λ (n : ℕ). u * n + y * d) r ∙ regroup u (c / d) d y in
-    let a : (u * (c / d) + y) * d % ((u * (c / d) + y) * d + 1) ≡ (u * (c / d) + y) * d = mod-eq_of_lt (omega arith) in
-    ap (λ (n : ℕ). bit_or n b) (first ∙ z ∙ sym a) ∙ or_after_shift (u * (c / d) + y) d ((u * (c / d) + y) * d + 1) b o h (omega arith) ∙ ap (λ (n : ℕ). n + b) (sym z)

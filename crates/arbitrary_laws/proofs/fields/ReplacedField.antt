@@ -13,7 +13,6 @@ use Rattle.arbitrary_base.proofs.operations.BitsAndSums.{and-in_range}
 use Rattle.arbitrary_base.proofs.operations.Bitwise.{bitwise_and-commutes, bitwise_or-commutes}
 use Rattle.arbitrary_base.proofs.operations.Definition.{not-in_range}
 use Rattle.arbitrary_laws.proofs.bits.Identities.{and-distributes_or, bitwise_and-associates, bitwise_and-complement, bitwise_and-same, bitwise_and-zero, bitwise_or-zero}
-use Rattle.arbitrary_laws.proofs.fields.SideBySide.{beside}
 use Rattle.arbitrary_laws.proofs.masks.NumberUnderMask.{and-digits, and-of_cleared, or-by_and}
 
 -- ---- in a primitive, where the mask is a number that is written out
@@ -44,13 +43,6 @@ or_into_hole w m y d v p e g h =
     let i : n / 2 ^ k % 2 ^ low_zeros 128 (n / 2 ^ k) ≡ 0 = rw (← p) e in
     let z : bit_and n (y * d) ≡ 0 = ap (λ (c : ℕ). bit_and n (y * c)) p ∙ apart n y k f i in
     ap (bit_or (bit_and w n)) (mod-eq_of_lt h) ∙ or_disjoint (bit_and w n) (y * d) (and_assoc (y * d) w n ∙ ap (bit_and w) z ∙ none w)
-
--- at the lowest place
-pub or_below_mask : (w m b : ℕ) → suc m % 2 ^ low_zeros 128 (suc m) ≡ 0 → b < 2 ^ low_zeros 128 (suc m) → bit_or (bit_and w (suc m)) b ≡ bit_and w (suc m) + b
-or_below_mask w m b e g =
-    let k = low_zeros 128 (suc m) in
-    let c : bit_and w (suc m) % 2 ^ k ≡ 0 = and_mod w (suc m) k ∙ ap (bit_and (w % 2 ^ k)) e ∙ none (w % 2 ^ k) in
-    beside (bit_and w (suc m)) k b c g
 
 -- what a mask lacks of all ones up to its highest; an `abbrev`, so that it computes at a number that is written out
 abbrev pub hole : ℕ → ℕ
