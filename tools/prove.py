@@ -41,6 +41,8 @@ ROUNDS = [[(FEW, 40, (8, 24))], [(STEPS, 12, (8,)), (FEW, 1000, (16, 48))], [(ST
 # The other goals of a function are tried with so many of the lists that close its first. A function gets so many steps at most.
 LISTS = 4
 MOST = 600000000
+# After a round, so many choices of laws for a function are checked as attributes.
+CHOICES = 4
 # A check takes this much memory, in GB, and this many seconds at least.
 MEMORY = 2.5
 START = 15
@@ -379,9 +381,9 @@ class Search:
         return named, list(dict.fromkeys(law for laws in found if not self.is_set(laws) for law in laws))
 
     def confirmed(self, functions):
-        """What proves these functions, whose goals are closed, as the check confirms it: if not by the first choice, by another."""
+        """What proves these functions, whose goals are closed, as the check confirms it: if not by the first choice, by one of a few others."""
         found = {}
-        while functions:
+        for _ in range(CHOICES):
             solutions = {it: self.solution(it) for it in functions}
             found.update(self.copies.confirmed(solutions))
             functions = [it for it in functions if it not in found and self.is_solved_without(it, *solutions[it])]
