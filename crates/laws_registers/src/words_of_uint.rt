@@ -145,6 +145,10 @@ pub fn with_rows(v: u15, t: u15) -> u15
     ensures column { int_rem result (pos 32) ≡ int_rem v (pos 32) }
     ensures row { int_rem (int_div result (pos 32)) (pos 32)
         ≡ int_rem (int_div t (pos 32)) (pos 32) }
+    ensures low_table { int_rem (int_div result (pos 1024)) (pos 2)
+        ≡ int_rem (int_div v (pos 1024)) (pos 2) }
+    ensures high_table { int_rem (int_div result (pos 2048)) (pos 2)
+        ≡ int_rem (int_div t (pos 2048)) (pos 2) }
     ensures line { int_div result (pos 4096) ≡ int_div t (pos 4096) }
 {
     (v & u15::new(0x041F)) | (t & u15::new(0x7BE0))
