@@ -530,8 +530,8 @@ def prove(crate, names, is_writing, is_anew, jobs):
         it = functions.get(name)
         goals = it.open_goals() or list(it.goals) if it else []
         source = '\n'.join((folder / it.file).read_text().splitlines()[it.line - 1 : it.line + 20]) if it else ''
-        told = [f'{goal}{", false where " + it.broken[goal] if goal in it.broken else ""}: see {link(goal, source)}' for goal in goals]
-        print(f'open: {f"{it.file}:{it.line}: " if it else ""}{name}: {"; ".join(told) or verdict[name]}')
+        shown = [f'{goal}{", false where " + it.broken[goal] if goal in it.broken else ""}: see {link(goal, source)}' for goal in goals]
+        print(f'open: {f"{it.file}:{it.line}: " if it else ""}{name}: {"; ".join(shown) or verdict[name]}')
     print(f'{crate}: {len(unproved) - len(left)} of {len(unproved)} open functions proved, {len(left)} open' + ('' if is_writing or not solutions else ': --write writes the laws'))
     return bool(left)
 

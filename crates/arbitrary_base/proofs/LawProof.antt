@@ -72,19 +72,19 @@ products-distribute s B x y z =
 
 pub ruleset wrapped_arithmetic_rules = (sums-commute, sums-associate, products-commute, products-associate, products-distribute)
 
-pub checked-tells : (s : Bool) (B : ℕ) (x : ℤ) (checked : Option ℤ) (wrapped : ℤ) (overflow : Bool) → 1 ≤ B
+pub checked-by_overflow : (s : Bool) (B : ℕ) (x : ℤ) (checked : Option ℤ) (wrapped : ℤ) (overflow : Bool) → 1 ≤ B
     → SomeIff checked (InRange s B x) x → wrapped ≡ wrap s B x → (IsTrue overflow ↔ ¬ (InRange s B x))
     → checked ≡ (if overflow then None else Some wrapped)
-checked-tells s B x None w true h e q f = refl
-checked-tells s B x None w false h e q f = let t = f.1 e in cc
-checked-tells s B x (Some y) w true h e q f = absurd (f.0 refl e.0)
-checked-tells s B x (Some y) w false h e q f = ap Some (e.1 ∙ sym (wrap-of_in_range s B x h e.0) ∙ sym q)
+checked-by_overflow s B x None w true h e q f = refl
+checked-by_overflow s B x None w false h e q f = let t = f.1 e in cc
+checked-by_overflow s B x (Some y) w true h e q f = absurd (f.0 refl e.0)
+checked-by_overflow s B x (Some y) w false h e q f = ap Some (e.1 ∙ sym (wrap-of_in_range s B x h e.0) ∙ sym q)
 
-pub checked-quotient_tells : (s : Bool) (B : ℕ) (x y : ℤ) (checked : Option ℤ) (wrapped : ℤ) (overflow : Bool) → 1 ≤ B
+pub checked-quotient_by_overflow : (s : Bool) (B : ℕ) (x y : ℤ) (checked : Option ℤ) (wrapped : ℤ) (overflow : Bool) → 1 ≤ B
     → SomeIff checked ((y ≢ pos 0) × InRange s B (int_div x y)) (int_div x y)
     → (y ≢ pos 0 → (wrapped ≡ wrap s B (int_div x y)) × (IsTrue overflow ↔ ¬ (InRange s B (int_div x y))))
     → checked ≡ (if int_eq y (pos 0) || overflow then None else Some wrapped)
-checked-quotient_tells s B x y checked w overflow h e f = by_divisor (int_eq y (pos 0)) refl checked e
+checked-quotient_by_overflow s B x y checked w overflow h e f = by_divisor (int_eq y (pos 0)) refl checked e
   where
     zero-is : int_eq y (pos 0) ≡ true → y ≡ pos 0
     zero-is p = grind (arith, ints)
@@ -96,20 +96,20 @@ checked-quotient_tells s B x y checked w overflow h e f = by_divisor (int_eq y (
         → checked ≡ (if int_eq y (pos 0) || overflow then None else Some w)
     by_divisor true p None e = rw p refl
     by_divisor true p (Some q) e = absurd (e.0.0 (zero-is p))
-    by_divisor false p None e = let n = other-is p in rw p (checked-tells s B (int_div x y) None w overflow h (λ i. e (n, i)) (f n).0 (f n).1)
-    by_divisor false p (Some q) e = let n = other-is p in rw p (checked-tells s B (int_div x y) (Some q) w overflow h (e.0.1, e.1) (f n).0 (f n).1)
+    by_divisor false p None e = let n = other-is p in rw p (checked-by_overflow s B (int_div x y) None w overflow h (λ i. e (n, i)) (f n).0 (f n).1)
+    by_divisor false p (Some q) e = let n = other-is p in rw p (checked-by_overflow s B (int_div x y) (Some q) w overflow h (e.0.1, e.1) (f n).0 (f n).1)
 
-pub ruleset checked_rules = (checked-tells, checked-quotient_tells)
+pub ruleset checked_rules = (checked-by_overflow, checked-quotient_by_overflow)
 
-pub in_range-tells : (s : Bool) (B : ℕ) (x : ℤ) → IsTrue (in_range s B x) ↔ InRange s B x
+pub in_range-decides : (s : Bool) (B : ℕ) (x : ℤ) → IsTrue (in_range s B x) ↔ InRange s B x
 unfolding in_range
-in_range-tells s B x = ((λ t. record { low = grind (arith, ints); high = grind (arith, ints) }), (λ f. let l = f.low in let h = f.high in grind (arith, ints)))
+in_range-decides s B x = ((λ t. record { low = grind (arith, ints); high = grind (arith, ints) }), (λ f. let l = f.low in let h = f.high in grind (arith, ints)))
 
 -- the flag of a number out of range is the negated test
 pub out-of_range_tested : (b s : Bool) (B : ℕ) (x : ℤ) → IsTrue b ↔ ¬ (InRange s B x) → b ≡ not (in_range s B x)
-out-of_range_tested b s B x t = let f = in_range-tells s B x in grind (arith, t, f)
+out-of_range_tested b s B x t = let f = in_range-decides s B x in grind (arith, t, f)
 
-pub ruleset range_rules = (in_range-tells, clamp-fits, clamp-above, clamp-below)
+pub ruleset range_rules = (in_range-decides, clamp-fits, clamp-above, clamp-below)
 
 pub ruleset bit_list_rules = (length-bits, num-bits_residue, field-items, val-bits_in_range, bits-val, rotr-rotl, reverse-reverse, popcount-not, prefix_len-le-length, tail-le, items-items)
 

@@ -62,7 +62,7 @@ pub trait BorshDeserialize: Sized {
     ghost read_bytes: { Self → List ℕ };
 
     // How a value follows from its list of bytes.
-    ghost tells: { List ℕ → Self → Type 0 };
+    ghost decodes: { List ℕ → Self → Type 0 };
 
     /// Reads exactly the bytes of one value. An error is the reader's own, `UnexpectedEof` if the
     /// input ends before, or `InvalidData` if the bytes are not canonical: then they are read, and
@@ -84,7 +84,7 @@ pub trait BorshDeserialize: Sized {
         requires { readable }
         ensures bytes { let is_canonical = canonical bytes.now in
             MatchOption result (¬ is_canonical) (λ x. is_canonical × (read_bytes x ≡ bytes.now)) }
-        ensures value { IfSome result (tells bytes.now) };
+        ensures value { IfSome result (decodes bytes.now) };
 }
 
 /// The bytes of the value, at the front of an array that has room for any value, and their number.
@@ -125,7 +125,7 @@ impl<V: Stored> BorshDeserialize for V {
 
     ghost read_bytes = { λ x. BorshBytes V.BITS (V.number x) };
 
-    ghost tells = { λ bytes x. let spelled = pos (bytes_number bytes) in
+    ghost decodes = { λ bytes x. let spelled = pos (bytes_number bytes) in
         (V.IS_SIGNED ≡ false → V.number x ≡ spelled)
         × (V.IS_SIGNED ≡ true → Congruent V.BITS (V.number x) spelled) };
 

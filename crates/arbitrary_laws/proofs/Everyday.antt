@@ -9,7 +9,7 @@ use Rattle.arbitrary_base.proofs.modular.Inverse.{wrap-wrap}
 use Rattle.arbitrary_base.proofs.storages.Clamp.{clamp-fits}
 use Rattle.arbitrary_base.proofs.bit_lists.UnsignedNumber.{length-bits}
 use Rattle.arbitrary_base.proofs.bit_lists.TwosComplement.{num-bits_residue, val-bits_in_range}
-use Rattle.arbitrary_base.proofs.LawProof.{in_range-tells, sums-associate}
+use Rattle.arbitrary_base.proofs.LawProof.{in_range-decides, sums-associate}
 
 regroup : (x m d y : ℕ) → x * (m * d) + y * d ≡ (x * m + y) * d
 regroup x m d y = grind arith
@@ -24,4 +24,4 @@ or_three x c w y d v b p q e f g h k =
     let n : (x * (c / d) + y) * d % ((x * (c / d) + y) * d + 1) ≡ (x * (c / d) + y) * d = mod-eq_of_lt (omega arith) in
     ap (λ (n : ℕ). bit_or n b) (first ∙ z ∙ sym n) ∙ or_after_shift (x * (c / d) + y) d ((x * (c / d) + y) * d + 1) b q g (omega arith) ∙ ap (λ (n : ℕ). n + b) (sym z)
 
-pub ruleset everyday = (wrap-of_in_range, wrap-congruent, wrap-wrap, clamp-fits, length-bits, num-bits_residue, val-bits_in_range, in_range-tells, sums-associate, or_three)
+pub ruleset everyday = (wrap-of_in_range, wrap-congruent, wrap-wrap, clamp-fits, length-bits, num-bits_residue, val-bits_in_range, in_range-decides, sums-associate, or_three)

@@ -34,29 +34,29 @@ three_by_one count limit step words = do
 
 three_taken : (count limit : ℕ) (step : ℕ → ℕ → ℕ → Step) (words : List (List ℕ)) → three count limit step words ≡ three_by_one count limit step words
 three_taken count limit step [] = refl
-three_taken count limit step (a ∷ []) = told (number_below count a) refl
+three_taken count limit step (a ∷ []) = by_parts (number_below count a) refl
   where
-    told : (o : Option ℕ) → number_below count a ≡ o → None ≡ three_by_one count limit step (a ∷ [])
-    told None e = rw e refl
-    told (Some x) e = rw e refl
-three_taken count limit step (a ∷ b ∷ []) = told (number_below count a) (number_below count b) refl refl
+    by_parts : (o : Option ℕ) → number_below count a ≡ o → None ≡ three_by_one count limit step (a ∷ [])
+    by_parts None e = rw e refl
+    by_parts (Some x) e = rw e refl
+three_taken count limit step (a ∷ b ∷ []) = by_parts (number_below count a) (number_below count b) refl refl
   where
-    told : (o p : Option ℕ) → number_below count a ≡ o → number_below count b ≡ p → None ≡ three_by_one count limit step (a ∷ b ∷ [])
-    told None p e f = rw e refl
-    told (Some x) None e f = rw (e, f) refl
-    told (Some x) (Some y) e f = rw (e, f) refl
-three_taken count limit step (a ∷ b ∷ c ∷ rest) = told rest (number_below count a) (number_below count b) (number_below limit c) refl refl refl
+    by_parts : (o p : Option ℕ) → number_below count a ≡ o → number_below count b ≡ p → None ≡ three_by_one count limit step (a ∷ b ∷ [])
+    by_parts None p e f = rw e refl
+    by_parts (Some x) None e f = rw (e, f) refl
+    by_parts (Some x) (Some y) e f = rw (e, f) refl
+three_taken count limit step (a ∷ b ∷ c ∷ rest) = by_parts rest (number_below count a) (number_below count b) (number_below limit c) refl refl refl
   where
-    told : (rest : List (List ℕ)) (o p q : Option ℕ) → number_below count a ≡ o → number_below count b ≡ p → number_below limit c ≡ q
+    by_parts : (rest : List (List ℕ)) (o p q : Option ℕ) → number_below count a ≡ o → number_below count b ≡ p → number_below limit c ≡ q
         → three count limit step (a ∷ b ∷ c ∷ rest) ≡ three_by_one count limit step (a ∷ b ∷ c ∷ rest)
-    told [] None p q e f g = rw e refl
-    told [] (Some x) None q e f g = rw (e, f) refl
-    told [] (Some x) (Some y) None e f g = rw (e, f, g) refl
-    told [] (Some x) (Some y) (Some z) e f g = rw (e, f, g) refl
-    told (d ∷ rest) None p q e f g = rw e refl
-    told (d ∷ rest) (Some x) None q e f g = rw (e, f) refl
-    told (d ∷ rest) (Some x) (Some y) None e f g = rw (e, f, g) refl
-    told (d ∷ rest) (Some x) (Some y) (Some z) e f g = rw (e, f, g, more d rest) refl
+    by_parts [] None p q e f g = rw e refl
+    by_parts [] (Some x) None q e f g = rw (e, f) refl
+    by_parts [] (Some x) (Some y) None e f g = rw (e, f, g) refl
+    by_parts [] (Some x) (Some y) (Some z) e f g = rw (e, f, g) refl
+    by_parts (d ∷ rest) None p q e f g = rw e refl
+    by_parts (d ∷ rest) (Some x) None q e f g = rw (e, f) refl
+    by_parts (d ∷ rest) (Some x) (Some y) None e f g = rw (e, f, g) refl
+    by_parts (d ∷ rest) (Some x) (Some y) (Some z) e f g = rw (e, f, g, more d rest) refl
 
 pub two_taken : (count : ℕ) (op : TwoOp) (words : List (List ℕ)) → step_with count (operations.Two op) words ≡ three_by_one count count (steps.Two op) words
 unfolding step_with
@@ -85,20 +85,20 @@ two_by_one count op words = do
 pub one_taken : (count : ℕ) (op : OneOp) (words : List (List ℕ)) → step_with count (operations.One op) words ≡ two_by_one count op words
 unfolding step_with
 one_taken count op [] = refl
-one_taken count op (a ∷ []) = told (number_below count a) refl
+one_taken count op (a ∷ []) = by_parts (number_below count a) refl
   where
-    told : (o : Option ℕ) → number_below count a ≡ o → None ≡ two_by_one count op (a ∷ [])
-    told None e = rw e refl
-    told (Some x) e = rw e refl
-one_taken count op (a ∷ b ∷ rest) = told rest (number_below count a) (number_below count b) refl refl
+    by_parts : (o : Option ℕ) → number_below count a ≡ o → None ≡ two_by_one count op (a ∷ [])
+    by_parts None e = rw e refl
+    by_parts (Some x) e = rw e refl
+one_taken count op (a ∷ b ∷ rest) = by_parts rest (number_below count a) (number_below count b) refl refl
   where
-    told : (rest : List (List ℕ)) (o p : Option ℕ) → number_below count a ≡ o → number_below count b ≡ p
+    by_parts : (rest : List (List ℕ)) (o p : Option ℕ) → number_below count a ≡ o → number_below count b ≡ p
         → step_with count (operations.One op) (a ∷ b ∷ rest) ≡ two_by_one count op (a ∷ b ∷ rest)
-    told [] None p e f = rw e refl
-    told [] (Some x) None e f = rw (e, f) refl
-    told [] (Some x) (Some y) e f = rw (e, f) refl
-    told (c ∷ rest) None p e f = rw e refl
-    told (c ∷ rest) (Some x) None e f = rw (e, f) refl
-    told (c ∷ rest) (Some x) (Some y) e f = rw (e, f, more c rest) refl
+    by_parts [] None p e f = rw e refl
+    by_parts [] (Some x) None e f = rw (e, f) refl
+    by_parts [] (Some x) (Some y) e f = rw (e, f) refl
+    by_parts (c ∷ rest) None p e f = rw e refl
+    by_parts (c ∷ rest) (Some x) None e f = rw (e, f) refl
+    by_parts (c ∷ rest) (Some x) (Some y) e f = rw (e, f, more c rest) refl
 
 pub ruleset taken = (two_taken, one_taken, by_taken)

@@ -163,7 +163,7 @@ pub fn checked_or_greatest_saturates(a: u12, b: u12) -> bool
     a.checked_add(b).unwrap_or(u12::max_value()) == a.saturating_add(b)
 }
 
-pub fn checked_tells_that_the_sum_fits(a: u12, b: u12) -> bool
+pub fn checked_sum_is_some_if_it_fits(a: u12, b: u12) -> bool
     ensures { IsTrue result }
 {
     a.checked_add(b).is_some() == (a.as_u32() + b.as_u32() < 4096)

@@ -103,7 +103,7 @@ const KINDS: [ErrorKind; 42] = [
 ];
 
 #[test]
-fn a_fault_of_any_kind_is_passed_on_and_told(rt: HostRuntime) {
+fn a_fault_of_any_kind_is_passed_on_and_recorded(rt: HostRuntime) {
     for kind in KINDS {
         let mut reader = watched(Err(kind));
         let read = reader.read(&mut [0]);

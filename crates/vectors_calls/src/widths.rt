@@ -95,7 +95,7 @@ fn low_bits_with_a_sign(rt: HostRuntime) {
 }
 
 #[test]
-fn the_narrow_registers_are_told_after_a_stop_too(rt: HostRuntime) {
+fn the_narrow_registers_are_returned_after_a_stop_too(rt: HostRuntime) {
     let steps = [two(TwoOp::CheckedAdd, 0, 0, 1)];
     let mut wide = [u14::new(200), u14::new(16383)];
     let mut narrow = [u7::new(0), u7::new(0)];

@@ -87,7 +87,7 @@ some-size (negsuc n) h = omega arith
 -- the test b of the quotient q, where the test t found that a factor is not 0
 pub product-test : (s : Bool) (W : ℕ) (a y p q : ℤ) (t b : Bool) → 1 ≤ W → InRange s W a → InRange s W y → t ≡ int_eq a (pos 0) → t ≡ false → a ≢ negsuc 0
     → p ≡ wrap s W (a *ℤ y) → q ≡ wrap s W (int_div p a) → b ≡ int_eq q y → IsTrue b ↔ InRange s W (a *ℤ y)
-product-test s W a y p q t b h f g o n m e k u = subst (λ (v : ℤ). IsTrue b ↔ InRange s W v) (*ℤ_comm y a) tells
+product-test s W a y p q t b h f g o n m e k u = subst (λ (v : ℤ). IsTrue b ↔ InRange s W v) (*ℤ_comm y a) tested
   where
     some : a ≢ pos 0
     some z = let c : IsTrue t = subst (λ (r : Bool). IsTrue r) (sym o) ((Decides-int_eq a (pos 0)).1 z) in cc
@@ -101,8 +101,8 @@ product-test s W a y p q t b h f g o n m e k u = subst (λ (v : ℤ). IsTrue b �
     quotient : q ≡ int_div p a
     quotient = k ∙ wrap-of_in_range s W (int_div p a) h (quotient-InRange s W p a h within f m)
 
-    tells : IsTrue b ↔ InRange s W (y *ℤ a)
-    tells = let d = Decides-int_eq q y in (
+    tested : IsTrue b ↔ InRange s W (y *ℤ a)
+    tested = let d = Decides-int_eq q y in (
       (λ v. let r : q ≡ y = d.0 (subst (λ (c : Bool). IsTrue c) u v) in
           subst (λ (z : ℤ). InRange s W z) (product-exact s W a y p h f (some-size a some) stays (sym quotient ∙ r)) within),
       (λ j. let r : p ≡ y *ℤ a = stays ∙ wrap-of_in_range s W (y *ℤ a) h j in

@@ -11,15 +11,15 @@ use Rattle.arbitrary_base.proofs.modular.Truncation.{InRange-wider}
 use Rattle.arbitrary_base.proofs.storages.CheckedSum.{three_ways, wrap-above, wrap-below, wrap-wrap, zero-in_range}
 
 -- the stored number w is in range only where the exact one e is, and there it is e
-abbrev pub Tells : Bool → ℕ → ℤ → ℤ → Type 0
-Tells s B e w = (InRange s B w → InRange s B e × (w ≡ e)) × (InRange s B e → w ≡ e)
+abbrev pub Determines : Bool → ℕ → ℤ → ℤ → Type 0
+Determines s B e w = (InRange s B w → InRange s B e × (w ≡ e)) × (InRange s B e → w ≡ e)
 
 twice : (B W : ℕ) → 1 ≤ B → B < W → 2 * 2 ^ B ≤ 2 ^ W
 twice B W h g = let p = pow_le (suc B) W (omega arith) in omega arith
 
 -- a number at most 2 ^ B out of range
-spare-tells : (s : Bool) (B W : ℕ) (e w : ℤ) → 1 ≤ B → B < W → (lo s B -ℤ pos (2 ^ B)) ≤ℤ e → e ≤ℤ (hi s B +ℤ pos (2 ^ B)) → w ≡ wrap s W e → Tells s B e w
-spare-tells s B W e w h g l m n =
+spare-determines : (s : Bool) (B W : ℕ) (e w : ℤ) → 1 ≤ B → B < W → (lo s B -ℤ pos (2 ^ B)) ≤ℤ e → e ≤ℤ (hi s B +ℤ pos (2 ^ B)) → w ≡ wrap s W e → Determines s B e w
+spare-determines s B W e w h g l m n =
     let t = twice B W h g in
     let a = span s B h in
     let p = pow_pos B in
@@ -34,21 +34,21 @@ spare-tells s B W e w h g l m n =
     ((λ j. let u = j.low in absurd (omega (arith, ints))), (λ j. let u = j.high in absurd (omega (arith, ints))))))
     (three_ways s W e)
 
-pub add-tells : (s : Bool) (B W : ℕ) (x y w : ℤ) → 1 ≤ B → B < W → InRange s B x → InRange s B y → w ≡ wrap s W (x +ℤ y) → Tells s B (x +ℤ y) w
-add-tells s B W x y w h g i j n =
+pub sum-determines : (s : Bool) (B W : ℕ) (x y w : ℤ) → 1 ≤ B → B < W → InRange s B x → InRange s B y → w ≡ wrap s W (x +ℤ y) → Determines s B (x +ℤ y) w
+sum-determines s B W x y w h g i j n =
     let a = span s B h in let z = zero-in_range s B h in let p = z.low in let q = z.high in
     let b = i.low in let c = i.high in let d = j.low in let f = j.high in
-    spare-tells s B W (x +ℤ y) w h g (omega (arith, ints)) (omega (arith, ints)) n
+    spare-determines s B W (x +ℤ y) w h g (omega (arith, ints)) (omega (arith, ints)) n
 
-pub sub-tells : (s : Bool) (B W : ℕ) (x y w : ℤ) → 1 ≤ B → B < W → InRange s B x → InRange s B y → w ≡ wrap s W (x -ℤ y) → Tells s B (x -ℤ y) w
-sub-tells s B W x y w h g i j n =
+pub difference-determines : (s : Bool) (B W : ℕ) (x y w : ℤ) → 1 ≤ B → B < W → InRange s B x → InRange s B y → w ≡ wrap s W (x -ℤ y) → Determines s B (x -ℤ y) w
+difference-determines s B W x y w h g i j n =
     let a = span s B h in let z = zero-in_range s B h in let p = z.low in let q = z.high in
     let b = i.low in let c = i.high in let d = j.low in let f = j.high in
-    spare-tells s B W (x -ℤ y) w h g (omega (arith, ints)) (omega (arith, ints)) n
+    spare-determines s B W (x -ℤ y) w h g (omega (arith, ints)) (omega (arith, ints)) n
 
 -- where the test b finds the stored number out of range, the exact one is
-pub none-told : (s : Bool) (B : ℕ) (e w : ℤ) (b : Bool) → Tells s B e w → (IsTrue b ↔ InRange s B w) → b ≡ false → InRange s B e → ⊥
-none-told s B e w b t d f i = let u : IsTrue b = d.1 (subst (λ (v : ℤ). InRange s B v) (sym (t.1 i)) i) in cc
+pub none-out_of_range : (s : Bool) (B : ℕ) (e w : ℤ) (b : Bool) → Determines s B e w → (IsTrue b ↔ InRange s B w) → b ≡ false → InRange s B e → ⊥
+none-out_of_range s B e w b t d f i = let u : IsTrue b = d.1 (subst (λ (v : ℤ). InRange s B v) (sym (t.1 i)) i) in cc
 
 -- the storage has the sum, and where there is a sign the difference
 pub sum-stays : (s : Bool) (B W : ℕ) (x y w : ℤ) → 1 ≤ B → B < W → InRange s B x → InRange s B y → w ≡ wrap s W (x +ℤ y) → w ≡ x +ℤ y
@@ -70,12 +70,12 @@ pub wrap-stays : (s : Bool) (B W : ℕ) (e w n : ℤ) → 1 ≤ B → B ≤ W �
 wrap-stays s B W e w n h g p q = p ∙ ap (wrap s B) q ∙ wrap-wrap s B W e h g
 
 -- a product is out of range where the storage says so, and where what it keeps is
-pub mul-overflow_told : (s : Bool) (B W : ℕ) (e w : ℤ) (o b : Bool) → 1 ≤ B → B ≤ W → w ≡ wrap s W e → (IsTrue o ↔ ¬ (InRange s W e)) → (IsTrue b ↔ InRange s B w)
+pub product-overflow : (s : Bool) (B W : ℕ) (e w : ℤ) (o b : Bool) → 1 ≤ B → B ≤ W → w ≡ wrap s W e → (IsTrue o ↔ ¬ (InRange s W e)) → (IsTrue b ↔ InRange s B w)
     → IsTrue (o || not b) ↔ ¬ (InRange s B e)
-mul-overflow_told s B W e w true b h g m p q = ((λ t i. p.0 refl (InRange-wider s B W e h g i)), (λ t. refl))
-mul-overflow_told s B W e w false true h g m p q =
+product-overflow s B W e w true b h g m p q = ((λ t i. p.0 refl (InRange-wider s B W e h g i)), (λ t. refl))
+product-overflow s B W e w false true h g m p q =
     ((λ t. cc), (λ n. p.1 (λ i. n (subst (λ (v : ℤ). InRange s B v) (m ∙ wrap-of_in_range s W e (omega arith) i) (q.0 refl)))))
-mul-overflow_told s B W e w false false h g m p q =
+product-overflow s B W e w false false h g m p q =
     ((λ t i. let u : IsTrue false = q.1 (subst (λ (v : ℤ). InRange s B v) (sym (m ∙ wrap-of_in_range s W e (omega arith) (InRange-wider s B W e h g i))) i) in cc), (λ t. refl))
 
 -- the checked result, by the flag of an overflow

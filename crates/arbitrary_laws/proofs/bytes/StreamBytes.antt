@@ -12,33 +12,33 @@ use Rattle.arbitrary_base.specs.Range.{InRange}
 use Rattle.arbitrary_base.specs.Residue.{wrap}
 use Rattle.arbitrary_base.proofs.bytes.NumberOfBytes.{Borsh-canonical, bytes-wrap, length-Borsh, wrap-Borsh, wrap-bytes_number}
 
-pub Borsh-told : (B : ℕ) (x : ℤ) → (BorshBytes B x ≡ BorshBytes B x) × (length (BorshBytes B x) ≡ div_ceil B 8) × (bytes_number (BorshBytes B x) < 2 ^ B)
-Borsh-told B x = (refl, length-Borsh B x, (Borsh-canonical B x).below)
+pub Borsh-size : (B : ℕ) (x : ℤ) → (BorshBytes B x ≡ BorshBytes B x) × (length (BorshBytes B x) ≡ div_ceil B 8) × (bytes_number (BorshBytes B x) < 2 ^ B)
+Borsh-size B x = (refl, length-Borsh B x, (Borsh-canonical B x).below)
 
 -- the number of the first bytes of a list
-unfoldable pub told : Bool → ℕ → List ℕ → ℤ
-told s B l = wrap s B (pos (bytes_number (take (div_ceil B 8) l)))
+unfoldable pub decoded : Bool → ℕ → List ℕ → ℤ
+decoded s B l = wrap s B (pos (bytes_number (take (div_ceil B 8) l)))
 
 module _ (s : Bool) (B : ℕ) (x : ℤ) (h : 1 ≤ B) (f : InRange s B x) where
-  told-alone : told s B (BorshBytes B x) ≡ x
-  unfolding told
-  told-alone = ap (λ (l : List ℕ). wrap s B (pos (bytes_number l))) (take_all (div_ceil B 8) (BorshBytes B x) (omega (arith, length-Borsh B x))) ∙ wrap-Borsh s B x h f
+  decoded-alone : decoded s B (BorshBytes B x) ≡ x
+  unfolding decoded
+  decoded-alone = ap (λ (l : List ℕ). wrap s B (pos (bytes_number l))) (take_all (div_ceil B 8) (BorshBytes B x) (omega (arith, length-Borsh B x))) ∙ wrap-Borsh s B x h f
 
-  told-first : (more : List ℕ) → told s B (BorshBytes B x ++ more) ≡ x
-  unfolding told
-  told-first more = ap (λ (l : List ℕ). wrap s B (pos (bytes_number l))) (ap (λ (n : ℕ). take n (BorshBytes B x ++ more)) (sym (length-Borsh B x)) ∙ take-append_seam (BorshBytes B x) more) ∙ wrap-Borsh s B x h f
+  decoded-first : (more : List ℕ) → decoded s B (BorshBytes B x ++ more) ≡ x
+  unfolding decoded
+  decoded-first more = ap (λ (l : List ℕ). wrap s B (pos (bytes_number l))) (ap (λ (n : ℕ). take n (BorshBytes B x ++ more)) (sym (length-Borsh B x)) ∙ take-append_seam (BorshBytes B x) more) ∙ wrap-Borsh s B x h f
 
-pub number-of_Borsh : (B : ℕ) (x : ℤ) → 1 ≤ B → InRange false B x → (BorshBytes B x ≡ BorshBytes B x) × (told false B (BorshBytes B x) ≡ x)
-number-of_Borsh B x h f = (refl, told-alone false B x h f)
+pub number-of_Borsh : (B : ℕ) (x : ℤ) → 1 ≤ B → InRange false B x → (BorshBytes B x ≡ BorshBytes B x) × (decoded false B (BorshBytes B x) ≡ x)
+number-of_Borsh B x h f = (refl, decoded-alone false B x h f)
 
-pub number-of_Borsh_signed : (B : ℕ) (x : ℤ) → 1 ≤ B → InRange true B x → (BorshBytes B x ≡ BorshBytes B x) × (told true B (BorshBytes B x) ≡ x)
-number-of_Borsh_signed B x h f = (refl, told-alone true B x h f)
+pub number-of_Borsh_signed : (B : ℕ) (x : ℤ) → 1 ≤ B → InRange true B x → (BorshBytes B x ≡ BorshBytes B x) × (decoded true B (BorshBytes B x) ≡ x)
+number-of_Borsh_signed B x h f = (refl, decoded-alone true B x h f)
 
-pub first-of_Borsh : (B : ℕ) (x : ℤ) (more : List ℕ) → 1 ≤ B → InRange false B x → (BorshBytes B x ++ more ≡ BorshBytes B x ++ more) × (told false B (BorshBytes B x ++ more) ≡ x)
-first-of_Borsh B x more h f = (refl, told-first false B x h f more)
+pub first-of_Borsh : (B : ℕ) (x : ℤ) (more : List ℕ) → 1 ≤ B → InRange false B x → (BorshBytes B x ++ more ≡ BorshBytes B x ++ more) × (decoded false B (BorshBytes B x ++ more) ≡ x)
+first-of_Borsh B x more h f = (refl, decoded-first false B x h f more)
 
-pub first-of_Borsh_signed : (B : ℕ) (x : ℤ) (more : List ℕ) → 1 ≤ B → InRange true B x → (BorshBytes B x ++ more ≡ BorshBytes B x ++ more) × (told true B (BorshBytes B x ++ more) ≡ x)
-first-of_Borsh_signed B x more h f = (refl, told-first true B x h f more)
+pub first-of_Borsh_signed : (B : ℕ) (x : ℤ) (more : List ℕ) → 1 ≤ B → InRange true B x → (BorshBytes B x ++ more ≡ BorshBytes B x ++ more) × (decoded true B (BorshBytes B x ++ more) ≡ x)
+first-of_Borsh_signed B x more h f = (refl, decoded-first true B x h f more)
 
 -- a test of two arrays of bytes
 pub bytes-compared : (l m : List ℕ) → (pointwise eqb l m ≡ pointwise eqb l m) × (l ≡ m → pointwise eqb l m ≡ true) × (pointwise eqb l m ≡ true → l ≡ m)

@@ -70,8 +70,8 @@ module _ (s : Bool) (B k : ℕ) (place : k < B) where
       absurd (cc)
 
 -- what is tested of the number shifted right: its lowest bit
-pub low-told : (s : Bool) (B : ℕ) (x : ℤ) → 2 ≤ B → bitwise_and s B x (pos 1) ≡ pos (unsigned_abs x % 2)
-low-told s B x h = and-by_one s B x (pos 1) _ (omega arith) (fits s) refl refl
+pub low-is_remainder : (s : Bool) (B : ℕ) (x : ℤ) → 2 ≤ B → bitwise_and s B x (pos 1) ≡ pos (unsigned_abs x % 2)
+low-is_remainder s B x h = and-by_one s B x (pos 1) _ (omega arith) (fits s) refl refl
   where
     fits : (s : Bool) → InRange s B (pos 1)
     fits false = let p = pow_mono h in record { low = omega (arith, ints); high = omega (arith, ints) }
@@ -209,18 +209,18 @@ module _ (s : Bool) (B k : ℕ) (x : ℤ) (h : k < B) where
   ]
 
   module _ (two : 2 ≤ B) where
-    told : bitwise_and s B (shifted_right s B x k) (pos 1) ≡ pos (digit (bit B x k))
-    told = low-told s B (shifted_right s B x k) two ∙ ap pos (low-is_bit s B k x h)
+    by_shift : bitwise_and s B (shifted_right s B x k) (pos 1) ≡ pos (digit (bit B x k))
+    by_shift = low-is_remainder s B (shifted_right s B x k) two ∙ ap pos (low-is_bit s B k x h)
 
     pub set-by_shift : int_eq (bitwise_and s B (shifted_right s B x k) (pos 1)) (pos 1) ≡ bit B x k
-    set-by_shift = ap (λ (z : ℤ). int_eq z (pos 1)) told ∙ tests (bit B x k)
+    set-by_shift = ap (λ (z : ℤ). int_eq z (pos 1)) by_shift ∙ tests (bit B x k)
       where
         tests : (b : Bool) → int_eq (pos (digit b)) (pos 1) ≡ b
         tests true = refl
         tests false = refl
 
     pub clear-by_shift : int_eq (bitwise_and s B (shifted_right s B x k) (pos 1)) (pos 0) ≡ not (bit B x k)
-    clear-by_shift = ap (λ (z : ℤ). int_eq z (pos 0)) told ∙ tests (bit B x k)
+    clear-by_shift = ap (λ (z : ℤ). int_eq z (pos 0)) by_shift ∙ tests (bit B x k)
       where
         tests : (b : Bool) → int_eq (pos (digit b)) (pos 0) ≡ not b
         tests true = refl
@@ -230,9 +230,9 @@ module _ (s : Bool) (B k : ℕ) (x : ℤ) (h : k < B) where
     pub low-of_turned : bitwise_and s B (shifted_right s B (bitwise_xor s B x (shifted_left s B (pos 1) k)) k) (pos 1)
         ≡ pos 1 -ℤ bitwise_and s B (shifted_right s B x k) (pos 1)
     low-of_turned =
-        low-told s B (shifted_right s B (bitwise_xor s B x (shifted_left s B (pos 1) k)) k) two ∙ ap pos (low-is_bit s B k (bitwise_xor s B x (shifted_left s B (pos 1) k)) h)
+        low-is_remainder s B (shifted_right s B (bitwise_xor s B x (shifted_left s B (pos 1) k)) k) two ∙ ap pos (low-is_bit s B k (bitwise_xor s B x (shifted_left s B (pos 1) k)) h)
         ∙ ap (λ (b : Bool). pos (digit b)) (bit-xor s B k x (shifted_left s B (pos 1) k) ∙ ap (λ (b : Bool). not (beq (bit B x k) b)) (bit-here s B k h))
-        ∙ other (bit B x k) ∙ ap (λ (z : ℤ). pos 1 -ℤ z) (sym told)
+        ∙ other (bit B x k) ∙ ap (λ (z : ℤ). pos 1 -ℤ z) (sym by_shift)
       where
         other : (b : Bool) → pos (digit (not (beq b true))) ≡ pos 1 -ℤ pos (digit b)
         other true = refl

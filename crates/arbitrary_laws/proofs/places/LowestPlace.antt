@@ -12,7 +12,7 @@ use Rattle.arbitrary_base.proofs.operations.Bitwise.{bitwise_and-commutes, bitwi
 use Rattle.arbitrary_base.proofs.operations.WrappedRing.{difference-congruent, product-congruent, sum-congruent}
 use Rattle.arbitrary_laws.proofs.bits.Identities.{and-distributes_or, and-distributes_xor, bitwise_and-associates, bitwise_and-zero, bitwise_xor-zero}
 use Rattle.arbitrary_laws.proofs.masks.NumberUnderMask.{xor-by_and}
-use Rattle.arbitrary_laws.proofs.places.BitPlaces.{low-told}
+use Rattle.arbitrary_laws.proofs.places.BitPlaces.{low-is_remainder}
 
 parity : (x y : ℤ) → Congruent 1 x y → unsigned_abs x % 2 ≡ unsigned_abs y % 2
 parity (pos m) (pos n) c = let e = c.apart in omega (arith, ints)
@@ -22,7 +22,7 @@ parity (negsuc m) (negsuc n) c = let e = c.apart in omega (arith, ints)
 
 module _ (s : Bool) (B : ℕ) (x y : ℤ) (two : 2 ≤ B) where
   same : (z w : ℤ) → Congruent 1 z w → bitwise_and s B z (pos 1) ≡ bitwise_and s B w (pos 1)
-  same z w c = low-told s B z two ∙ ap pos (parity z w c) ∙ sym (low-told s B w two)
+  same z w c = low-is_remainder s B z two ∙ ap pos (parity z w c) ∙ sym (low-is_remainder s B w two)
 
   module _ (f : InRange s B x) (g : InRange s B y) where
     xor-parity : Congruent 1 (x +ℤ y) (bitwise_xor s B x y)
@@ -41,7 +41,7 @@ module _ (s : Bool) (B : ℕ) (x y : ℤ) (two : 2 ≤ B) where
 
   -- the lowest bit of y is 0 or 1, and y is congruent to it
   lowest : ((bitwise_and s B y (pos 1) ≡ pos 0) × Congruent 1 y (pos 0)) ⊎ ((bitwise_and s B y (pos 1) ≡ pos 1) × Congruent 1 y (pos 1))
-  lowest = by-rest (unsigned_abs y % 2) refl (low-told s B y two)
+  lowest = by-rest (unsigned_abs y % 2) refl (low-is_remainder s B y two)
     where
       even : (q : ℕ) (z : ℤ) → q ≡ unsigned_abs z / 2 → 0 ≡ unsigned_abs z % 2 → Congruent 1 z (pos 0)
       even q (pos m) e d = record { times = pos q; apart = omega (arith, ints) }

@@ -72,10 +72,10 @@ difference-below : (x y r p q n : ℤ) → x <ℤ pos 0 → pos 0 ≤ℤ y → p
 difference-below x y r p q n f g e a b c = grind (arith, ints)
 
 -- an overflow by the sign of a number `n`, where `r` is the result that wraps
-told : (B : ℕ) (z r n : ℤ) → Once B z r → (r ≡ z → n <ℤ pos 0 → ⊥) → (z <ℤ lo true B → r ≡ z +ℤ pos (2 ^ B) → n <ℤ pos 0)
+sign-decides : (B : ℕ) (z r n : ℤ) → Once B z r → (r ≡ z → n <ℤ pos 0 → ⊥) → (z <ℤ lo true B → r ≡ z +ℤ pos (2 ^ B) → n <ℤ pos 0)
     → (hi true B <ℤ z → r ≡ z -ℤ pos (2 ^ B) → n <ℤ pos 0) → (n <ℤ pos 0) ↔ ¬ (InRange true B z)
 unfolding Once
-told B z r n o kept below above =
+sign-decides B z r n o kept below above =
     elim o [
       | inl d ↦ ((λ w. absurd (kept d.1 w)), (λ w. absurd (w d.0)))
       | inr e ↦ elim e [
@@ -91,9 +91,9 @@ module _ (B : ℕ) (x y : ℤ) (h : 1 ≤ B) (f : InRange true B x) (g : InRange
     (λ e. t.1 (λ i. let l = i.low in let u = i.high in elim e [ inl a ↦ absurd (omega (arith, ints, a)) | inr a ↦ absurd (omega (arith, ints, a)) ])),
   )
 
-  pub sum-overflow_told : (bitwise_and true B (bitwise_xor true B x (wrapped_sum true B x y)) (bitwise_xor true B y (wrapped_sum true B x y)) <ℤ pos 0)
+  pub sum-overflow_sign : (bitwise_and true B (bitwise_xor true B x (wrapped_sum true B x y)) (bitwise_xor true B y (wrapped_sum true B x y)) <ℤ pos 0)
       ↔ ¬ (InRange true B (x +ℤ y))
-  sum-overflow_told =
+  sum-overflow_sign =
       let r = wrapped_sum true B x y in
       let i = sum-in_range true B x y h in
       let a = xor-negative B x r h f i in
@@ -107,15 +107,15 @@ module _ (B : ℕ) (x y : ℤ) (h : 1 ≤ B) (f : InRange true B x) (g : InRange
       let n = g.high in
       let u = i.low in
       let v = i.high in
-      told B (x +ℤ y) r _
+      sign-decides B (x +ℤ y) r _
       (once B (x +ℤ y) r h (sum-congruent true B x y x y (Congruent-refl B x) (Congruent-refl B y)) i (omega (arith, ints)) (omega (arith, ints)))
       (λ e. sum-kept x y r _ _ _ e a b c)
       (λ d e. sum-below x y r _ _ _ (omega (arith, ints, d)) (omega (arith, ints, d)) (omega (arith, ints, d, e)) a b c)
       (λ d e. sum-above x y r _ _ _ (omega (arith, ints, d)) (omega (arith, ints, d)) (omega (arith, ints, d, e)) a b c)
 
-  pub difference-overflow_told : (bitwise_and true B (bitwise_xor true B x y) (bitwise_xor true B x (wrapped_difference true B x y)) <ℤ pos 0)
+  pub difference-overflow_sign : (bitwise_and true B (bitwise_xor true B x y) (bitwise_xor true B x (wrapped_difference true B x y)) <ℤ pos 0)
       ↔ ¬ (InRange true B (x -ℤ y))
-  difference-overflow_told =
+  difference-overflow_sign =
       let r = wrapped_difference true B x y in
       let i = difference-in_range true B x y h in
       let a = xor-negative B x y h f g in
@@ -129,7 +129,7 @@ module _ (B : ℕ) (x y : ℤ) (h : 1 ≤ B) (f : InRange true B x) (g : InRange
       let n = g.high in
       let u = i.low in
       let v = i.high in
-      told B (x -ℤ y) r _
+      sign-decides B (x -ℤ y) r _
       (once B (x -ℤ y) r h (difference-congruent true B x y x y (Congruent-refl B x) (Congruent-refl B y)) i (omega (arith, ints)) (omega (arith, ints)))
       (λ e. difference-kept x y r _ _ _ e a b c)
       (λ d e. difference-below x y r _ _ _ (omega (arith, ints, d)) (omega (arith, ints, d)) (omega (arith, ints, d, e)) a b c)
@@ -137,11 +137,11 @@ module _ (B : ℕ) (x y : ℤ) (h : 1 ≤ B) (f : InRange true B x) (g : InRange
 
   pub sum-overflow_ends : (bitwise_and true B (bitwise_xor true B x (wrapped_sum true B x y)) (bitwise_xor true B y (wrapped_sum true B x y)) <ℤ pos 0)
       ↔ (((x +ℤ y) <ℤ lo true B) ⊎ (hi true B <ℤ (x +ℤ y)))
-  sum-overflow_ends = by-ends _ (x +ℤ y) sum-overflow_told
+  sum-overflow_ends = by-ends _ (x +ℤ y) sum-overflow_sign
 
   pub difference-overflow_ends : (bitwise_and true B (bitwise_xor true B x y) (bitwise_xor true B x (wrapped_difference true B x y)) <ℤ pos 0)
       ↔ (((x -ℤ y) <ℤ lo true B) ⊎ (hi true B <ℤ (x -ℤ y)))
-  difference-overflow_ends = by-ends _ (x -ℤ y) difference-overflow_told
+  difference-overflow_ends = by-ends _ (x -ℤ y) difference-overflow_sign
 
   by-flag : (n z : ℤ) → (n <ℤ pos 0) ↔ ¬ (InRange true B z) → is_lt (int_cmp n (pos 0)) ≡ not (in_range true B z)
   by-flag n z t =
@@ -150,14 +150,14 @@ module _ (B : ℕ) (x y : ℤ) (h : 1 ≤ B) (f : InRange true B x) (g : InRange
 
   pub sum-overflow_flag : is_lt (int_cmp (bitwise_and true B (bitwise_xor true B x (wrapped_sum true B x y)) (bitwise_xor true B y (wrapped_sum true B x y))) (pos 0))
       ≡ not (in_range true B (x +ℤ y))
-  sum-overflow_flag = by-flag _ (x +ℤ y) sum-overflow_told
+  sum-overflow_flag = by-flag _ (x +ℤ y) sum-overflow_sign
 
   pub difference-overflow_flag : is_lt (int_cmp (bitwise_and true B (bitwise_xor true B x y) (bitwise_xor true B x (wrapped_difference true B x y))) (pos 0))
       ≡ not (in_range true B (x -ℤ y))
-  difference-overflow_flag = by-flag _ (x -ℤ y) difference-overflow_told
+  difference-overflow_flag = by-flag _ (x -ℤ y) difference-overflow_sign
 
-  pub xor-sign_told : is_lt (int_cmp (bitwise_xor true B x y) (pos 0)) ≡ not (beq (is_lt (int_cmp x (pos 0))) (is_lt (int_cmp y (pos 0))))
-  xor-sign_told =
+  pub xor-sign_differs : is_lt (int_cmp (bitwise_xor true B x y) (pos 0)) ≡ not (beq (is_lt (int_cmp x (pos 0))) (is_lt (int_cmp y (pos 0))))
+  xor-sign_differs =
       let e = sign-pointwise (λ a b. not (beq a b)) B x y _ refl h f g (xor-in_range true B x y h) (bits-xor true B x y) in
       let a = lt-tested (bitwise_xor true B x y) (pos 0) in
       let b = lt-tested x (pos 0) in
@@ -168,4 +168,4 @@ module _ (B : ℕ) (x y : ℤ) (h : 1 ≤ B) (f : InRange true B x) (g : InRange
 pub ruleset overflow_bits = (lt-tested, sum-overflow_ends, difference-overflow_ends, sum-overflow_flag, difference-overflow_flag, bitwise_and-commutes, bitwise_xor-commutes)
 
 -- whether two signs differ
-pub ruleset sign_of_xor = (xor-sign_told)
+pub ruleset sign_of_xor = (xor-sign_differs)

@@ -20,7 +20,7 @@ use Rattle.arbitrary_base.proofs.operations.Definition.{bits-and, bits-not, bits
 use Rattle.arbitrary_base.proofs.operations.Shift.{fill-pointwise}
 use Rattle.arbitrary_base.proofs.operations.WrappedRing.{difference-in_range, wrapped_difference-self, wrapped_sum-commutes, wrapped_sum-zero}
 use Rattle.arbitrary_laws.proofs.orders.Order.{and-negative, fill-is_negative, ge-tested, gt-tested, le-tested, lt-tested, or-negative, xor-negative}
-use Rattle.arbitrary_laws.proofs.signs.OverflowBits.{difference-overflow_told, sum-overflow_flag, sum-overflow_told}
+use Rattle.arbitrary_laws.proofs.signs.OverflowBits.{difference-overflow_sign, sum-overflow_flag, sum-overflow_sign}
 use Rattle.arbitrary_laws.proofs.sums.Ring.{difference-turned, sum-of_difference}
 
 -- ---- the highest bit
@@ -32,8 +32,8 @@ sign-is : (B : ℕ) (x : ℤ) → sign_bit B x ≡ fill true (bits B x)
 unfolding sign_bit
 sign-is B x = refl
 
-sign-told : (B : ℕ) (x : ℤ) → 1 ≤ B → InRange true B x → sign_bit B x ≡ int_lt x (pos 0)
-sign-told B x h f = sign-is B x ∙ fill-is_negative B x h f
+sign-is_negative : (B : ℕ) (x : ℤ) → 1 ≤ B → InRange true B x → sign_bit B x ≡ int_lt x (pos 0)
+sign-is_negative B x h f = sign-is B x ∙ fill-is_negative B x h f
 
 last-not : (l : List Bool) → 1 ≤ length l → fill true (map not l) ≡ not (fill true l)
 last-not l h =
@@ -57,11 +57,11 @@ lt-is x y = let a = lt-tested x y in grind (arith, ints, a)
 
 -- the test of a number in range whose highest bit is `b`
 by-bit : (B : ℕ) (z : ℤ) (b : Bool) → 1 ≤ B → InRange true B z → sign_bit B z ≡ b → is_lt (int_cmp z (pos 0)) ≡ b
-by-bit B z b h f e = lt-is z (pos 0) ∙ sym (sign-told B z h f) ∙ e
+by-bit B z b h f e = lt-is z (pos 0) ∙ sym (sign-is_negative B z h f) ∙ e
 
 -- the sign of a complement, where two numbers are equal if it is negative: `!((x - y) | (y - x)) < 0`
 pub not-sign : (B : ℕ) (x : ℤ) → 1 ≤ B → InRange true B x → is_lt (int_cmp (bitwise_not true B x) (pos 0)) ≡ not (is_lt (int_cmp x (pos 0)))
-not-sign B x h f = by-bit B _ _ h (not-in_range true B x h) (not-bit B x h ∙ ap not (sign-told B x h f ∙ sym (lt-is x (pos 0))))
+not-sign B x h f = by-bit B _ _ h (not-in_range true B x h) (not-bit B x h ∙ ap not (sign-is_negative B x h f ∙ sym (lt-is x (pos 0))))
 
 -- ---- the order: what holds of both signs `a` and `b`, that of the difference `d`, and `l` that the first number is below the second
 
@@ -95,23 +95,23 @@ module _ (B : ℕ) (x y : ℤ) (h : 1 ≤ B) (f : InRange true B x) (g : InRange
   exact-sign : lo true B ≤ℤ (x -ℤ y) → (x -ℤ y) ≤ℤ hi true B → sign_bit B (wrapped_difference true B x y) ≡ int_lt x y
   exact-sign l u =
       let e = difference-is true B x y ∙ wrap-of_in_range true B (x -ℤ y) h (record { low = l; high = u }) in
-      sign-told B _ h (difference-in_range true B x y h) ∙ ap (λ (z : ℤ). int_lt z (pos 0)) e ∙ moved x y
+      sign-is_negative B _ h (difference-in_range true B x y h) ∙ ap (λ (z : ℤ). int_lt z (pos 0)) e ∙ moved x y
     where
       moved : (a b : ℤ) → int_lt (a -ℤ b) (pos 0) ≡ int_lt a b
       moved a b = grind (arith, ints)
 
   like : (b : Bool) → sign_bit B x ≡ b → sign_bit B y ≡ b → sign_bit B (wrapped_difference true B x y) ≡ int_lt x y
   like true p q =
-      let a : int_lt x (pos 0) ≡ true = sym (sign-told B x h f) ∙ p in
-      let b : int_lt y (pos 0) ≡ true = sym (sign-told B y h g) ∙ q in
+      let a : int_lt x (pos 0) ≡ true = sym (sign-is_negative B x h f) ∙ p in
+      let b : int_lt y (pos 0) ≡ true = sym (sign-is_negative B y h g) ∙ q in
       let k = f.low in
       let l = g.low in
       let c : x <ℤ pos 0 = grind (arith, ints, a) in
       let d : y <ℤ pos 0 = grind (arith, ints, b) in
       exact-sign (omega (arith, ints)) (omega (arith, ints))
   like false p q =
-      let a : int_lt x (pos 0) ≡ false = sym (sign-told B x h f) ∙ p in
-      let b : int_lt y (pos 0) ≡ false = sym (sign-told B y h g) ∙ q in
+      let a : int_lt x (pos 0) ≡ false = sym (sign-is_negative B x h f) ∙ p in
+      let b : int_lt y (pos 0) ≡ false = sym (sign-is_negative B y h g) ∙ q in
       let k = f.high in
       let l = g.high in
       let c : pos 0 ≤ℤ x = grind (arith, ints, a) in
@@ -120,8 +120,8 @@ module _ (B : ℕ) (x y : ℤ) (h : 1 ≤ B) (f : InRange true B x) (g : InRange
 
   ordered : Ordered (sign_bit B x) (sign_bit B y) (sign_bit B (wrapped_difference true B x y)) (int_lt x y)
   ordered =
-      let p = sign-told B x h f in
-      let q = sign-told B y h g in (
+      let p = sign-is_negative B x h f in
+      let q = sign-is_negative B y h g in (
         (λ e. like (sign_bit B y) e refl),
         (λ a b. let c : int_lt x (pos 0) ≡ true = sym p ∙ a in let d : int_lt y (pos 0) ≡ false = sym q ∙ b in grind (arith, ints, c, d)),
         (λ a b. let c : int_lt x (pos 0) ≡ false = sym p ∙ a in let d : int_lt y (pos 0) ≡ true = sym q ∙ b in grind (arith, ints, c, d)),
@@ -162,7 +162,7 @@ module _ (B : ℕ) (x : ℤ) (h : 1 ≤ B) (f : InRange true B x) where
   negated-bit l =
       let u = f.high in
       let e = difference-is true B (pos 0) x ∙ wrap-of_in_range true B (pos 0 -ℤ x) h (record { low = omega (arith, ints); high = omega (arith, ints) }) in
-      sign-told B _ h (difference-in_range true B (pos 0) x h) ∙ ap (λ (z : ℤ). int_lt z (pos 0)) e ∙ (let d : int_lt (pos 0 -ℤ x) (pos 0) ≡ int_lt (pos 0) x = grind (arith, ints) in d)
+      sign-is_negative B _ h (difference-in_range true B (pos 0) x h) ∙ ap (λ (z : ℤ). int_lt z (pos 0)) e ∙ (let d : int_lt (pos 0 -ℤ x) (pos 0) ≡ int_lt (pos 0) x = grind (arith, ints) in d)
 
   either-bit : (b : Bool) → int_lt x (pos 0) ≡ b → (b || sign_bit B (wrapped_difference true B (pos 0) x)) ≡ not (int_eq x (pos 0))
   either-bit true e = let d = Decides-int_eq x (pos 0) in grind (arith, ints, e, d)
@@ -170,7 +170,7 @@ module _ (B : ℕ) (x : ℤ) (h : 1 ≤ B) (f : InRange true B x) where
 
   pub not_zero-by_sign : is_lt (int_cmp (bitwise_or true B x (wrapped_difference true B (pos 0) x)) (pos 0)) ≡ not (int_eq x (pos 0))
   not_zero-by_sign =
-      by-bit B _ _ h (or-in_range true B _ _ h) (or-bit B _ _ ∙ ap (λ a. a || sign_bit B (wrapped_difference true B (pos 0) x)) (sign-told B x h f) ∙ either-bit _ refl)
+      by-bit B _ _ h (or-in_range true B _ _ h) (or-bit B _ _ ∙ ap (λ a. a || sign_bit B (wrapped_difference true B (pos 0) x)) (sign-is_negative B x h f) ∙ either-bit _ refl)
 
   both-bit : (b : Bool) → int_lt x (pos 0) ≡ b → (sign_bit B (wrapped_difference true B (pos 0) x) && not b) ≡ int_lt (pos 0) x
   both-bit true e = grind (arith, ints, e)
@@ -179,7 +179,7 @@ module _ (B : ℕ) (x : ℤ) (h : 1 ≤ B) (f : InRange true B x) where
   pub positive-by_sign : is_lt (int_cmp (bitwise_and true B (wrapped_difference true B (pos 0) x) (bitwise_not true B x)) (pos 0)) ≡ is_lt (int_cmp (pos 0) x)
   positive-by_sign =
       by-bit B _ _ h (and-in_range true B _ _ h)
-      (and-bit B _ _ ∙ ap (λ a. sign_bit B (wrapped_difference true B (pos 0) x) && a) (not-bit B x h ∙ ap not (sign-told B x h f)) ∙ both-bit _ refl)
+      (and-bit B _ _ ∙ ap (λ a. sign_bit B (wrapped_difference true B (pos 0) x) && a) (not-bit B x h ∙ ap not (sign-is_negative B x h f)) ∙ both-bit _ refl)
       ∙ sym (lt-is (pos 0) x)
 
 pub differ-by_sign : (B : ℕ) (x y : ℤ) → 1 ≤ B → InRange true B x → InRange true B y
@@ -214,19 +214,19 @@ module _ (B : ℕ) (x y : ℤ) (h : 1 ≤ B) (f : InRange true B x) (g : InRange
       by-bit B _ _ h (and-in_range true B _ _ h)
       (and-bit B _ _ ∙ ap₂ (λ a b. a && b) (not-bit B _ h ∙ ap not (xor-bit B x y)) (xor-bit B x s) ∙ pick-like _ _ _
       ∙ sym (and-bit B (bitwise_xor true B x s) (bitwise_xor true B y s) ∙ ap₂ (λ a b. a && b) (xor-bit B x s) (xor-bit B y s))
-      ∙ sign-told B _ h (and-in_range true B (bitwise_xor true B x s) (bitwise_xor true B y s) h) ∙ sym (lt-is (bitwise_and true B (bitwise_xor true B x s) (bitwise_xor true B y s)) (pos 0)) ∙ sum-overflow_flag B x y h f g)
+      ∙ sign-is_negative B _ h (and-in_range true B (bitwise_xor true B x s) (bitwise_xor true B y s) h) ∙ sym (lt-is (bitwise_and true B (bitwise_xor true B x s) (bitwise_xor true B y s)) (pos 0)) ∙ sum-overflow_flag B x y h f g)
 
-  pub like-overflow_told : (bitwise_and true B (bitwise_not true B (bitwise_xor true B x y)) (bitwise_xor true B x (wrapped_sum true B x y)) <ℤ pos 0) ↔ ¬ (InRange true B (x +ℤ y))
-  like-overflow_told =
+  pub like-overflow_sign : (bitwise_and true B (bitwise_not true B (bitwise_xor true B x y)) (bitwise_xor true B x (wrapped_sum true B x y)) <ℤ pos 0) ↔ ¬ (InRange true B (x +ℤ y))
+  like-overflow_sign =
       let s = wrapped_sum true B x y in
       let a = lt-tested (bitwise_and true B (bitwise_not true B (bitwise_xor true B x y)) (bitwise_xor true B x s)) (pos 0) in
       let b = lt-tested (bitwise_and true B (bitwise_xor true B x s) (bitwise_xor true B y s)) (pos 0) in
       let e = like-overflow_flag ∙ sym (sum-overflow_flag B x y h f g) in
-      let t = sum-overflow_told B x y h f g in
+      let t = sum-overflow_sign B x y h f g in
       ((λ w. t.0 (b.0 (subst (λ (v : Bool). IsTrue v) e (a.1 w)))), (λ w. a.0 (subst (λ (v : Bool). IsTrue v) (sym e) (b.1 (t.1 w)))))
 
 -- an overflow by signs, where a checked call is asked or a flag
-pub ruleset overflow_tests = (lt-tested, sum-overflow_told, difference-overflow_told, like-overflow_told, bitwise_and-commutes, bitwise_xor-commutes)
+pub ruleset overflow_tests = (lt-tested, sum-overflow_sign, difference-overflow_sign, like-overflow_sign, bitwise_and-commutes, bitwise_xor-commutes)
 
 -- so that a law of `< 0` serves `>= 0` too
 pub ge-by_lt : (x y : ℤ) → is_ge (int_cmp x y) ≡ not (is_lt (int_cmp x y))

@@ -1,5 +1,5 @@
 -- The small sets of this folder, each for one kind of goal. Sets.antt has the public set of the topic.
-use Rattle.arbitrary_base.proofs.LawProof.{in_range-tells}
+use Rattle.arbitrary_base.proofs.LawProof.{in_range-decides}
 use Rattle.arbitrary_base.proofs.modular.Residue.{wrap-congruent, wrap-of_in_range}
 use Rattle.arbitrary_base.proofs.storages.Clamp.{clamp-above, clamp-below, clamp-fits}
 use Rattle.arbitrary_int.proofs.RangeNumbers.{numbers-count}
@@ -17,4 +17,4 @@ pub ruleset signed_lists = (signed_items)
 pub ruleset ranges = (Decides-int_eq, numbers-head, last_of-joined, numbers-end, numbers-count)
 
 -- what a list of steps leaves, where each step is written out
-pub ruleset steps = (map-id, wrap-of_in_range, wrap-congruent, clamp-fits, clamp-below, clamp-above, in_range-tells, sum-step, difference-step, product-step, known_numbers)
+pub ruleset steps = (map-id, wrap-of_in_range, wrap-congruent, clamp-fits, clamp-below, clamp-above, in_range-decides, sum-step, difference-step, product-step, known_numbers)

@@ -31,8 +31,8 @@ module _ (s t : Bool) (A B : ℕ) (x y z : ℤ) (wider : A ≤ B) where
       difference-right s t A B x (y -ℤ z) wider ∙ ap (wrap s A) e
 
 -- for each way to write the exact result
-pub wrap-told : (s : Bool) (B : ℕ) (x k : ℤ) → x ≡ k → Congruent B (wrap s B x) k
-wrap-told s B x k e = subst (Congruent B (wrap s B x)) e (wrap-congruent s B x)
+pub wrap-known : (s : Bool) (B : ℕ) (x k : ℤ) → x ≡ k → Congruent B (wrap s B x) k
+wrap-known s B x k e = subst (Congruent B (wrap s B x)) e (wrap-congruent s B x)
 
 -- two steps at once: one instance of a law in another counts against the search
 module _ (s t u : Bool) (A B C : ℕ) (w x y : ℤ) (wider : A ≤ B) (wide : A ≤ C) where
@@ -69,4 +69,4 @@ module _ (s t u : Bool) (A B C : ℕ) (w x y : ℤ) (wider : A ≤ B) (wide : A 
   pub product-after_product : wrap s A (wrap t B (wrap u C w *ℤ y) *ℤ x) ≡ wrap s A ((w *ℤ y) *ℤ x)
   product-after_product = alike s A _ _ (Congruent-mul A _ (w *ℤ y) x x (second _ _ (Congruent-mul A _ w y y first (Congruent-refl A y))) (Congruent-refl A x))
 
-pub ruleset congruent_chains = (wrap-told, sum-right, sum-left, difference-right, difference-left, product-right, product-left, sum-with_sum, sum-with_difference, difference-with_sum, difference-with_difference, sum-after_sum, sum-after_difference, sum-after_product, difference-after_sum, difference-after_difference, difference-after_product, product-after_sum, product-after_difference, product-after_product)
+pub ruleset congruent_chains = (wrap-known, sum-right, sum-left, difference-right, difference-left, product-right, product-left, sum-with_sum, sum-with_difference, difference-with_sum, difference-with_difference, sum-after_sum, sum-after_difference, sum-after_product, difference-after_sum, difference-after_difference, difference-after_product, product-after_sum, product-after_difference, product-after_product)
