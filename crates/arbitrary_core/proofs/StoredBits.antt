@@ -1,16 +1,18 @@
 -- Why `Int` can store the pattern of its number, and why the calls on bits can use that pattern.
-use Rattle.std.specs.Prelude.{◌≡◌, ℕ, ℤ, Bool, List, false, pos, length, ◌≤◌}
+use Rattle.std.specs.Prelude.{◌≡◌, ℕ, ℤ, Bool, List, false, pos, length, suc, true, zero, ◌≤◌, ◌-ℤ◌}
 use Rattle.std.specs.Ordering.{int_eq}
-use Rattle.std.proofs.Common.{refl, ap, sym, subst, ◌∙◌}
+use Rattle.std.proofs.Common.{refl, ap, arith, sym, subst, ◌∙◌}
 use Rattle.std.proofs.lemmas.Bool.Decides.{Decides-int_eq, same_from_decides}
-use Rattle.arbitrary_base.specs.Range.{InRange}
+use Rattle.std.proofs.lemmas.Int.{ints}
+use Rattle.arbitrary_base.specs.Range.{InRange, lo}
 use Rattle.arbitrary_base.specs.Residue.{Congruent, residue, wrap}
 use Rattle.arbitrary_base.specs.BitList.{bits, num, val}
 use Rattle.arbitrary_base.proofs.modular.Congruence.{Congruent-trans}
 use Rattle.arbitrary_base.proofs.modular.Residue.{residue-lt, congruent-wrap, wrap-congruent, wrap-in_range, wrap-same}
 use Rattle.arbitrary_base.proofs.storages.Primitive.{unsigned-in_range}
 use Rattle.arbitrary_base.proofs.modular.RoundTrip.{pattern-stays, number-stays, number-of_residue}
-use Rattle.arbitrary_base.proofs.bit_lists.TwosComplement.{bits-residue, val-num}
+use Rattle.arbitrary_base.proofs.bit_lists.TwosComplement.{bits-residue, val-bits, val-num}
+use Rattle.arbitrary_base.proofs.bit_lists.UnsignedNumber.{length-bits}
 
 -- a pattern is in the range of an unsigned storage's type
 pub pattern-range : (t : Bool) (B : ℕ) (x p : ℤ) → t ≡ false → pos (residue B x) ≡ p → InRange t B p
@@ -44,3 +46,15 @@ same-patterns s B x y p q r h f g d e k =
     let same : p ≡ q → x ≡ y = λ i. sym (number-of_residue s B x h f) ∙ ap (wrap s B) (sym d ∙ i ∙ e) ∙ number-of_residue s B y h g in
     let stays : x ≡ y → p ≡ q = λ i. d ∙ ap (λ (z : ℤ). pos (residue B z)) i ∙ sym e in
     k ∙ same_from_decides (int_eq p q) (int_eq x y) ((λ i. same (t.0 i)), (λ i. t.1 (stays i))) (Decides-int_eq x y)
+
+wrap-at_no_width : (s : Bool) (y : ℤ) → InRange s 0 (wrap s 0 y)
+unfolding wrap
+wrap-at_no_width false y = let l = residue-lt 0 (y -ℤ lo false 0) in record { low = omega (arith, ints, l); high = omega (arith, ints, l) }
+wrap-at_no_width true y = let l = residue-lt 0 (y -ℤ lo true 0) in record { low = omega (arith, ints, l); high = omega (arith, ints, l) }
+
+-- a number that is the value of its own bits is in range: one behind a reference, of which nothing else is known
+pub in_range-by_bits : (s : Bool) (B : ℕ) (x : ℤ) → val s (bits B x) ≡ x → InRange s B x
+in_range-by_bits s zero x e = subst (InRange s 0) (sym (val-num s 0 (bits 0 x) (length-bits 0 x)) ∙ e) (wrap-at_no_width s _)
+in_range-by_bits s (suc B) x e =
+    let h : 1 ≤ suc B = omega arith in
+    subst (InRange s (suc B)) (sym (val-bits s (suc B) x h) ∙ e) (wrap-in_range s (suc B) x h)

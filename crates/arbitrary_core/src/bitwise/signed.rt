@@ -52,6 +52,8 @@ where
             → (n : ℕ) × ((self.new ≡ pos n) × (n ≤ k)) }
         ensures at_most_rhs { (k : ℕ) → rhs ≡ pos k → (n : ℕ) × ((self.new ≡ pos n) × (n ≤ k)) }
         ensures lowest { rhs ≡ pos 1 → self.new ≡ pos (unsigned_abs self.old % 2) }
+        ensures result_in_range { InRange T.SIGNED BITS self.new }
+        ensures self_in_range { InRange T.SIGNED BITS self.old }
     {
         *self = *self & rhs;
     }
@@ -91,6 +93,8 @@ where
         ensures operands_from_bits { (val T.SIGNED (bits BITS self.old) ≡ self.old)
             × (val T.SIGNED (bits BITS rhs) ≡ rhs) }
         ensures plain { (m n : ℕ) → self.old ≡ pos m → rhs ≡ pos n → self.new ≡ pos (bit_or m n) }
+        ensures result_in_range { InRange T.SIGNED BITS self.new }
+        ensures self_in_range { InRange T.SIGNED BITS self.old }
     {
         *self = *self | rhs;
     }
@@ -134,6 +138,8 @@ where
         ensures plain { (m n : ℕ) → self.old ≡ pos m → rhs ≡ pos n → self.new ≡ pos (bit_xor m n) }
         ensures same { self.old ≡ rhs → self.new ≡ pos 0 }
         ensures undo { bitwise_xor T.SIGNED BITS self.new rhs ≡ self.old }
+        ensures result_in_range { InRange T.SIGNED BITS self.new }
+        ensures self_in_range { InRange T.SIGNED BITS self.old }
     {
         *self = *self ^ rhs;
     }

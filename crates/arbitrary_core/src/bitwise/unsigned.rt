@@ -42,6 +42,8 @@ impl<T: UnsignedStorage, const BITS: usize> BitAndAssign<UInt<T, BITS>> for UInt
         ensures plain { self.new ≡ pos (bit_and (unsigned_abs self.old) (unsigned_abs rhs)) }
         ensures at_most_self { self.new ≤ℤ self.old }
         ensures at_most_rhs { self.new ≤ℤ rhs }
+        ensures result_in_range { InRange T.SIGNED BITS self.new }
+        ensures self_in_range { InRange T.SIGNED BITS self.old }
     {
         *self = *self & rhs;
     }
@@ -78,6 +80,8 @@ impl<T: UnsignedStorage, const BITS: usize> BitOrAssign<UInt<T, BITS>> for UInt<
         ensures plain { self.new ≡ pos (bit_or (unsigned_abs self.old) (unsigned_abs rhs)) }
         ensures at_least_self { self.old ≤ℤ self.new }
         ensures at_least_rhs { rhs ≤ℤ self.new }
+        ensures result_in_range { InRange T.SIGNED BITS self.new }
+        ensures self_in_range { InRange T.SIGNED BITS self.old }
     {
         *self = *self | rhs;
     }
@@ -114,6 +118,8 @@ impl<T: UnsignedStorage, const BITS: usize> BitXorAssign<UInt<T, BITS>> for UInt
         ensures plain { self.new ≡ pos (bit_xor (unsigned_abs self.old) (unsigned_abs rhs)) }
         ensures same { self.old ≡ rhs → self.new ≡ pos 0 }
         ensures undo { bitwise_xor T.SIGNED BITS self.new rhs ≡ self.old }
+        ensures result_in_range { InRange T.SIGNED BITS self.new }
+        ensures self_in_range { InRange T.SIGNED BITS self.old }
     {
         *self = *self ^ rhs;
     }

@@ -52,6 +52,7 @@ impl<T: UnsignedStorage, const BITS: usize, S: ShiftAmount> ShlAssign<S> for UIn
             self.new ≡ pos (unsigned_abs self.old * 2 ^ places % 2 ^ BITS) }
         ensures congruent { let places = unsigned_abs (S.amount amount) in
             Congruent BITS self.new (self.old *ℤ pos (2 ^ places)) }
+        ensures result_in_range { InRange T.SIGNED BITS self.new }
         ensures self_in_range { InRange T.SIGNED BITS self.old }
     {
         *self = *self << amount;
