@@ -40,6 +40,7 @@ use Rattle.arbitrary_laws.proofs.counts.Population.{front-of_not_zero, popcount-
 use Rattle.arbitrary_laws.proofs.counts.RunsOfTwo.{front-of_and, front-of_left, front-of_or, front-of_right, front-of_xor, front_ones-of_and, front_ones-of_or, tail-of_and, tail-of_left, tail-of_or, tail-of_right, tail-of_xor, tail_ones-of_and, tail_ones-of_or}
 use Rattle.arbitrary_laws.proofs.counts.TrailingZeros.{multiples-by_zeros, zeros-of_multiples}
 use Rattle.arbitrary_laws.proofs.fields.EmptyWord.{with_field-of_nothing}
+use Rattle.arbitrary_laws.proofs.fields.JoinedFields.{joined_first, joined_next}
 use Rattle.arbitrary_laws.proofs.fields.JoinedWords.{and_above, or_above, or_above_numeral, or_masked, or_numeral_between, or_numeral_first, or_numeral_last}
 use Rattle.arbitrary_laws.proofs.fields.LowestField.{lowest_field, lowest_field-wrapped, or_below_flag}
 use Rattle.arbitrary_laws.proofs.fields.MovedIn.{or_moved_above, or_moved_in}
@@ -148,7 +149,7 @@ pub ruleset numbers = (wrap-of_in_range, wrap-congruent, wrap-wrap, clamp-fits, 
 pub ruleset words = (written_masks, apart_parts, multiples, merges, lowest_by_zeros, rotated_left-number, rotated_right-number, ints)
 
 -- words of a `UInt` with fewer laws, and each field read by itself. With all laws of `words` these take the search to its limits
-pub ruleset uint_words = (and_runs, and_none, differing, differing_above, apart_parts, joined_reads, rotated_left-number, rotated_right-number)
+pub ruleset uint_words = (and_runs, and_none, differing, differing_above, apart_parts, joined_reads, joined_first, joined_next, rotated_left-number, rotated_right-number)
 
 -- carry, overflow and borrow by one bit of a primitive or a `UInt`
 pub ruleset overflow_flags = (one_bits, ints)

@@ -57,6 +57,7 @@ pub fn under_a_mark(high: u6, low: u8) -> u16
     0x8000 | (u16::from_(high) << 8) | u16::from(low)
 }
 
+#[tactic(auto, using(arbitrary_laws::proofs::fields::JoinedFields::joined_fields))]
 pub fn four_in_their_own_type(a: u3, b: u6, c: u6, d: u6) -> u21
     ensures { result ≡ pos 262144 *ℤ a +ℤ pos 4096 *ℤ b +ℤ pos 64 *ℤ c +ℤ d }
 {

@@ -6,7 +6,7 @@ ghost use Rattle.std.specs.Prelude.{◌≡◌, ◌*◌, ◌/◌, ◌%◌, ◌+�
 use arbitrary_int::prelude::*;
 
 /// The offset of a branch, whose lowest part is moved up too.
-#[tactic(auto, using(arbitrary_laws::proofs::fields::JoinedFields::four_moved_fields))]
+#[tactic(auto, using(arbitrary_laws::proofs::fields::JoinedFields::joined_fields))]
 pub fn branch_offset(sign: u1, next: u1, high: u6, low: u4) -> u13
     ensures { result ≡ sign *ℤ pos 4096 +ℤ next *ℤ pos 2048 +ℤ high *ℤ pos 32 +ℤ low *ℤ pos 2 }
 {
