@@ -2,7 +2,7 @@
 //! clears the others.
 #![tactic(auto, using(arbitrary_laws::proofs::places::LowestBit::lowest_bits))]
 
-ghost use Rattle.std.specs.Prelude.{◌≢◌, ◌<◌, pos, IsTrue};
+ghost use Rattle.std.specs.Prelude.{◌≢◌, ◌<◌, ◌<ℤ◌, pos, IsTrue};
 
 use arbitrary_int::prelude::*;
 
@@ -23,6 +23,19 @@ pub fn left_alone_is_one_shifted(x: u24) -> bool
     ensures { IsTrue result }
 {
     x & x.wrapping_neg() == u24::new(1) << x.trailing_zeros()
+}
+
+pub fn left_alone_of_a_positive_number(x: u20) -> bool
+    requires { pos 0 <ℤ x }
+    ensures { IsTrue result }
+{
+    x & x.wrapping_neg() == u20::new(1) << x.trailing_zeros()
+}
+
+pub fn left_alone_or_none(x: u20) -> bool
+    ensures { IsTrue result }
+{
+    x == u20::zero() || x & x.wrapping_neg() == u20::new(1) << x.trailing_zeros()
 }
 
 #[tactic(auto, using(arbitrary_laws::proofs::places::LowestBit::powers_of_two))]

@@ -2,7 +2,7 @@
 -- clears the others. Callers name the set `lowest_bits`.
 use Rattle.std.specs.Bool.{beq}
 use Rattle.std.specs.List.{count_by, prefix_len}
-use Rattle.std.specs.Prelude.{Bool, List, [], false, length, map, not, pos, replicate, suc, take, true, zero, ℕ, ℤ, ◌++◌, ◌+◌, ◌-ℤ◌, ◌-◌, ◌<◌, ◌↔◌, ◌∷◌, ◌≡◌, ◌≢◌, ◌≤◌}
+use Rattle.std.specs.Prelude.{Bool, List, [], false, length, map, not, pos, replicate, suc, take, true, unsigned_abs, zero, ℕ, ℤ, ◌++◌, ◌+◌, ◌-ℤ◌, ◌-◌, ◌<◌, ◌↔◌, ◌∷◌, ◌≡◌, ◌≢◌, ◌≤◌}
 use Rattle.std.proofs.Common.{ap, arith, refl, subst, sym, ◌∙◌}
 use Rattle.std.proofs.lemmas.Bool.Decides.{Decides-int_eq}
 use Rattle.std.proofs.lemmas.Int.{ints}
@@ -145,6 +145,11 @@ and-of_negated s B x h f d =
     left-again : (k : ℕ) → k < B → shifted_left s B (pos 1) k ≡ val s (bits B (shifted_left s B (pos 1) k))
     left-again k g = left-is s B (pos 1) k ∙ ap (val s) (sym (bits-left s B (pos 1) k (omega arith)))
 
+-- the search shows this premise from `x != 0` and from `0 < x`
+pub lowest-is_shifted : (s : Bool) (B : ℕ) (x : ℤ) → 1 ≤ B → InRange s B x → 1 ≤ unsigned_abs x
+    → bitwise_and s B x (wrapped_difference s B (pos 0) x) ≡ shifted_left s B (pos 1) (prefix_len (beq false) (bits B x))
+lowest-is_shifted s B x h f d = and-of_negated s B x h f (λ e. omega (arith, ints, d, e))
+
 -- how many zeros are below it, also where there is none
 pub front-of_lowest : (s : Bool) (B : ℕ) (x : ℤ) → 1 ≤ B → InRange s B x
     → prefix_len (beq false) (bits B (bitwise_and s B x (wrapped_difference s B (pos 0) x))) ≡ prefix_len (beq false) (bits B x)
@@ -166,7 +171,7 @@ pub and-of_difference : (s : Bool) (B : ℕ) (x y z : ℤ) → bitwise_and s B x
 and-of_difference s B x y z =
     and-is s B x _ ∙ ap (λ (l : List Bool). val s (bits_and (bits B x) l)) (sym (ap (bits B) (difference-is s B y z) ∙ bits-wrap s B (y -ℤ z))) ∙ sym (and-is s B x _)
 
-pub ruleset lowest_bits = (Decides-int_eq, popcount-of_lowest_cleared, front-of_lowest, and-of_negated, negated-is_difference, popcount-of_one_bit, front-of_one_bit, and-below, no_ones-of_zero, zero-of_no_ones, and-of_difference)
+pub ruleset lowest_bits = (Decides-int_eq, popcount-of_lowest_cleared, front-of_lowest, lowest-is_shifted, ints, negated-is_difference, popcount-of_one_bit, front-of_one_bit, and-below, no_ones-of_zero, zero-of_no_ones, and-of_difference)
 
 -- a test of a power of two: `x & (x - 1) == 0`
 pub ruleset powers_of_two = (Decides-int_eq, none-left_by_before, popcount-of_one_bit)
