@@ -2,7 +2,7 @@
 //! quotients and remainders.
 #![tactic(auto, using(arbitrary_laws::proofs::Sets::words))]
 
-ghost use Rattle.std.specs.Prelude.{◌≡◌, ◌↔◌, ◌/◌, ◌%◌, ◌*◌, ◌+◌, ◌<◌, IsTrue};
+ghost use Rattle.std.specs.Prelude.{◌≡◌, ◌↔◌, ◌/◌, ◌%◌, ◌*◌, ◌+◌, ◌<◌, IsTrue, if◌then◌else◌};
 
 /// The line control register of a UART: the word's length, the stop bits and the parity.
 pub fn lcr(length: u8, two_stops: u8, parity: u8) -> u8
@@ -156,4 +156,89 @@ pub fn merged_channel(control: u32, channel: u32) -> u32
     ensures high { result / 4096 ≡ control / 4096 }
 {
     control ^ ((control ^ (channel << 8)) & 0x0F00)
+}
+
+/// The control bits of one word with the data bits of another.
+pub fn control_of(a: u32, b: u32) -> u32
+    ensures low { result % 4 ≡ a % 4 }
+    ensures second { result / 4 % 8 ≡ b / 4 % 8 }
+    ensures third { result / 32 % 128 ≡ a / 32 % 128 }
+    ensures fourth { result / 4096 % 16 ≡ b / 4096 % 16 }
+    ensures high { result / 65536 ≡ a / 65536 }
+{
+    (a & !0x0000_F01C) | (b & 0x0000_F01C)
+}
+
+/// The odd bytes of one word with the even bytes of another.
+pub fn bytes_of(a: u64, b: u64) -> u64
+    ensures low { result % 256 ≡ b % 256 }
+    ensures second { result / 256 % 256 ≡ a / 256 % 256 }
+    ensures third { result / 65536 % 256 ≡ b / 65536 % 256 }
+{
+    (a & !0x00FF_00FF) | (b & 0x00FF_00FF)
+}
+
+/// Writes the rate from the low bits of a number.
+pub fn with_rate(word: u16, rate: u16) -> u16
+    ensures rate { result / 16 % 64 ≡ rate % 64 }
+    ensures low { result % 16 ≡ word % 16 }
+    ensures high { result / 1024 ≡ word / 1024 }
+{
+    (word & !0x03F0) | ((rate & 0x3F) << 4)
+}
+
+/// Moves the upper part up by two places.
+pub fn spread(x: u16) -> u16
+    requires fits { x < 4096 }
+    ensures { result ≡ x / 32 * 128 + x % 32 }
+{
+    ((x >> 5) << 7) | (x & 0x1F)
+}
+
+/// The address of a row in a table.
+pub fn row_address(v: u16) -> u16
+    ensures { result ≡ 32768 + v / 256 % 8 * 256 + v / 128 % 8 * 4 + v / 2 % 4 }
+{
+    0x8000 | (v & 0x0700) | ((v >> 5) & 0x1C) | ((v >> 1) & 3)
+}
+
+/// The page of a table.
+pub fn page_address(v: u32) -> u32
+    ensures { result ≡ 4026531840 + v / 65536 % 16 * 65536 + v / 4096 % 16 * 16 + v / 16 % 16 }
+{
+    0xF000_0000 | (v & 0x000F_0000) | ((v >> 8) & 0xF0) | ((v >> 4) & 0xF)
+}
+
+/// Clears the count and turns the phase over.
+pub fn restarted(v: u32) -> u32
+    ensures low { result % 64 ≡ 0 }
+    ensures phase { result / 2048 % 2 + v / 2048 % 2 ≡ 1 }
+    ensures middle { result / 64 % 32 ≡ v / 64 % 32 }
+{
+    (v & !0x3F) ^ 0x800
+}
+
+/// Six flags and a mode of two bits.
+pub fn packed(a: bool, b: bool, c: bool, d: bool, e: bool, f: bool, mode: u8) -> u8
+    requires fits { mode < 4 }
+    ensures mode { result / 2 % 4 ≡ mode }
+    ensures first { result / 128 ≡ (if a then 1 else 0) }
+    ensures last { result % 2 ≡ (if f then 1 else 0) }
+{
+    (u8::from(a) << 7)
+        | (u8::from(b) << 6)
+        | (u8::from(c) << 5)
+        | (u8::from(d) << 4)
+        | (u8::from(e) << 3)
+        | (mode << 1)
+        | u8::from(f)
+}
+
+/// Writes the mode and reads it back.
+pub fn mode_back(word: u8, mode: u8) -> u8
+    requires fits { mode < 4 }
+    ensures { result ≡ mode }
+{
+    let written = (word & 0xF9) | (mode << 1);
+    (written >> 1) & 3
 }

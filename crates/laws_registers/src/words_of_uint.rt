@@ -167,3 +167,55 @@ pub fn rotated(word: u9) -> u9
 {
     word.rotate_left(2)
 }
+
+/// Four fields.
+pub fn four_fields(a: u6, b: u6, c: u6, d: u6) -> u24
+    ensures { result ≡ a *ℤ pos 262144 +ℤ b *ℤ pos 4096 +ℤ c *ℤ pos 64 +ℤ d }
+{
+    (u24::from_(a) << 18) | (u24::from_(b) << 12) | (u24::from_(c) << 6) | u24::from_(d)
+}
+
+/// Four fields of other widths.
+pub fn frame_header(version: u3, kind: u5, flow: u4, length: u11) -> u23
+    ensures { result ≡ version *ℤ pos 1048576 +ℤ kind *ℤ pos 32768 +ℤ flow *ℤ pos 2048
+        +ℤ length }
+{
+    (u23::from_(version) << 20)
+        | (u23::from_(kind) << 15)
+        | (u23::from_(flow) << 11)
+        | u23::from_(length)
+}
+
+/// Fields of two sources.
+pub fn of_two_sources(a: u20, b: u20) -> u20
+    ensures low { int_rem result (pos 16) ≡ int_rem b (pos 16) }
+    ensures middle { int_rem (int_div result (pos 16)) (pos 64)
+        ≡ int_rem (int_div a (pos 16)) (pos 64) }
+    ensures high { int_div result (pos 1024) ≡ int_div b (pos 1024) }
+{
+    (a & u20::new(0x003F0)) | (b & !u20::new(0x003F0))
+}
+
+/// A field from masked bits of a byte.
+pub fn from_byte(t: u13, value: u8) -> u13
+    ensures field { int_rem (int_div result (pos 64)) (pos 8) ≡ pos (value % 8) }
+    ensures low { int_rem result (pos 64) ≡ int_rem t (pos 64) }
+{
+    (t & !u13::new(0x01C0)) | (u13::from_(value & 7) << 6)
+}
+
+/// Sets a flag behind `&mut`.
+pub fn enable(register: &mut u12)
+    ensures flag { int_div register.new (pos 2048) ≡ pos 1 }
+    ensures rest { int_rem register.new (pos 2048) ≡ int_rem register.old (pos 2048) }
+{
+    *register |= u12::new(0x800);
+}
+
+/// Clears the low field behind `&mut`.
+pub fn clear_low(register: &mut u12)
+    ensures low { int_rem register.new (pos 16) ≡ pos 0 }
+    ensures high { int_div register.new (pos 16) ≡ int_div register.old (pos 16) }
+{
+    *register &= !u12::new(0xF);
+}

@@ -104,6 +104,19 @@ pub fn highest_place(x: i48) -> u32
     47 - x.leading_zeros()
 }
 
+pub fn product_of_fractions(a: i12, b: i12) -> i24
+    ensures low { (pos 2048 *ℤ result) ≤ℤ (a *ℤ b) }
+    ensures high { (a *ℤ b) <ℤ (pos 2048 *ℤ result +ℤ pos 2048) }
+{
+    (i24::from_(a) * i24::from_(b)) >> 11
+}
+
+pub fn scaled_by_parts_of_128(x: u9, parts: u7) -> u16
+    ensures { pos result ≡ int_div (x *ℤ parts) (pos 128) }
+{
+    (u16::from_(x) * u16::from_(parts)) >> 7
+}
+
 pub fn sign_extended_by_shifts(x: u9) -> i16
     ensures { x <ℤ pos 256 → result ≡ x }
 {
