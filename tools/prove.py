@@ -38,7 +38,8 @@ STEPS = 2000000
 FEW = 250000
 # What each round tries at a goal: with so many steps the sets up to this rank, one at a time, and so many of the best laws.
 ROUNDS = [[(FEW, 40, (8, 24))], [(STEPS, 12, (8,)), (FEW, 1000, (16, 48))], [(STEPS, 1000, (24, 80))]]
-# The other goals of a function are tried with so many of the lists that close its first. A function gets so many steps at most.
+# The other goals of a function are tried with so many of the lists that close its first, and a function with open goals with so many of the best
+# sets as its attribute, in generic code twice as many. A function gets so many steps at most.
 LISTS = 4
 MOST = 600000000
 # After a round, so many choices of laws for a function are checked as attributes.
@@ -200,12 +201,14 @@ class Copies:
         found = self.side_by_side(self.proved, self.rooms, shares(list(solutions.items()), self.count, dict))
         return {it: by for proved in found for it, by in proved.items()}
 
-    def in_groups(self, functions, groups):
-        """Those of these functions that the check proves if their attribute opens a group. Each copy tries another group."""
+    def by_attributes(self, choices):
+        """Those of these functions that the check proves with one of their choices as the attribute. Each copy tries another choice."""
         confirmed = {}
-        for start in range(0, len(groups), self.count):
-            left = [it for it in functions if it not in confirmed]
-            tried = [{it: ([group], []) for it in left} for group in groups[start : start + self.count]]
+        for start in range(0, max(map(len, choices.values()), default=0), self.count):
+            tried = [
+                {it: ([listed[number]], []) for it, listed in choices.items() if it not in confirmed and number < len(listed)}
+                for number in range(start, start + self.count)
+            ]
             for proved in self.side_by_side(self.proved, self.rooms, tried):
                 confirmed.update(proved)
         return confirmed
@@ -389,9 +392,9 @@ class Search:
             functions = [it for it in functions if it not in found and self.is_solved_without(it, *solutions[it])]
         return found
 
-    def by_rank(self, function, rank):
-        """The set of this rank for the first goal of a function."""
-        return [self.index.ranked_sets(strengths(function.said(next(iter(function.goals))), self.index))[rank]], []
+    def sets(self, function, count):
+        """The best sets for the first goal of a function, so many of them."""
+        return self.index.ranked_sets(strengths(function.said(next(iter(function.goals))), self.index))[:count]
 
     def is_solved_without(self, function, named, laws):
         """Drops what has no sets and no laws but these. Returns whether each goal is still closed by something."""
@@ -431,11 +434,12 @@ def first_check(crate, names, jobs):
 
 def found_in(copies, index, functions):
     """By function, what closes its goals as the check confirms it: public sets, and further laws."""
-    search, confirmed = Search(copies, index, functions), {}
+    search = Search(copies, index, functions)
     search.show_goals()
-    if generic := [it for it in functions if any(map(GENERIC.search, it.shown.values()))]:
-        say(f'groups: {len(generic)} functions')
-        confirmed = copies.in_groups(generic, index.groups)
+    generic = [it for it in functions if any(map(GENERIC.search, it.shown.values()))]
+    if generic:
+        say(f'groups and sets: {len(generic)} functions')
+    confirmed = copies.by_attributes({it: [*index.groups, *search.sets(it, 2 * LISTS)] for it in generic})
     for number, plan in enumerate(ROUNDS, 1):
         search.functions = [it for it in functions if it not in confirmed]
         search.round(f'round {number} of {len(ROUNDS)}', plan)
@@ -443,8 +447,7 @@ def found_in(copies, index, functions):
         search.lessen(closed)
         confirmed.update(search.confirmed(closed))
     # the check does more with an attribute than with an attempt
-    for rank in range(LISTS):
-        confirmed.update(copies.confirmed({it: search.by_rank(it, rank) for it in functions if it not in confirmed}))
+    confirmed.update(copies.by_attributes({it: search.sets(it, LISTS) for it in functions if it not in confirmed and it not in generic}))
     return confirmed
 
 
