@@ -64,7 +64,7 @@ fn a_range_gives_each_value_once(rt: HostRuntime) {
 }
 
 #[test]
-fn a_range_over_all_values_ends(rt: HostRuntime) {
+fn a_range_of_one_bit_ends(rt: HostRuntime) {
     let (least, greatest) = (i1::new(-1), i1::new(0));
     let mut up = range_inclusive(least, greatest);
     let mut down = range_inclusive(least, greatest);
@@ -76,6 +76,10 @@ fn a_range_over_all_values_ends(rt: HostRuntime) {
         same(&rt, (up.next(), down.next_back()), (next, last));
     }
     same(&rt, range_inclusive(greatest, least).next(), None);
+}
+
+#[test]
+fn a_range_over_all_values_ends(rt: HostRuntime) {
     let mut last = None;
     for value in range_inclusive(u7::min_value(), u7::max_value()) {
         last = Some(value);
@@ -84,23 +88,34 @@ fn a_range_over_all_values_ends(rt: HostRuntime) {
 }
 
 #[test]
-fn steps_up_and_down(rt: HostRuntime) {
+fn more_steps_than_a_usize_counts(rt: HostRuntime) {
+    let (least, greatest) = (u120::min_value(), u120::max_value());
     same(
         &rt,
-        u120::steps_between(&u120::min_value(), &u120::max_value()),
+        u120::steps_between(&least, &greatest),
         (usize::MAX, None),
     );
+}
+
+#[test]
+fn steps_between_the_ends_of_a_storage(rt: HostRuntime) {
+    let (least, greatest) = (UInt::<u64, 64>::new(0), UInt::<u64, 64>::new(u64::MAX));
+    let steps = UInt::<u64, 64>::steps_between(&least, &greatest);
+    same(&rt, steps, (usize::MAX, Some(usize::MAX)));
+}
+
+#[test]
+fn steps_between_signed_values(rt: HostRuntime) {
     for (from, to, steps) in [
         (i7::new(-64), i7::new(63), (127, Some(127))),
         (i7::new(1), i7::new(0), (0, None)),
     ] {
         same(&rt, i7::steps_between(&from, &to), steps);
     }
-    same(
-        &rt,
-        UInt::<u64, 64>::steps_between(&UInt::<u64, 64>::new(0), &UInt::<u64, 64>::new(u64::MAX)),
-        (usize::MAX, Some(usize::MAX)),
-    );
+}
+
+#[test]
+fn steps_up_and_down(rt: HostRuntime) {
     for (count, up, down) in [
         (127, Some(i7::new(63)), Some(i7::new(-64))),
         (128, None, None),

@@ -114,7 +114,7 @@ fn has_bases<V: Integer>(
 }
 
 #[test]
-fn numbers_from_zero_up_in_other_bases(rt: HostRuntime) -> Result<(), Fail> {
+fn small_numbers_from_zero_up_in_other_bases(rt: HostRuntime) -> Result<(), Fail> {
     let alloc = rt.alloc();
     has_bases(&rt, alloc, u5::new(10), "a A 12 1010")?;
     has_bases(&rt, alloc, u7::new(0), "0 0 0 0")?;
@@ -125,6 +125,12 @@ fn numbers_from_zero_up_in_other_bases(rt: HostRuntime) -> Result<(), Fail> {
         UInt::<u16, 16>::max_value(),
         "ffff FFFF 177777 1111111111111111",
     )?;
+    Ok(())
+}
+
+#[test]
+fn greater_numbers_from_zero_up_in_other_bases(rt: HostRuntime) -> Result<(), Fail> {
+    let alloc = rt.alloc();
     has_bases(
         &rt,
         alloc,
@@ -143,7 +149,7 @@ fn numbers_from_zero_up_in_other_bases(rt: HostRuntime) -> Result<(), Fail> {
 }
 
 #[test]
-fn negative_numbers_in_other_bases(rt: HostRuntime) -> Result<(), Fail> {
+fn small_negative_numbers_in_other_bases(rt: HostRuntime) -> Result<(), Fail> {
     let alloc = rt.alloc();
     has_bases(&rt, alloc, i4::new(-1), "ff FF 377 11111111")?;
     has_bases(
@@ -159,6 +165,12 @@ fn negative_numbers_in_other_bases(rt: HostRuntime) -> Result<(), Fail> {
         i14::new(-3),
         "fffd FFFD 177775 1111111111111101",
     )?;
+    Ok(())
+}
+
+#[test]
+fn wider_negative_numbers_in_other_bases(rt: HostRuntime) -> Result<(), Fail> {
+    let alloc = rt.alloc();
     has_bases(
         &rt,
         alloc,
@@ -213,7 +225,7 @@ fn wide_storages_in_other_bases(rt: HostRuntime) -> Result<(), Fail> {
 }
 
 #[test]
-fn alternate_and_padded_texts(rt: HostRuntime) -> Result<(), Fail> {
+fn alternate_and_padded_bases(rt: HostRuntime) -> Result<(), Fail> {
     let alloc = rt.alloc();
     let ten = u5::new(10);
     same(
@@ -226,6 +238,12 @@ fn alternate_and_padded_texts(rt: HostRuntime) -> Result<(), Fail> {
         format!(in alloc; "{ten:4x} {ten:<4x} {ten:04x} {ten:#06x}")?.as_str(),
         "   a a    000a 0x000a",
     );
+    Ok(())
+}
+
+#[test]
+fn padding_and_signs(rt: HostRuntime) -> Result<(), Fail> {
+    let alloc = rt.alloc();
     let sixty = u65::new(60);
     same(
         &rt,
@@ -238,6 +256,12 @@ fn alternate_and_padded_texts(rt: HostRuntime) -> Result<(), Fail> {
         format!(in alloc; "{less:05} {less:#?} {less:#x} {less:>4}")?.as_str(),
         "-0003 -3 0xfd   -3",
     );
+    Ok(())
+}
+
+#[test]
+fn an_alternate_text_of_full_width(rt: HostRuntime) -> Result<(), Fail> {
+    let alloc = rt.alloc();
     let least = Int::<i128, 128>::new(-1);
     same(
         &rt,
