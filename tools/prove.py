@@ -38,8 +38,8 @@ STEPS = 2000000
 FEW = 250000
 # What each round tries at a goal: with so many steps the sets up to this rank, one at a time, and so many of the best laws.
 ROUNDS = [[(FEW, 40, (8, 24))], [(STEPS, 12, (8,)), (FEW, 1000, (16, 48))], [(STEPS, 1000, (24, 80))]]
-# The other goals of a function are tried with so many of the lists that close its first, and a function with open goals with so many of the best
-# sets as its attribute, in generic code twice as many. A function gets so many steps at most.
+# The other goals of a function are tried with so many of the lists that close its first. So many of the best sets, and all public ones, are tried as
+# the attribute of a function that stays open, and in generic code the best first of all. A function gets so many steps at most.
 LISTS = 4
 MOST = 600000000
 # After a round, so many choices of laws for a function are checked as attributes.
@@ -392,9 +392,10 @@ class Search:
             functions = [it for it in functions if it not in found and self.is_solved_without(it, *solutions[it])]
         return found
 
-    def sets(self, function, count):
-        """The best sets for the first goal of a function, so many of them."""
-        return self.index.ranked_sets(strengths(function.said(next(iter(function.goals))), self.index))[:count]
+    def sets(self, function):
+        """The best sets for the first goal of a function, and then the other public ones."""
+        ranked = self.index.ranked_sets(strengths(function.said(next(iter(function.goals))), self.index))
+        return ranked[:LISTS] + list(filter(self.index.is_public_set, ranked[LISTS:]))
 
     def is_solved_without(self, function, named, laws):
         """Drops what has no sets and no laws but these. Returns whether each goal is still closed by something."""
@@ -439,7 +440,7 @@ def found_in(copies, index, functions):
     generic = [it for it in functions if any(map(GENERIC.search, it.shown.values()))]
     if generic:
         say(f'groups and sets: {len(generic)} functions')
-    confirmed = copies.by_attributes({it: [*index.groups, *search.sets(it, 2 * LISTS)] for it in generic})
+    confirmed = copies.by_attributes({it: [*index.groups, *search.sets(it)[:LISTS]] for it in generic})
     for number, plan in enumerate(ROUNDS, 1):
         search.functions = [it for it in functions if it not in confirmed]
         search.round(f'round {number} of {len(ROUNDS)}', plan)
@@ -447,7 +448,7 @@ def found_in(copies, index, functions):
         search.lessen(closed)
         confirmed.update(search.confirmed(closed))
     # the check does more with an attribute than with an attempt
-    confirmed.update(copies.by_attributes({it: search.sets(it, LISTS) for it in functions if it not in confirmed and it not in generic}))
+    confirmed.update(copies.by_attributes({it: search.sets(it)[LISTS if it in generic else 0 :] for it in functions if it not in confirmed}))
     return confirmed
 
 

@@ -22,7 +22,8 @@ GIVES = re.compile(r'^ +ghost (\w+)_gives = \{(.*(?:\n {9,}.*)*)', re.M)
 COMPARISONS = {'eq': {'int_eq'}, **{it: {'int_cmp', f'is_{it}'} for it in ('lt', 'le', 'gt', 'ge')}}
 # Words that a term has whatever it is about.
 PLAIN = set('≡ ≢ ℕ ℤ × ⊎ ∷ [] pos suc zero Bool true false List Width InRange IsTrue Decides'.split())
-# The module of the groups of laws of bounds, and the public one, which an attribute names to open a group.
+# The module of the sets that a page lists. The module of the groups of laws of bounds, and the public one, which an attribute names to open a group.
+PUBLIC_SETS = 'Rattle.arbitrary_laws.proofs.Sets'
 GROUPS, PUBLIC_GROUPS = 'Rattle.arbitrary_core.proofs.GenericLaws', 'Rattle.arbitrary_int.specs.GenericLaws'
 
 
@@ -113,6 +114,11 @@ class Index:
         shared = Counter(word for found in counts.values() for word in found)
         self.weight = {word: math.log((len(counts) + 1) / max(1, shared[word])) for word in vocabulary}
         self.topics = {name: {word: (1 + math.log(found[word])) * self.weight[word] for word in found} for name, found in counts.items()}
+
+    @staticmethod
+    def is_public_set(name):
+        """Whether this is one of the sets of a topic, which a page lists."""
+        return name[0] == PUBLIC_SETS
 
     @staticmethod
     def is_public(top, file):
