@@ -37,9 +37,9 @@ COUNTED = ['no', 'one', 'two', 'three', 'four', 'five', 'six', 'seven', 'eight',
 # The input of `bitrun` whose output the gate compares, and the lines of that output.
 INPUT, OUTPUT = ((ROOT / 'crates/bitrun' / name).read_text() for name in ('stdin', 'stdout'))
 FUNCTIONS, _, FOUND, _ = SAMPLE = source(MEASURED, r'sample .*? \| (\d+) \| (\d+) \| (\d+) \| ([\d,]+) \|')
-FACTS, FOUND_FACTS = source(MEASURED, r'everyday .*? \| (\d+) \| \d+ \| (\d+) \|')
-# A quarter of the processor time for each open function.
-SECONDS = float(SAMPLE[3].replace(',', '')) / (int(FUNCTIONS) - int(SAMPLE[1])) / 4
+FACTS, PLAIN_FACTS, FOUND_FACTS = source(MEASURED, r'everyday .*? \| (\d+) \| (\d+) \| (\d+) \|')
+# The processor time for each open function.
+SECONDS = float(SAMPLE[3].replace(',', '')) / (int(FUNCTIONS) - int(SAMPLE[1]))
 # What a page says with figures, and these figures.
 FIGURES = [
     (r"printf '(.*)' \| \./bitrun\.sh", INPUT.replace('\n', '\\n')),
@@ -62,7 +62,8 @@ FIGURES = [
     (r'proved (\d+ of \d+) functions', f'{int(FOUND) - int(SAMPLE[1])} of {int(FUNCTIONS) - int(SAMPLE[1])}'),
     (r'(\d+) of \d+ everyday', FOUND_FACTS),
     (r'\d+ of (\d+) everyday', FACTS),
-    (r'took about (\d+) seconds', f'{SECONDS:.0f}'),
+    (r'(\d+) with no laws', PLAIN_FACTS),
+    (r'took about (\d+)\s+processor seconds', f'{SECONDS:.0f}'),
     (r'at most (\d+) jobs', *source(PROVE, r'-le \d+ \] \|\| jobs=(\d+)')),
     (r'up to (\d+) GB each', *source(PROVE, r'A job takes up to (\d+) GB')),
     (r'(\d+,\d+) bytes', f'{LIMIT:,}'),
