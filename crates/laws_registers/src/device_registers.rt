@@ -174,6 +174,7 @@ pub fn bytes_of(a: u64, b: u64) -> u64
     ensures low { result % 256 ≡ b % 256 }
     ensures second { result / 256 % 256 ≡ a / 256 % 256 }
     ensures third { result / 65536 % 256 ≡ b / 65536 % 256 }
+    ensures high { result / 16777216 ≡ a / 16777216 }
 {
     (a & !0x00FF_00FF) | (b & 0x00FF_00FF)
 }
@@ -214,6 +215,7 @@ pub fn restarted(v: u32) -> u32
     ensures low { result % 64 ≡ 0 }
     ensures phase { result / 2048 % 2 + v / 2048 % 2 ≡ 1 }
     ensures middle { result / 64 % 32 ≡ v / 64 % 32 }
+    ensures high { result / 4096 ≡ v / 4096 }
 {
     (v & !0x3F) ^ 0x800
 }
@@ -222,8 +224,12 @@ pub fn restarted(v: u32) -> u32
 pub fn packed(a: bool, b: bool, c: bool, d: bool, e: bool, f: bool, mode: u8) -> u8
     requires fits { mode < 4 }
     ensures mode { result / 2 % 4 ≡ mode }
-    ensures first { result / 128 ≡ (if a then 1 else 0) }
-    ensures last { result % 2 ≡ (if f then 1 else 0) }
+    ensures a { result / 128 ≡ (if a then 1 else 0) }
+    ensures b { result / 64 % 2 ≡ (if b then 1 else 0) }
+    ensures c { result / 32 % 2 ≡ (if c then 1 else 0) }
+    ensures d { result / 16 % 2 ≡ (if d then 1 else 0) }
+    ensures e { result / 8 % 2 ≡ (if e then 1 else 0) }
+    ensures f { result % 2 ≡ (if f then 1 else 0) }
 {
     (u8::from(a) << 7)
         | (u8::from(b) << 6)

@@ -15,8 +15,14 @@ pub fn rebuilt(v: u15, t: u15) -> u15
 }
 
 /// Clears a field and turns a bit over.
+#[tactic(auto, using(arbitrary_laws::proofs::Sets::words))]
 pub fn turned(v: u15) -> u15
     ensures low { int_rem result (pos 32) ≡ pos 0 }
+    ensures middle { int_rem (int_div result (pos 32)) (pos 32)
+        ≡ int_rem (int_div v (pos 32)) (pos 32) }
+    ensures flag { (int_rem (int_div result (pos 1024)) (pos 2)
+        +ℤ int_rem (int_div v (pos 1024)) (pos 2)) ≡ pos 1 }
+    ensures high { int_div result (pos 2048) ≡ int_div v (pos 2048) }
 {
     (v & !u15::new(0x1F)) ^ u15::new(0x400)
 }
@@ -200,6 +206,7 @@ pub fn of_two_sources(a: u20, b: u20) -> u20
 pub fn from_byte(t: u13, value: u8) -> u13
     ensures field { int_rem (int_div result (pos 64)) (pos 8) ≡ pos (value % 8) }
     ensures low { int_rem result (pos 64) ≡ int_rem t (pos 64) }
+    ensures high { int_div result (pos 512) ≡ int_div t (pos 512) }
 {
     (t & !u13::new(0x01C0)) | (u13::from_(value & 7) << 6)
 }
