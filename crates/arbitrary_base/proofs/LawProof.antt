@@ -30,27 +30,18 @@ is-wrap s B x y h f c = sym (wrap-unique s B x y h f c)
 
 pub ruleset wrap_rules = (wrap-within, wrap-congruent, is-wrap, wrap-of_in_range)
 
--- congruent numbers wrap alike, at a width of 0 too, where one number is left
-wrap-alike : (s : Bool) (B : ℕ) (x y : ℤ) → Congruent B x y → wrap s B x ≡ wrap s B y
-unfolding wrap
-wrap-alike s zero x y c =
-    let r = residue-lt 0 (x -ℤ lo s 0) in
-    let t = residue-lt 0 (y -ℤ lo s 0) in
-    ap (λ (n : ℕ). lo s 0 +ℤ pos n) (omega arith)
-wrap-alike s (suc k) x y c = wrap-same s (suc k) x y (omega arith) c
-
 -- what is added, or multiplied by, may wrap first
 sum-left : (s : Bool) (B : ℕ) (x y : ℤ) → wrap s B (wrap s B x +ℤ y) ≡ wrap s B (x +ℤ y)
-sum-left s B x y = wrap-alike s B _ _ (Congruent-add B _ x y y (wrap-congruent s B x) (Congruent-refl B y))
+sum-left s B x y = wrap-same s B _ _ (Congruent-add B _ x y y (wrap-congruent s B x) (Congruent-refl B y))
 
 sum-right : (s : Bool) (B : ℕ) (x y : ℤ) → wrap s B (x +ℤ wrap s B y) ≡ wrap s B (x +ℤ y)
-sum-right s B x y = wrap-alike s B _ _ (Congruent-add B x x _ y (Congruent-refl B x) (wrap-congruent s B y))
+sum-right s B x y = wrap-same s B _ _ (Congruent-add B x x _ y (Congruent-refl B x) (wrap-congruent s B y))
 
 product-left : (s : Bool) (B : ℕ) (x y : ℤ) → wrap s B (wrap s B x *ℤ y) ≡ wrap s B (x *ℤ y)
-product-left s B x y = wrap-alike s B _ _ (Congruent-mul B _ x y y (wrap-congruent s B x) (Congruent-refl B y))
+product-left s B x y = wrap-same s B _ _ (Congruent-mul B _ x y y (wrap-congruent s B x) (Congruent-refl B y))
 
 product-right : (s : Bool) (B : ℕ) (x y : ℤ) → wrap s B (x *ℤ wrap s B y) ≡ wrap s B (x *ℤ y)
-product-right s B x y = wrap-alike s B _ _ (Congruent-mul B x x _ y (Congruent-refl B x) (wrap-congruent s B y))
+product-right s B x y = wrap-same s B _ _ (Congruent-mul B x x _ y (Congruent-refl B x) (wrap-congruent s B y))
 
 pub sums-commute : (s : Bool) (B : ℕ) (x y : ℤ) → wrap s B (x +ℤ y) ≡ wrap s B (y +ℤ x)
 sums-commute s B x y = ap (wrap s B) (omega (arith, ints))

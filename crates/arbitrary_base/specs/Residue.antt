@@ -1,12 +1,11 @@
 -- The residue of a number modulo 2 ^ B.
-use Rattle.std.specs.Prelude.{◌≡◌, ℕ, ℤ, Bool, pos, ◌+ℤ◌, ◌-ℤ◌, ◌*ℤ◌, ◌^◌, unsigned_abs}
+use Rattle.std.specs.Prelude.{◌≡◌, ℕ, ℤ, Bool, pos, ◌+ℤ◌, ◌-ℤ◌, ◌^◌, unsigned_abs}
 use Rattle.std.specs.Int.{int_rem_euclid}
 use Rattle.arbitrary_base.specs.Range.{lo}
 
--- 2 ^ B divides x - y
+-- x and y leave the same remainder modulo 2 ^ B
 pub record Congruent (B : ℕ) (x y : ℤ) : Type 0 where
-  pub times : ℤ
-  pub apart : x -ℤ y ≡ times *ℤ pos (2 ^ B)
+  pub remainders : int_rem_euclid x (pos (2 ^ B)) ≡ int_rem_euclid y (pos (2 ^ B))
 
 -- the number from 0 up to 2 ^ B - 1 that is congruent to x
 unfoldable pub residue : ℕ → ℤ → ℕ

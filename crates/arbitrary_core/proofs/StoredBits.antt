@@ -5,9 +5,8 @@ use Rattle.std.proofs.Common.{refl, ap, arith, sym, subst, ◌∙◌}
 use Rattle.std.proofs.lemmas.Bool.Decides.{Decides-int_eq, same_from_decides}
 use Rattle.std.proofs.lemmas.Int.{ints}
 use Rattle.arbitrary_base.specs.Range.{InRange, lo}
-use Rattle.arbitrary_base.specs.Residue.{Congruent, residue, wrap}
+use Rattle.arbitrary_base.specs.Residue.{residue, wrap}
 use Rattle.arbitrary_base.specs.BitList.{bits, num, val}
-use Rattle.arbitrary_base.proofs.modular.Congruence.{Congruent-trans}
 use Rattle.arbitrary_base.proofs.modular.Residue.{residue-lt, congruent-wrap, wrap-congruent, wrap-in_range, wrap-same}
 use Rattle.arbitrary_base.proofs.storages.Primitive.{unsigned-in_range}
 use Rattle.arbitrary_base.proofs.modular.RoundTrip.{pattern-stays, number-stays, number-of_residue}
@@ -19,15 +18,11 @@ pub pattern-range : (t : Bool) (B : ℕ) (x p : ℤ) → t ≡ false → pos (re
 pattern-range t B x p e f =
     subst (λ (z : ℤ). InRange t B z) f (subst (λ (u : Bool). InRange u B (pos (residue B x))) (sym e) (unsigned-in_range B _ (residue-lt B x)))
 
--- the number of a pattern is congruent to what the pattern is
-pub wrap-congruent_to : (s : Bool) (B : ℕ) (p y : ℤ) → Congruent B p y → Congruent B (wrap s B p) y
-wrap-congruent_to s B p y c = Congruent-trans B (wrap s B p) p y (wrap-congruent s B p) c
-
-pub ruleset stored = (pattern-stays, number-stays, pattern-range, congruent-wrap, wrap-congruent, wrap-congruent_to, wrap-in_range)
+pub ruleset stored = (pattern-stays, number-stays, pattern-range, congruent-wrap, wrap-congruent, wrap-in_range)
 
 -- the truncation of p, which is that of x at the other sign, is that of x
 pub wrapped-twice : (s t : Bool) (B : ℕ) (x p r : ℤ) → 1 ≤ B → p ≡ wrap t B x → r ≡ wrap s B p → r ≡ wrap s B x
-wrapped-twice s t B x p r h e f = f ∙ ap (wrap s B) e ∙ wrap-same s B _ x h (wrap-congruent t B x)
+wrapped-twice s t B x p r h e f = f ∙ ap (wrap s B) e ∙ wrap-same s B _ x (wrap-congruent t B x)
 
 -- the number r that has the list l, from that of the other sign
 pub number-of_list : (s t : Bool) (B : ℕ) (l m : List Bool) (z r : ℤ) → 1 ≤ B → length l ≡ B → m ≡ l → z ≡ val t m → r ≡ wrap s B z → r ≡ val s l

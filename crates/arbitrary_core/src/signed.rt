@@ -156,8 +156,6 @@ where
         ensures bits { pos (residue BITS result) ≡ T.Unsigned.number bits }
         ensures number { result ≡ wrap T.SIGNED BITS (T.Unsigned.number bits) }
         ensures congruent { Congruent BITS result (T.Unsigned.number bits) }
-        ensures congruent_to { (y : ℤ) → Congruent BITS (T.Unsigned.number bits) y
-            → Congruent BITS result y }
     {
         Int {
             bits,
@@ -173,8 +171,6 @@ where
         ensures bits { pos (residue BITS result) ≡ T.Unsigned.number bits }
         ensures number { result ≡ wrap T.SIGNED BITS (T.Unsigned.number bits) }
         ensures congruent { Congruent BITS result (T.Unsigned.number bits) }
-        ensures congruent_to { (y : ℤ) → Congruent BITS (T.Unsigned.number bits) y
-            → Congruent BITS result y }
     {
         Int::<T, BITS>::from_bits(bits)
     }

@@ -14,12 +14,12 @@ use Rattle.arbitrary_int.specs.Ranges.{numbers, values_left}
 pub moved_up : (s : Bool) (B : ℕ) (x y m z : ℤ) → 1 ≤ B → InRange s B (x +ℤ y) → m ≡ wrap s B y → z ≡ wrap s B (x +ℤ m) → z ≡ x +ℤ y
 moved_up s B x y m z h i e f =
     let c : Congruent B (x +ℤ m) (x +ℤ y) = Congruent-add B x x m y (Congruent-refl B x) (subst (λ (k : ℤ). Congruent B k y) (sym e) (wrap-congruent s B y)) in
-    f ∙ wrap-same s B (x +ℤ m) (x +ℤ y) h c ∙ wrap-of_in_range s B (x +ℤ y) h i
+    f ∙ wrap-same s B (x +ℤ m) (x +ℤ y) c ∙ wrap-of_in_range s B (x +ℤ y) h i
 
 pub moved_down : (s : Bool) (B : ℕ) (x y m z : ℤ) → 1 ≤ B → InRange s B (x -ℤ y) → m ≡ wrap s B y → z ≡ wrap s B (x -ℤ m) → z ≡ x -ℤ y
 moved_down s B x y m z h i e f =
     let c : Congruent B (x -ℤ m) (x -ℤ y) = Congruent-sub B x x m y (Congruent-refl B x) (subst (λ (k : ℤ). Congruent B k y) (sym e) (wrap-congruent s B y)) in
-    f ∙ wrap-same s B (x -ℤ m) (x -ℤ y) h c ∙ wrap-of_in_range s B (x -ℤ y) h i
+    f ∙ wrap-same s B (x -ℤ m) (x -ℤ y) c ∙ wrap-of_in_range s B (x -ℤ y) h i
 
 pub ruleset moves = (moved_up, moved_down)
 
@@ -31,7 +31,7 @@ apart_by s B x y p q r h k f g le e d w =
     let low = f.low in
     let high = g.high in
     let i : InRange false 128 (y -ℤ x) = record { low = omega (arith, ints); high = omega (arith, ints) } in
-    w ∙ wrap-same false 128 (p -ℤ q) (y -ℤ x) (lit≤ tt) c ∙ wrap-of_in_range false 128 (y -ℤ x) (lit≤ tt) i
+    w ∙ wrap-same false 128 (p -ℤ q) (y -ℤ x) c ∙ wrap-of_in_range false 128 (y -ℤ x) (lit≤ tt) i
 
 pub ruleset distances = (apart_by)
 

@@ -1,11 +1,10 @@
 -- Why a number converts from one type to another through its bits.
-use Rattle.std.specs.Prelude.{◌≡◌, ◌≤◌, ◌^◌, ◌<◌, ◌-◌, ◌||◌, ◌≤ℤ◌, ◌%◌, ℕ, ℤ, Bool, true, false, pos, negsuc, unsigned_abs}
-use Rattle.std.specs.Bool.{OnTrue}
+use Rattle.std.specs.Prelude.{◌≡◌, ◌≤◌, ◌^◌, ◌<◌, ◌-◌, ◌≤ℤ◌, ◌%◌, ℕ, ℤ, Bool, true, false, pos, negsuc, unsigned_abs}
 use Rattle.std.proofs.Common.{◌∙◌, ap, arith, subst}
 use Rattle.std.proofs.lemmas.Int.{ints}
 use Rattle.std.proofs.lemmas.Nat.{pow_pos}
 use Rattle.arbitrary_base.specs.Range.{InRange}
-use Rattle.arbitrary_base.specs.Residue.{Congruent, residue, wrap}
+use Rattle.arbitrary_base.specs.Residue.{residue, wrap}
 use Rattle.arbitrary_base.proofs.modular.Congruence.{pow_le}
 use Rattle.arbitrary_base.proofs.modular.Truncation.{InRange-signed, wrap-residue}
 use Rattle.arbitrary_base.proofs.storages.Primitive.{residue-pos, wrap-pos}
@@ -18,13 +17,6 @@ wrap-to_u128_bits s B p x z h e f = wrap-residue s B p x z h.0 h.1 e f
 pub ruleset conversions = (wrap-to_u128_bits)
 
 pub ruleset wider_types = (InRange-signed)
-
--- a congruence between types of any signs is one where a sign has a part in it
-pub congruent-signed : (s t : Bool) (B : ℕ) (x y : ℤ) → Congruent B x y → OnTrue (s || t) (Congruent B x y)
-congruent-signed false false B x y c = tt
-congruent-signed false true B x y c = c
-congruent-signed true false B x y c = c
-congruent-signed true true B x y c = c
 
 -- the truncation of x at a width that is known to be B
 pub wrap-at : (s : Bool) {W B : ℕ} (x : ℤ) {z : ℤ} → W ≡ B → z ≡ wrap s W x → z ≡ wrap s B x

@@ -105,16 +105,12 @@ pub trait Integer: Numbered
     fn to_unsigned(self) -> Self::UnsignedInteger
         ensures value { unsigned_number result ≡ wrap false Self.BITS (Self.number self) }
         ensures congruent { Congruent Self.BITS (unsigned_number result) (Self.number self) }
-        ensures congruent_to { (y : ℤ) → Congruent Self.BITS (Self.number self) y
-            → Congruent Self.BITS (unsigned_number result) y }
         ensures self_in_range { InRange Self.IS_SIGNED Self.BITS (Self.number self) };
 
     /// The number with the same bits as the unsigned `value`.
     fn from_unsigned(value: Self::UnsignedInteger) -> Self
         ensures value { Self.number result ≡ wrap Self.IS_SIGNED Self.BITS (unsigned_number value) }
         ensures congruent { Congruent Self.BITS (Self.number result) (unsigned_number value) }
-        ensures congruent_to { (y : ℤ) → Congruent Self.BITS (unsigned_number value) y
-            → Congruent Self.BITS (Self.number result) y }
         ensures undo { (y : ℤ) → let pattern = wrap false Self.BITS y in
             InRange Self.IS_SIGNED Self.BITS y → unsigned_number value ≡ pattern
             → Self.number result ≡ y };

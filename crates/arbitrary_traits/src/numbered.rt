@@ -3,7 +3,6 @@
 //! operators, requires it.
 
 ghost use Rattle.std.specs.Prelude.{◌≡◌, ◌≤◌, ◌<◌, ◌%◌, ◌^◌, ◌||◌, ℕ, ℤ, Bool, true, false, pos, not, unsigned_abs};
-ghost use Rattle.std.specs.Bool.{OnTrue};
 ghost use Rattle.arbitrary_base.specs.Range.{InRange};
 ghost use Rattle.arbitrary_base.specs.Residue.{residue, wrap, Congruent};
 
@@ -55,9 +54,9 @@ pub trait Numbered: Copy + Sealed {
         Self::masked_new(value)
     }
 
-    // Here and in `as_` to `as_isize`, premises on signs and widths select the equation, or the congruence if the number can
-    // change. `congruent` is about every equal `y`, so that the search does not open it on its own. `congruent_to` is about
-    // each number to which this one is congruent at its own width. In `as_u8` to `as_isize` it requires an unsigned type:
+    // Here and in `as_` to `as_isize`, premises on signs and widths select the equation. `congruent_to` is about each number to
+    // which this one is congruent at its own width. In `as_u8` to `as_usize`, `congruent` is about every equal `y`, so that the
+    // search does not use it where `low` is enough. In `as_u8` to `as_isize`, `congruent_to` requires an unsigned type:
     // otherwise the search would not compare a byte of a signed number.
     /// The number that is congruent to that of `value` modulo `2 ^ BITS`: high bits are dropped,
     /// and the sign is extended. Requires a valid width.
@@ -70,15 +69,9 @@ pub trait Numbered: Copy + Sealed {
         ensures wider { T.IS_SIGNED ≡ false → T.BITS < BITS → number result ≡ T.number value }
         ensures low { IS_SIGNED ≡ false → T.IS_SIGNED ≡ false → BITS ≤ T.BITS
             → number result ≡ pos (unsigned_abs (T.number value) % 2 ^ BITS) }
-        ensures narrower { let given = T.number value in
-            IS_SIGNED ≡ true → BITS ≤ T.BITS → Congruent BITS (number result) given }
-        ensures other_sign { let given = T.number value in
-            T.IS_SIGNED ≡ not IS_SIGNED → Congruent BITS (number result) given }
-        ensures congruent { (y : ℤ) → T.number value ≡ y → Congruent BITS (number result) y }
+        ensures congruent { Congruent BITS (number result) (T.number value) }
         ensures congruent_to { (y : ℤ) → BITS ≤ T.BITS
             → Congruent T.BITS (T.number value) y → Congruent BITS (number result) y }
-        ensures congruent_signed { let given = T.number value in
-            OnTrue (T.IS_SIGNED || IS_SIGNED) (Congruent BITS (number result) given) }
         ensures value_in_range { InRange T.IS_SIGNED T.BITS (T.number value) }
         ensures width { T.valid }
     {
@@ -94,15 +87,9 @@ pub trait Numbered: Copy + Sealed {
         ensures wider { IS_SIGNED ≡ false → BITS < T.BITS → T.number result ≡ number self }
         ensures low { T.IS_SIGNED ≡ false → IS_SIGNED ≡ false → T.BITS ≤ BITS
             → T.number result ≡ pos (unsigned_abs (number self) % 2 ^ T.BITS) }
-        ensures narrower { let given = number self in
-            T.IS_SIGNED ≡ true → T.BITS ≤ BITS → Congruent T.BITS (T.number result) given }
-        ensures other_sign { let given = number self in
-            IS_SIGNED ≡ not T.IS_SIGNED → Congruent T.BITS (T.number result) given }
-        ensures congruent { (y : ℤ) → number self ≡ y → Congruent T.BITS (T.number result) y }
+        ensures congruent { Congruent T.BITS (T.number result) (number self) }
         ensures congruent_to { (y : ℤ) → T.BITS ≤ BITS
             → Congruent BITS (number self) y → Congruent T.BITS (T.number result) y }
-        ensures congruent_signed { let given = number self in
-            OnTrue (IS_SIGNED || T.IS_SIGNED) (Congruent T.BITS (T.number result) given) }
         ensures self_in_range { InRange IS_SIGNED BITS (number self) }
         ensures width { valid }
     {
@@ -212,7 +199,7 @@ pub trait Numbered: Copy + Sealed {
         ensures wider { BITS < 8 → result ≡ number self }
         ensures as_wide { IS_SIGNED ≡ true → BITS ≤ 8 → result ≡ number self }
         ensures narrower { 8 ≤ BITS → Congruent 8 result (number self) }
-        ensures congruent { (y : ℤ) → number self ≡ y → Congruent 8 result y }
+        ensures congruent { Congruent 8 result (number self) }
         ensures congruent_to { (y : ℤ) → IS_SIGNED ≡ false → 8 ≤ BITS
             → Congruent BITS (number self) y → Congruent 8 result y }
         ensures self_in_range { InRange IS_SIGNED BITS (number self) }
@@ -229,7 +216,7 @@ pub trait Numbered: Copy + Sealed {
         ensures wider { BITS < 16 → result ≡ number self }
         ensures as_wide { IS_SIGNED ≡ true → BITS ≤ 16 → result ≡ number self }
         ensures narrower { 16 ≤ BITS → Congruent 16 result (number self) }
-        ensures congruent { (y : ℤ) → number self ≡ y → Congruent 16 result y }
+        ensures congruent { Congruent 16 result (number self) }
         ensures congruent_to { (y : ℤ) → IS_SIGNED ≡ false → 16 ≤ BITS
             → Congruent BITS (number self) y → Congruent 16 result y }
         ensures self_in_range { InRange IS_SIGNED BITS (number self) }
@@ -246,7 +233,7 @@ pub trait Numbered: Copy + Sealed {
         ensures wider { BITS < 32 → result ≡ number self }
         ensures as_wide { IS_SIGNED ≡ true → BITS ≤ 32 → result ≡ number self }
         ensures narrower { 32 ≤ BITS → Congruent 32 result (number self) }
-        ensures congruent { (y : ℤ) → number self ≡ y → Congruent 32 result y }
+        ensures congruent { Congruent 32 result (number self) }
         ensures congruent_to { (y : ℤ) → IS_SIGNED ≡ false → 32 ≤ BITS
             → Congruent BITS (number self) y → Congruent 32 result y }
         ensures self_in_range { InRange IS_SIGNED BITS (number self) }
@@ -263,7 +250,7 @@ pub trait Numbered: Copy + Sealed {
         ensures wider { BITS < 64 → result ≡ number self }
         ensures as_wide { IS_SIGNED ≡ true → BITS ≤ 64 → result ≡ number self }
         ensures narrower { 64 ≤ BITS → Congruent 64 result (number self) }
-        ensures congruent { (y : ℤ) → number self ≡ y → Congruent 64 result y }
+        ensures congruent { Congruent 64 result (number self) }
         ensures congruent_to { (y : ℤ) → IS_SIGNED ≡ false → 64 ≤ BITS
             → Congruent BITS (number self) y → Congruent 64 result y }
         ensures self_in_range { InRange IS_SIGNED BITS (number self) }
@@ -280,7 +267,7 @@ pub trait Numbered: Copy + Sealed {
         ensures wider { BITS < 128 → result ≡ number self }
         ensures as_wide { IS_SIGNED ≡ true → BITS ≤ 128 → result ≡ number self }
         ensures narrower { 128 ≤ BITS → Congruent 128 result (number self) }
-        ensures congruent { (y : ℤ) → number self ≡ y → Congruent 128 result y }
+        ensures congruent { Congruent 128 result (number self) }
         ensures congruent_to { (y : ℤ) → IS_SIGNED ≡ false → 128 ≤ BITS
             → Congruent BITS (number self) y → Congruent 128 result y }
         ensures self_in_range { InRange IS_SIGNED BITS (number self) }
@@ -297,7 +284,7 @@ pub trait Numbered: Copy + Sealed {
         ensures wider { BITS < 64 → result ≡ number self }
         ensures as_wide { IS_SIGNED ≡ true → BITS ≤ 64 → result ≡ number self }
         ensures narrower { 64 ≤ BITS → Congruent 64 result (number self) }
-        ensures congruent { (y : ℤ) → number self ≡ y → Congruent 64 result y }
+        ensures congruent { Congruent 64 result (number self) }
         ensures congruent_to { (y : ℤ) → IS_SIGNED ≡ false → 64 ≤ BITS
             → Congruent BITS (number self) y → Congruent 64 result y }
         ensures self_in_range { InRange IS_SIGNED BITS (number self) }

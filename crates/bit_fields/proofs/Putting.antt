@@ -16,6 +16,7 @@ use Rattle.arbitrary_int.proofs.TwosComplement.{bits-residue, bits-val, val-bits
 use Rattle.arbitrary_int.proofs.Residue.{residue-congruent, residue-lt, wrap-of_in_range}
 use Rattle.bit_fields.proofs.Replacing.{num-placed}
 use Rattle.bit_fields.proofs.Placing.{field-put, field-put_above, field-put_below, length-field}
+use Rattle.arbitrary_base.proofs.modular.Congruence.{Congruent-by_times, times}
 
 -- the low bits of a number's 128 are its residue
 pub masked-is : (width p mask : ℕ) (x : ℤ) → (1 ≤ width) × (width ≤ 128) → p ≡ residue 128 x → mask + 1 ≡ 2 ^ width → bit_and p mask ≡ residue width x
@@ -91,7 +92,7 @@ module _ (word start width new : ℕ) (x : ℤ) (put : new ≡ with_field word s
 
   pub number-congruent : word < 2 ^ 128 → Congruent width (pos (new / 2 ^ start)) x
   number-congruent h =
-      let r = residue-congruent width x in
+      let r = times width (pos (residue width x)) x (residue-congruent width x) in
       let u = upward h in
-      let m = add-mul_z (pos (word / 2 ^ (start + width))) r.times (pos (2 ^ width)) in
-      record { times = pos (word / 2 ^ (start + width)) +ℤ r.times; apart = omega (arith, ints) }
+      let m = add-mul_z (pos (word / 2 ^ (start + width))) r.0 (pos (2 ^ width)) in
+      Congruent-by_times _ _ _ (pos (word / 2 ^ (start + width)) +ℤ r.0) (omega (arith, ints))

@@ -84,7 +84,7 @@ module _ (s : Bool) (B : ℕ) (some : 1 ≤ B) (narrow : B ≤ 120) where
   pub from_pattern : (x y : ℤ) (pattern : ℕ) → InRange s B x → pattern ≡ residue 128 x → y ≡ wrap true 128 (pos pattern) → (y ≡ x) × (unsigned_abs x < 2 ^ 120)
   from_pattern x y pattern f p e =
       let wide = in_wide x f in
-      let same = wrap-same true 128 (pos (residue 128 x)) x (omega arith) (residue-congruent 128 x) in
+      let same = wrap-same true 128 (pos (residue 128 x)) x (residue-congruent 128 x) in
       (e ∙ ap (λ (n : ℕ). wrap true 128 (pos n)) p ∙ same ∙ wrap-of_in_range true 128 x (omega arith) wide.1, wide.0)
 
   module _ (x y : ℤ) (masked : y ≡ wrap s B x) where

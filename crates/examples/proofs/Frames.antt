@@ -9,7 +9,7 @@ use Rattle.arbitrary_int.proofs.Residue.{wrap-in_range, wrap-congruent, wrap-sam
 
 -- a sample goes through the number with the same bits
 wrap-unsigned : (x : ℤ) → InRange true 12 x → wrap true 12 (wrap false 12 x) ≡ x
-wrap-unsigned x f = wrap-same true 12 (wrap false 12 x) x (lit≤ tt) (wrap-congruent false 12 x) ∙ wrap-of_in_range true 12 x (lit≤ tt) f
+wrap-unsigned x f = wrap-same true 12 (wrap false 12 x) x (wrap-congruent false 12 x) ∙ wrap-of_in_range true 12 x (lit≤ tt) f
 
 pub fields-of_sum : (n : ℕ) (identifier length first second : ℤ) → InRange false 11 identifier → InRange false 4 length → InRange true 12 first → InRange true 12 second
     → pos n ≡ pos (2 ^ 29) *ℤ identifier +ℤ pos (2 ^ 24) *ℤ length +ℤ pos (2 ^ 12) *ℤ wrap false 12 first +ℤ wrap false 12 second

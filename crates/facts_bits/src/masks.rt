@@ -42,6 +42,7 @@ pub fn remainder(x: u12) -> u12
     x & u12::new(15)
 }
 
+#[tactic(auto, using(arbitrary_laws::proofs::masks::Rulesets::remainders))]
 pub fn signed_remainder(x: i12) -> i12
     ensures { result ≡ int_rem_euclid x (pos 16) }
 {

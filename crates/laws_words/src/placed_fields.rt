@@ -43,7 +43,7 @@ pub fn slot_of_24_bits(word: u24, slot: u2, value: u6) -> u6
 {
     let place = u32::from(slot.value()) * 6;
     let written = (word & !(u24::new(63) << place)) | (u24::from_(value) << place);
-    (written >> place).as_::<u6>()
+    u6::new(((written >> place).as_u32() & 63) as u8)
 }
 
 // ---- the others

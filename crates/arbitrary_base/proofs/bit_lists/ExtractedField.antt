@@ -20,6 +20,7 @@ use Rattle.arbitrary_base.proofs.bit_lists.SignBit.{bits-int_shr}
 use Rattle.arbitrary_base.proofs.bit_lists.ResultOfPattern.{items-value}
 use Rattle.arbitrary_base.proofs.modular.ExactOrCongruent.{wrapped-congruent}
 use Rattle.arbitrary_base.proofs.operations.ShiftAsProduct.{int_shr-low, int_shr-high}
+use Rattle.arbitrary_base.proofs.modular.Congruence.{times}
 
 pub val-items : (s : Bool) (B W start n : ℕ) → 1 ≤ B → start + B ≤ W → n < 2 ^ W
     → val s (take B (drop start (bits W (pos n)))) ≡ wrap s B (pos (n / 2 ^ start))
@@ -34,7 +35,7 @@ field-items W start B n h g f = val-items false B W start n h g f ∙ wrap-pos B
 
 pub items-wrapped : (s : Bool) (B W start n : ℕ) → 1 ≤ B → start + B ≤ W → n < 2 ^ W
     → val s (take B (drop start (bits W (pos n)))) ≡ wrap s B (field n start B)
-items-wrapped s B W start n h g f = val-items s B W start n h g f ∙ sym (wrap-same s B _ _ h (mod-congruent B (n / 2 ^ start)))
+items-wrapped s B W start n h g f = val-items s B W start n h g f ∙ sym (wrap-same s B _ _ (mod-congruent B (n / 2 ^ start)))
 
 pub items-plain : (s : Bool) (B W start n : ℕ) → s ≡ false → 1 ≤ B → start + B ≤ W → n < 2 ^ W
     → val s (take B (drop start (bits W (pos n)))) ≡ pos (n / 2 ^ start % 2 ^ B)
@@ -63,22 +64,22 @@ items-wrap s B W start x z h g r e =
     let n : num (take B (drop start (bits W x))) ≡ residue B (int_shr x start) =
     ap num (items-shifted B W start x h g r) ∙ num-take B (bits W (int_shr x start)) ∙ ap (λ (m : ℕ). m % 2 ^ B) (num-bits_residue W (int_shr x start))
     ∙ residue-mod B W (int_shr x start) h (omega arith) in
-    e ∙ val-num s B _ l ∙ ap (λ (m : ℕ). wrap s B (pos m)) n ∙ wrap-same s B _ (int_shr x start) h (residue-congruent B (int_shr x start))
+    e ∙ val-num s B _ l ∙ ap (λ (m : ℕ). wrap s B (pos m)) n ∙ wrap-same s B _ (int_shr x start) (residue-congruent B (int_shr x start))
 
 -- shifted up again, it is the source but for the bits below and above it
 field-of : (start B : ℕ) (x z : ℤ) → Congruent B z (int_shr x start) → IsField start B x z
 field-of start B x z c =
     let q = int_shr x start in
-    let t = c.times in
+    let t = times B z (int_shr x start) c in
     let low = int_shr-low start x in
     let high = int_shr-high start x in
     let rest : pos (unsigned_abs (x -ℤ int_shr x start *ℤ pos (2 ^ start))) ≡ x -ℤ int_shr x start *ℤ pos (2 ^ start) = pos-unsigned_abs _ (omega (arith, ints)) in
-    let product : (z -ℤ int_shr x start) *ℤ pos (2 ^ start) ≡ c.times *ℤ pos (2 ^ (start + B)) =
-    ap (λ (n : ℤ). n *ℤ pos (2 ^ start)) c.apart ∙ mul_assoc_z c.times (pos (2 ^ B)) (pos (2 ^ start))
-    ∙ ap (λ (n : ℕ). c.times *ℤ pos n) (omega (arith, pow-add 2 start B)) in
+    let product : (z -ℤ int_shr x start) *ℤ pos (2 ^ start) ≡ t.0 *ℤ pos (2 ^ (start + B)) =
+    ap (λ (n : ℤ). n *ℤ pos (2 ^ start)) t.1 ∙ mul_assoc_z t.0 (pos (2 ^ B)) (pos (2 ^ start))
+    ∙ ap (λ (n : ℕ). t.0 *ℤ pos n) (omega (arith, pow-add 2 start B)) in
     let apart = sub-mul_z z (int_shr x start) (pos (2 ^ start)) in
-    let turned = neg-mul_z c.times (pos (2 ^ (start + B))) in
-    record { below = unsigned_abs (x -ℤ int_shr x start *ℤ pos (2 ^ start)); above = neg_ℤ c.times; short = omega (arith, ints); made = omega (arith, ints) }
+    let turned = neg-mul_z t.0 (pos (2 ^ (start + B))) in
+    record { below = unsigned_abs (x -ℤ int_shr x start *ℤ pos (2 ^ start)); above = neg_ℤ t.0; short = omega (arith, ints); made = omega (arith, ints) }
 
 pub items-field : (s : Bool) (B W start : ℕ) (x : ℤ) → 1 ≤ B → start + B ≤ W → InRange true W x → IsField start B x (val s (take B (drop start (bits W x))))
 items-field s B W start x h g r = field-of start B x _ (wrapped-congruent s B (int_shr x start) _ (items-wrap s B W start x _ h g r refl))

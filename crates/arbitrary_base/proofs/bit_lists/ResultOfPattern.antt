@@ -73,7 +73,7 @@ shl-narrow s B W k x y z f e h g l =
     let c = Congruent-trans B (pos (residue W x)) x _ (Congruent-narrower B W _ x g (residue-congruent W x)) (Congruent-sym B _ x (residue-congruent B x)) in
     f ∙ ap (wrap s B) (e ∙ val-shl s W k (residue W x) x (omega arith) (omega arith) refl)
     ∙ wrap-wrap s B W _ h g
-    ∙ wrap-same s B _ _ h (Congruent-mul_left B (pos (residue W x)) (pos (residue B x)) (pos (2 ^ k)) c)
+    ∙ wrap-same s B _ _ (Congruent-mul_left B (pos (residue W x)) (pos (residue B x)) (pos (2 ^ k)) c)
     ∙ sym (val-shl s B k (residue B x) x h (omega arith) refl)
 
 -- ---- counts
@@ -87,7 +87,7 @@ items-of_num : (s : Bool) (B W start q : ℕ) (x z : ℤ) → 1 ≤ B → start 
     → z ≡ wrap s B (pos q) → z ≡ val s (take B (drop start (bits W x)))
 items-of_num s B W start q x z h g n o =
     o ∙ sym (val-num s B (take B (drop start (bits W x))) (length-items start B (bits W x) (omega (arith, length-bits W x)))
-    ∙ ap (λ (m : ℕ). wrap s B (pos m)) n ∙ wrap-same s B _ _ h (mod-congruent B q))
+    ∙ ap (λ (m : ℕ). wrap s B (pos m)) n ∙ wrap-same s B _ _ (mod-congruent B q))
 
 pub items-value : (s : Bool) (B W start p q : ℕ) (x z : ℤ) → 1 ≤ B → start + B ≤ W → p ≡ residue W x → q ≡ p / 2 ^ start
     → z ≡ wrap s B (pos q) → z ≡ val s (take B (drop start (bits W x)))

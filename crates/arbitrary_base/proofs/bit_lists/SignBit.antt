@@ -99,7 +99,7 @@ val-shl s B k p x h g e =
     let len : k ≤ length (bits B x) = omega (arith, length-bits B x) in
     val-num s B (shl (bits B x) k) (length-shl (bits B x) k len ∙ length-bits B x)
     ∙ ap (λ (n : ℕ). wrap s B (pos n)) (num-shl (bits B x) k len ∙ rw (length-bits B x, num-bits_residue B x, ← e) refl)
-    ∙ wrap-same s B _ _ h (mod-congruent B (p * 2 ^ k))
+    ∙ wrap-same s B _ _ (mod-congruent B (p * 2 ^ k))
 
 -- ---- the primitives
 

@@ -1,12 +1,10 @@
 -- The bits of a number and its residue, and the number of a type that has given bits.
-use Rattle.std.proofs.Common.{◌≡◌, ℕ, zero, suc, ◌/◌, ◌%◌, ◌^◌, ◌≤◌, Bool, false, not, eqb, List, ◌∷◌, length, ℤ, pos, negsuc, refl, sym, ap, ap₂, ◌∙◌, arith}
-use Rattle.std.specs.Prelude.{unsigned_abs, map}
+use Rattle.std.proofs.Common.{◌≡◌, ℕ, zero, suc, ◌/◌, ◌%◌, ◌^◌, ◌≤◌, Bool, not, eqb, List, ◌∷◌, length, ℤ, pos, negsuc, refl, sym, ap, ap₂, ◌∙◌, arith}
+use Rattle.std.specs.Prelude.{map}
 use Rattle.arbitrary_base.specs.Range.{InRange}
 use Rattle.arbitrary_base.specs.Residue.{Congruent, residue, wrap}
 use Rattle.arbitrary_base.specs.BitList.{bits, num, val}
-use Rattle.arbitrary_base.proofs.modular.Congruence.{Congruent-trans, Congruent-sym}
-use Rattle.arbitrary_base.proofs.modular.Residue.{residue-lt, residue-congruent, congruent-same, wrap-same, wrap-congruent, wrap-of_in_range}
-use Rattle.arbitrary_base.proofs.storages.Primitive.{unsigned-in_range}
+use Rattle.arbitrary_base.proofs.modular.Residue.{residue-lt, residue-congruent, same-residue, wrap-same, wrap-congruent, wrap-of_in_range}
 use Rattle.arbitrary_base.proofs.bit_lists.UnsignedNumber.{length-bits, num-bits, num-bits_small, bits-num_of, same_num, num-not}
 
 -- the number after an even one is odd
@@ -31,18 +29,9 @@ bits-residue B p x e =
     same_num (bits B (pos p)) (bits B x) (length-bits B (pos p) ∙ sym (length-bits B x))
     (ap (λ (n : ℕ). num (bits B (pos n))) e ∙ num-bits_small B (residue B x) (residue-lt B x) ∙ sym (num-bits_residue B x))
 
-residue-same : (B : ℕ) (x y : ℤ) → 1 ≤ B → Congruent B x y → residue B x ≡ residue B y
-residue-same B x y h c =
-    ap unsigned_abs (congruent-same false B (pos (residue B x)) (pos (residue B y)) h
-    (unsigned-in_range B _ (residue-lt B x)) (unsigned-in_range B _ (residue-lt B y))
-    (Congruent-trans B _ x _ (residue-congruent B x) (Congruent-trans B x y _ c (Congruent-sym B _ y (residue-congruent B y)))))
-
 -- congruent numbers have the same bits
 pub bits-congruent : (B : ℕ) (x y : ℤ) → Congruent B x y → bits B x ≡ bits B y
-unfolding bits
-bits-congruent zero x y c = refl
-bits-congruent (suc k) x y c =
-    sym (bits-residue (suc k) (residue (suc k) x) x refl) ∙ bits-residue (suc k) (residue (suc k) x) y (residue-same (suc k) x y (omega arith) c)
+bits-congruent B x y c = sym (bits-residue B (residue B x) x refl) ∙ bits-residue B (residue B x) y (same-residue B x y c)
 
 pub bits-wrap : (s : Bool) (B : ℕ) (x : ℤ) → bits B (wrap s B x) ≡ bits B x
 bits-wrap s B x = bits-congruent B _ x (wrap-congruent s B x)
@@ -60,7 +49,7 @@ pub val-bits : (s : Bool) (B : ℕ) (x : ℤ) → 1 ≤ B → val s (bits B x) �
 val-bits s B x h =
     val-num s B (bits B x) (length-bits B x)
     ∙ ap (λ (n : ℕ). wrap s B (pos n)) (num-bits_residue B x)
-    ∙ wrap-same s B _ x h (residue-congruent B x)
+    ∙ wrap-same s B _ x (residue-congruent B x)
 
 pub val-bits_in_range : (s : Bool) (B : ℕ) (x : ℤ) → 1 ≤ B → InRange s B x → val s (bits B x) ≡ x
 val-bits_in_range s B x h f = val-bits s B x h ∙ wrap-of_in_range s B x h f

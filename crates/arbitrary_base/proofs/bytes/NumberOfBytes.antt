@@ -137,7 +137,7 @@ whole i l p z e = e ∙ ap (λ (k : ℕ). bytes_number (drop k l)) z
 -- ---- the bytes of a stream
 
 wrap-of_residue : (s : Bool) (B : ℕ) (x : ℤ) → 1 ≤ B → wrap s B (pos (residue B x)) ≡ wrap s B x
-wrap-of_residue s B x h = wrap-same s B (pos (residue B x)) x h (residue-congruent B x)
+wrap-of_residue s B x h = wrap-same s B (pos (residue B x)) x (residue-congruent B x)
 
 pub length-Borsh : (B : ℕ) (x : ℤ) → length (BorshBytes B x) ≡ div_ceil B 8
 unfolding BorshBytes

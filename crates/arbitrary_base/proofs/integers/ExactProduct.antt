@@ -11,7 +11,7 @@ use Rattle.std.proofs.lemmas.Nat.{pow_pos}
 use Rattle.arbitrary_base.specs.Range.{hi, InRange}
 use Rattle.arbitrary_base.specs.Residue.{Congruent, wrap}
 use Rattle.arbitrary_base.proofs.integers.Ring.{sub-mul_z, mul_assoc_z}
-use Rattle.arbitrary_base.proofs.modular.Congruence.{pow_half}
+use Rattle.arbitrary_base.proofs.modular.Congruence.{pow_half, times}
 use Rattle.arbitrary_base.proofs.modular.Residue.{wrap-congruent, wrap-in_range, wrap-of_in_range}
 use Rattle.arbitrary_base.proofs.integers.Quotient.{low_enough}
 use Rattle.arbitrary_base.proofs.storages.RaisedNumber.{raised-InRange}
@@ -71,9 +71,10 @@ product-exact s W a y p h f n e g =
     let r = rem_below p a n in
     let z = size-InRange s W a h f in
     let c : Congruent W p (y *ℤ a) = subst (λ (v : ℤ). Congruent W v (y *ℤ a)) (sym e) (wrap-congruent s W (y *ℤ a)) in
-    let k : c.times *ℤ pos (2 ^ W) ≡ int_rem p a = sym c.apart ∙ omega (arith, ints) in
-    let l : unsigned_abs c.times * 2 ^ W ≡ unsigned_abs (int_rem p a) = sym (unsigned_abs-mul c.times (pos (2 ^ W))) ∙ ap unsigned_abs k in
-    let o = none-left (unsigned_abs c.times) (2 ^ W) _ l (omega arith) in
+    let k = times W p (y *ℤ a) c in
+    let i : k.0 *ℤ pos (2 ^ W) ≡ int_rem p a = sym k.1 ∙ omega (arith, ints) in
+    let l : unsigned_abs k.0 * 2 ^ W ≡ unsigned_abs (int_rem p a) = sym (unsigned_abs-mul k.0 (pos (2 ^ W))) ∙ ap unsigned_abs i in
+    let o = none-left (unsigned_abs k.0) (2 ^ W) _ l (omega arith) in
     let t : 0 * 2 ^ W ≡ unsigned_abs (int_rem p a) = subst (λ (m : ℕ). m * 2 ^ W ≡ unsigned_abs (int_rem p a)) o l in
     let u : unsigned_abs (int_rem p a) ≡ 0 = omega arith in
     let v = size-zero (int_rem p a) u in

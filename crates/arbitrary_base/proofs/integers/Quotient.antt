@@ -9,7 +9,7 @@ use Rattle.arbitrary_base.specs.Range.{lo, hi, InRange}
 use Rattle.arbitrary_base.specs.Residue.{wrap}
 use Rattle.arbitrary_base.proofs.modular.Congruence.{pow_half, Congruent-from_apart}
 use Rattle.arbitrary_base.proofs.modular.Residue.{wrap-same, wrap-of_in_range}
-use Rattle.arbitrary_base.proofs.storages.Primitive.{pow_bits, bits_some, signed-from_small}
+use Rattle.arbitrary_base.proofs.storages.Primitive.{pow_bits, signed-from_small}
 use Rattle.arbitrary_base.proofs.storages.CheckedSum.{wrap-above}
 
 -- two numbers below 0 and a number below 0: as their quotient it would have the wrong sign
@@ -36,7 +36,7 @@ wrapped w (pos n) f g =
 wrapped w (negsuc n) f g =
     let p = pow_bits w in let q = pow_pos (hbits w) in
     signed-from_small w (2 ^ bits w - suc n) (omega (arith, ints))
-    ∙ wrap-same true (bits w) _ _ (bits_some w) (Congruent-from_apart (bits w) _ _ (0, 1, omega (arith, ints)))
+    ∙ wrap-same true (bits w) _ _ (Congruent-from_apart (bits w) _ _ (0, 1, omega (arith, ints)))
 
 pub signed-wrapping_div : (w : Width) (a b : ℤ) → FitsSigned w a → int_wrapping_div w a b ≡ wrap true (bits w) (int_div a b)
 signed-wrapping_div w a b f =

@@ -1,7 +1,10 @@
 -- Congruence modulo a power of two.
-use Rattle.std.specs.Prelude.{◌≡◌, ℕ, ℤ, Bool, true, false, zero, suc, pos, negsuc, ◌+ℤ◌, ◌-ℤ◌, ◌*ℤ◌, ◌+◌, ◌*◌, ◌-◌, ◌^◌, ◌≤◌}
-use Rattle.std.proofs.Common.{arith, refl, ap, sym, ◌∙◌, pow-add}
-use Rattle.std.proofs.lemmas.Int.{ints}
+use Rattle.std.specs.Prelude.{◌≡◌, ℕ, ℤ, Bool, true, false, zero, suc, pos, negsuc, ◌+ℤ◌, ◌-ℤ◌, ◌*ℤ◌, ◌+◌, ◌*◌, ◌-◌, ◌^◌, ◌≤◌, ◌/◌, ◌%◌, ◌<◌}
+use Rattle.std.proofs.Common.{arith, refl, ap, sym, ◌∙◌, pow-add, mod-lt}
+use Rattle.std.specs.Int.{int_rem_euclid}
+use Rattle.std.proofs.Math.Nat.{add-mul, add-mul-mod_self_right, div-add-mod', mul-le-mul_left}
+use Rattle.std.proofs.lemmas.Int.{int_rem_euclid_is, ints}
+use Rattle.std.proofs.lemmas.Nat.{pow_pos}
 use Rattle.std.proofs.Math.Pow.{pow_mono}
 use Rattle.std.proofs.Math.IntN.{*ℤ_comm}
 use Rattle.arbitrary_base.specs.Range.{lo, hi}
@@ -26,36 +29,72 @@ pow_le A B h = pow_mono h
 
 -- ---- congruence
 
+quotient-and_remainder : (x : ℤ) (n : ℕ) → 0 < n → (q : ℤ) × (x ≡ q *ℤ pos n +ℤ int_rem_euclid x (pos n))
+quotient-and_remainder (pos a) n p =
+    let w = div-add-mod' a n in
+    let r : int_rem_euclid (pos a) (pos n) ≡ pos (a % n) = refl in
+    (pos (a / n), omega (arith, ints))
+quotient-and_remainder (negsuc a) n p =
+    let w = div-add-mod' a n in
+    let l = mod-lt a p in
+    let r : int_rem_euclid (negsuc a) (pos n) ≡ pos (n - 1 - a % n) = refl in
+    (negsuc (a / n), omega (arith, ints))
+
+-- how many times 2 ^ B they are apart
+pub times : (B : ℕ) (x y : ℤ) → Congruent B x y → (t : ℤ) × (x -ℤ y ≡ t *ℤ pos (2 ^ B))
+times B x y c =
+    let n = 2 ^ B in
+    let e = c.remainders in
+    let v = quotient-and_remainder x n (pow_pos B) in
+    let w = quotient-and_remainder y n (pow_pos B) in
+    let f = v.1 in
+    let g = w.1 in
+    let d = sub-mul_z v.0 w.0 (pos n) in
+    (v.0 -ℤ w.0, omega (arith, ints))
+
 -- the same with numbers from 0 up, which `omega` reads
 abbrev pub Apart : ℕ → ℤ → ℤ → Type 0
 Apart B x y = (j : ℕ) × (k : ℕ) × (x +ℤ pos (j * 2 ^ B) ≡ y +ℤ pos (k * 2 ^ B))
 
 pub Congruent-from_apart : (B : ℕ) (x y : ℤ) → Apart B x y → Congruent B x y
-Congruent-from_apart B x y a = record {
-  times = pos a.1 -ℤ pos a.0;
-  apart = let e = sub-mul_z (pos a.1) (pos a.0) (pos (2 ^ B)) in let f = a.2 in omega (arith, ints);
-}
+Congruent-from_apart B (pos x) y a =
+    let n = 2 ^ B in
+    let e : y +ℤ pos (a.1 * n) ≡ pos (x + a.0 * n) = let f = a.2 in omega (arith, ints) in
+    record { remainders = ap pos (sym (add-mul-mod_self_right x a.0 n)) ∙ sym (int_rem_euclid_is y (pos n) n a.1 (x + a.0 * n) (pow_pos B) refl e) }
+Congruent-from_apart B (negsuc x) y a =
+    let n = 2 ^ B in
+    let p = pow_pos B in
+    let k = suc x * n - suc x in
+    let l : suc x * 1 ≤ suc x * n = mul-le-mul_left (suc x) p in
+    let d : negsuc x +ℤ pos (suc x * n) ≡ pos k = omega (arith, ints) in
+    let f = a.2 in
+    let m : (a.1 + suc x) * n ≡ a.1 * n + suc x * n = add-mul a.1 (suc x) n in
+    let e : y +ℤ pos ((a.1 + suc x) * n) ≡ pos (k + a.0 * n) = omega (arith, ints) in
+    record {
+      remainders =
+          int_rem_euclid_is (negsuc x) (pos n) n (suc x) k p refl d ∙ ap pos (sym (add-mul-mod_self_right k a.0 n))
+          ∙ sym (int_rem_euclid_is y (pos n) n (a.1 + suc x) (k + a.0 * n) p refl e);
+    }
 
 pub Apart-from_congruent : (B : ℕ) (x y : ℤ) → Congruent B x y → Apart B x y
-Apart-from_congruent B x y c = apart B x y c.times c.apart
+Apart-from_congruent B x y c = let t = times B x y c in apart B x y t.0 t.1
   where
     apart : (B : ℕ) (x y t : ℤ) → x -ℤ y ≡ t *ℤ pos (2 ^ B) → Apart B x y
     apart B x y (pos t) e = (0, t, omega (arith, ints))
     apart B x y (negsuc t) e = (suc t, 0, omega (arith, ints))
 
 pub Congruent-refl : (B : ℕ) (x : ℤ) → Congruent B x x
-Congruent-refl B x = Congruent-from_apart B x x (0, 0, refl)
+Congruent-refl B x = record { remainders = refl }
 
 pub Congruent-sym : (B : ℕ) (x y : ℤ) → Congruent B x y → Congruent B y x
-Congruent-sym B x y c = let a = Apart-from_congruent B x y c in Congruent-from_apart B y x (a.1, a.0, sym a.2)
+Congruent-sym B x y c = record { remainders = sym c.remainders }
 
 pub Congruent-trans : (B : ℕ) (x y z : ℤ) → Congruent B x y → Congruent B y z → Congruent B x z
-Congruent-trans B x y z c d =
-    let a = Apart-from_congruent B x y c in
-    let b = Apart-from_congruent B y z d in
-    let e = a.2 in
-    let f = b.2 in
-    Congruent-from_apart B x z (a.0 + b.0, a.1 + b.1, omega (arith, ints))
+Congruent-trans B x y z c d = record { remainders = c.remainders ∙ d.remainders }
+
+pub Congruent-by_times : (B : ℕ) (x y t : ℤ) → x -ℤ y ≡ t *ℤ pos (2 ^ B) → Congruent B x y
+Congruent-by_times B x y (pos t) e = Congruent-from_apart B x y (0, t, omega (arith, ints))
+Congruent-by_times B x y (negsuc t) e = Congruent-from_apart B x y (suc t, 0, omega (arith, ints))
 
 pub Congruent-add : (B : ℕ) (x x' y y' : ℤ) → Congruent B x x' → Congruent B y y' → Congruent B (x +ℤ y) (x' +ℤ y')
 Congruent-add B x x' y y' c d =
@@ -74,16 +113,14 @@ Congruent-sub B x x' y y' c d =
     Congruent-from_apart B (x -ℤ y) (x' -ℤ y') (a.0 + b.1, a.1 + b.0, omega (arith, ints))
 
 pub Congruent-mul_left : (B : ℕ) (x x' y : ℤ) → Congruent B x x' → Congruent B (x *ℤ y) (x' *ℤ y)
-Congruent-mul_left B x x' y c = record {
-  times = c.times *ℤ y;
-  apart =
-      let m = pos (2 ^ B) in
-      let l : (c.times *ℤ m) *ℤ y ≡ c.times *ℤ (m *ℤ y) = mul_assoc_z c.times m y in
-      let r : (c.times *ℤ y) *ℤ m ≡ c.times *ℤ (y *ℤ m) = mul_assoc_z c.times y m in
-      let s : c.times *ℤ (m *ℤ y) ≡ c.times *ℤ (y *ℤ m) = ap (λ (z : ℤ). c.times *ℤ z) (*ℤ_comm m y) in
-      let t : (x -ℤ x') *ℤ y ≡ (c.times *ℤ m) *ℤ y = ap (λ (z : ℤ). z *ℤ y) c.apart in
-      sym (sub-mul_z x x' y) ∙ t ∙ l ∙ s ∙ sym r;
-}
+Congruent-mul_left B x x' y c =
+    let k = times B x x' c in
+    let m = pos (2 ^ B) in
+    let l : (k.0 *ℤ m) *ℤ y ≡ k.0 *ℤ (m *ℤ y) = mul_assoc_z k.0 m y in
+    let r : (k.0 *ℤ y) *ℤ m ≡ k.0 *ℤ (y *ℤ m) = mul_assoc_z k.0 y m in
+    let s : k.0 *ℤ (m *ℤ y) ≡ k.0 *ℤ (y *ℤ m) = ap (λ (z : ℤ). k.0 *ℤ z) (*ℤ_comm m y) in
+    let t : (x -ℤ x') *ℤ y ≡ (k.0 *ℤ m) *ℤ y = ap (λ (z : ℤ). z *ℤ y) k.1 in
+    Congruent-by_times B (x *ℤ y) (x' *ℤ y) (k.0 *ℤ y) (sym (sub-mul_z x x' y) ∙ t ∙ l ∙ s ∙ sym r)
 
 pub Congruent-mul : (B : ℕ) (x x' y y' : ℤ) → Congruent B x x' → Congruent B y y' → Congruent B (x *ℤ y) (x' *ℤ y')
 Congruent-mul B x x' y y' c d =

@@ -5,7 +5,7 @@ use Rattle.std.proofs.lemmas.Int.{ints}
 use Rattle.std.proofs.lemmas.Nat.{pow_pos}
 use Rattle.arbitrary_base.specs.Range.{InRange}
 use Rattle.arbitrary_base.specs.Residue.{Congruent, wrap}
-use Rattle.arbitrary_base.proofs.modular.Congruence.{Congruent-trans, pow_le}
+use Rattle.arbitrary_base.proofs.modular.Congruence.{pow_le}
 use Rattle.arbitrary_base.proofs.modular.Residue.{wrap-congruent, wrap-of_in_range}
 
 pub wrapped-exact : (s : Bool) (B : ℕ) (x z : ℤ) → 1 ≤ B → InRange s B x → z ≡ wrap s B x → z ≡ x
@@ -30,6 +30,3 @@ low_mask-unsigned false B W z d h g e =
     wrapped-exact false W (pos (2 ^ B) -ℤ pos 1) z (omega arith) (record { low = omega (arith, ints); high = omega (arith, ints) }) e
 
 pub ruleset wrapped = (wrap-of_in_range, wrap-congruent)
-
--- one congruence after another
-pub ruleset through = (Congruent-trans)

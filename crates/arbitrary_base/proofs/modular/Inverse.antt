@@ -22,13 +22,13 @@ sub-undoes s B x b r y h f e d =
     let c = Congruent-add B x (y +ℤ b) (neg_ℤ b) (neg_ℤ b) (wrapped-congruent s B (y +ℤ b) x e) (Congruent-refl B (neg_ℤ b)) in
     let i : x +ℤ neg_ℤ b ≡ x -ℤ b = omega (arith, ints) in
     let j : (y +ℤ b) +ℤ neg_ℤ b ≡ y = omega (arith, ints) in
-    d ∙ ap (wrap s B) (sym i) ∙ wrap-same s B _ _ h c ∙ ap (wrap s B) j ∙ wrap-of_in_range s B y h f
+    d ∙ ap (wrap s B) (sym i) ∙ wrap-same s B _ _ c ∙ ap (wrap s B) j ∙ wrap-of_in_range s B y h f
 
 pub add-undoes : (s : Bool) (B : ℕ) (x b r y : ℤ) → 1 ≤ B → InRange s B y → x ≡ wrap s B (y -ℤ b) → r ≡ wrap s B (x +ℤ b) → r ≡ y
 add-undoes s B x b r y h f e d =
     let c = Congruent-add B x (y -ℤ b) b b (wrapped-congruent s B (y -ℤ b) x e) (Congruent-refl B b) in
     let j : (y -ℤ b) +ℤ b ≡ y = omega (arith, ints) in
-    d ∙ wrap-same s B _ _ h c ∙ ap (wrap s B) j ∙ wrap-of_in_range s B y h f
+    d ∙ wrap-same s B _ _ c ∙ ap (wrap s B) j ∙ wrap-of_in_range s B y h f
 
 pub rotr-undoes : (s : Bool) (B k : ℕ) (x z y : ℤ) → 1 ≤ B → k ≤ B → InRange s B y → x ≡ val s (slice_rotate_right (bits B y) k) → z ≡ val s (rotr (bits B x) k) → z ≡ y
 rotr-undoes s B k x z y h g f e d =
@@ -71,7 +71,7 @@ xor-undoes s B x b z y h f e d =
 
 -- to a type of the other sign, and back
 pub wrap-wrap : (s t : Bool) (B : ℕ) (x : ℤ) → 1 ≤ B → InRange s B x → wrap s B (wrap t B x) ≡ x
-wrap-wrap s t B x h f = wrap-same s B (wrap t B x) x h (wrap-congruent t B x) ∙ wrap-of_in_range s B x h f
+wrap-wrap s t B x h f = wrap-same s B (wrap t B x) x (wrap-congruent t B x) ∙ wrap-of_in_range s B x h f
 
 pub counterpart-undoes : (s : Bool) (B : ℕ) (u z y : ℤ) → 1 ≤ B → InRange s B y → u ≡ wrap false B y → z ≡ wrap s B u → z ≡ y
 counterpart-undoes s B u z y h f e d = d ∙ ap (wrap s B) e ∙ wrap-wrap s false B y h f

@@ -18,16 +18,16 @@ use Rattle.arbitrary_base.proofs.bit_lists.TwosComplement.{num-bits_residue, bit
 
 -- to wrap at more bits first changes nothing, whatever the signs
 pub wrap-wide : (s t : Bool) (A B : ℕ) (x : ℤ) → 1 ≤ A → A ≤ B → wrap s A (wrap t B x) ≡ wrap s A x
-wrap-wide s t A B x h g = wrap-same s A (wrap t B x) x h (Congruent-narrower A B _ x g (wrap-congruent t B x))
+wrap-wide s t A B x h g = wrap-same s A (wrap t B x) x (Congruent-narrower A B _ x g (wrap-congruent t B x))
 
 pub low-sum : (s t : Bool) (A B : ℕ) (x y : ℤ) → 1 ≤ A → A ≤ B → wrap s A (wrap t B (x +ℤ y)) ≡ wrap s A (wrap s A x +ℤ wrap s A y)
-low-sum s t A B x y h g = wrap-wide s t A B (x +ℤ y) h g ∙ wrap-same s A _ _ h (Congruent-add A x _ y _ (congruent-wrap s A x) (congruent-wrap s A y))
+low-sum s t A B x y h g = wrap-wide s t A B (x +ℤ y) h g ∙ wrap-same s A _ _ (Congruent-add A x _ y _ (congruent-wrap s A x) (congruent-wrap s A y))
 
 pub low-difference : (s t : Bool) (A B : ℕ) (x y : ℤ) → 1 ≤ A → A ≤ B → wrap s A (wrap t B (x -ℤ y)) ≡ wrap s A (wrap s A x -ℤ wrap s A y)
-low-difference s t A B x y h g = wrap-wide s t A B (x -ℤ y) h g ∙ wrap-same s A _ _ h (Congruent-sub A x _ y _ (congruent-wrap s A x) (congruent-wrap s A y))
+low-difference s t A B x y h g = wrap-wide s t A B (x -ℤ y) h g ∙ wrap-same s A _ _ (Congruent-sub A x _ y _ (congruent-wrap s A x) (congruent-wrap s A y))
 
 pub low-product : (s t : Bool) (A B : ℕ) (x y : ℤ) → 1 ≤ A → A ≤ B → wrap s A (wrap t B (x *ℤ y)) ≡ wrap s A (wrap s A x *ℤ wrap s A y)
-low-product s t A B x y h g = wrap-wide s t A B (x *ℤ y) h g ∙ wrap-same s A _ _ h (Congruent-mul A x _ y _ (congruent-wrap s A x) (congruent-wrap s A y))
+low-product s t A B x y h g = wrap-wide s t A B (x *ℤ y) h g ∙ wrap-same s A _ _ (Congruent-mul A x _ y _ (congruent-wrap s A x) (congruent-wrap s A y))
 
 -- ---- bits, by the first items of lists
 
@@ -41,7 +41,7 @@ take-bits A B x h g =
 pub wrap-val : (s t : Bool) (A B : ℕ) (l : List Bool) → 1 ≤ A → A ≤ B → length l ≡ B → wrap s A (val t l) ≡ val s (take A l)
 wrap-val s t A B l h g e =
     ap (wrap s A) (val-num t B l e) ∙ wrap-wide s t A B (pos (num l)) h g
-    ∙ sym (val-num s A (take A l) (simp length-take (omega arith)) ∙ ap (λ (n : ℕ). wrap s A (pos n)) (num-take A l) ∙ wrap-same s A _ _ h (mod-congruent A (num l)))
+    ∙ sym (val-num s A (take A l) (simp length-take (omega arith)) ∙ ap (λ (n : ℕ). wrap s A (pos n)) (num-take A l) ∙ wrap-same s A _ _ (mod-congruent A (num l)))
 
 -- an operation on lists of one length whose first items come from the first items
 low-one : (s t : Bool) (A B : ℕ) (x : ℤ) (f : List Bool → List Bool)

@@ -6,7 +6,7 @@ use Rattle.std.proofs.lemmas.Nat.{mod-mul-add, pow_pos}
 use Rattle.arbitrary_base.specs.Range.{lo, InRange}
 use Rattle.arbitrary_base.specs.Residue.{Congruent, residue, wrap}
 use Rattle.arbitrary_base.proofs.integers.Ring.{pos-unsigned_abs}
-use Rattle.arbitrary_base.proofs.modular.Congruence.{span, Congruent-from_apart, Apart-from_congruent, Congruent-refl, Congruent-sym, Congruent-trans}
+use Rattle.arbitrary_base.proofs.modular.Congruence.{span, Congruent-from_apart, Apart-from_congruent, Congruent-refl, Congruent-sub, Congruent-sym, Congruent-trans}
 
 pub residue-lt : (B : ℕ) (x : ℤ) → residue B x < 2 ^ B
 unfolding residue
@@ -68,8 +68,12 @@ wrap-unique s B x y h f c =
 pub wrap-of_in_range : (s : Bool) (B : ℕ) (x : ℤ) → 1 ≤ B → InRange s B x → wrap s B x ≡ x
 wrap-of_in_range s B x h f = wrap-unique s B x x h f (Congruent-refl B x)
 
--- congruent numbers wrap alike
-pub wrap-same : (s : Bool) (B : ℕ) (x y : ℤ) → 1 ≤ B → Congruent B x y → wrap s B x ≡ wrap s B y
-wrap-same s B x y h c =
-    wrap-unique s B x (wrap s B y) h (wrap-in_range s B y h)
-    (Congruent-trans B (wrap s B y) y x (wrap-congruent s B y) (Congruent-sym B x y c))
+-- congruent numbers have one residue, and wrap alike
+pub same-residue : (B : ℕ) (x y : ℤ) → Congruent B x y → residue B x ≡ residue B y
+unfolding residue
+same-residue B x y c = ap unsigned_abs c.remainders
+
+pub wrap-same : (s : Bool) (B : ℕ) (x y : ℤ) → Congruent B x y → wrap s B x ≡ wrap s B y
+unfolding wrap
+wrap-same s B x y c =
+    ap (λ (n : ℕ). lo s B +ℤ pos n) (same-residue B (x -ℤ lo s B) (y -ℤ lo s B) (Congruent-sub B x y (lo s B) (lo s B) c (Congruent-refl B (lo s B))))

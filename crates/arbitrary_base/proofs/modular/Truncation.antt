@@ -117,7 +117,7 @@ residue-same s B W p x e h g i f =
 pub to_u128_bits-is : (s t : Bool) (W V p q : ℕ) (x : ℤ) → 1 ≤ W → InRange s W x → t ≡ s → V ≡ W → p ≡ residue W x → q < 2 ^ 128
     → Congruent 128 (pos q) (wrap t V (pos p)) → q ≡ residue 128 x
 to_u128_bits-is s t W V p q x h i e f m n c =
-    let a : wrap t V (pos p) ≡ x = (λ k. wrap (e k) (f k) (pos (m k))) ∙ wrap-same s W _ x h (residue-congruent W x) ∙ wrap-of_in_range s W x h i in
+    let a : wrap t V (pos p) ≡ x = (λ k. wrap (e k) (f k) (pos (m k))) ∙ wrap-same s W _ x (residue-congruent W x) ∙ wrap-of_in_range s W x h i in
     let d : Congruent 128 (pos q) x = subst (λ (z : ℤ). Congruent 128 (pos q) z) a c in
     ap unsigned_abs (congruent-same false 128 (pos q) (pos (residue 128 x)) (lit≤ tt)
     (unsigned-in_range 128 q n) (unsigned-in_range 128 (residue 128 x) (residue-lt 128 x))
@@ -127,7 +127,7 @@ to_u128_bits-is s t W V p q x h i e f m n c =
 pub wrap-residue : (s : Bool) (B p : ℕ) (x z : ℤ) → 1 ≤ B → B ≤ 128 → p ≡ residue 128 x → z ≡ wrap s B (pos p) → z ≡ wrap s B x
 wrap-residue s B p x z h g e f =
     f ∙ ap (λ (n : ℕ). wrap s B (pos n)) e
-    ∙ wrap-same s B (pos (residue 128 x)) x h (Congruent-narrower B 128 _ x g (residue-congruent 128 x))
+    ∙ wrap-same s B (pos (residue 128 x)) x (Congruent-narrower B 128 _ x g (residue-congruent 128 x))
 
 pub ruleset conversions = (wrap-residue)
 
@@ -138,6 +138,6 @@ pattern-of_number s B x y z e h g f = f ∙ (λ i. wrap (e i) B (g i)) ∙ sym (
 pub number-of_pattern : (s t : Bool) (B : ℕ) (p x z : ℤ) → t ≡ false → 1 ≤ B → InRange t B p → x ≡ wrap s B p → z ≡ x → pos (residue B z) ≡ p
 number-of_pattern s t B p x z e h f g k =
     let i : InRange false B p = subst (λ (u : Bool). InRange u B p) e f in
-    residue-wrap B z h ∙ wrap-same false B z p h (subst (λ (y : ℤ). Congruent B y p) (sym (k ∙ g)) (wrap-congruent s B p)) ∙ wrap-of_in_range false B p h i
+    residue-wrap B z h ∙ wrap-same false B z p (subst (λ (y : ℤ). Congruent B y p) (sym (k ∙ g)) (wrap-congruent s B p)) ∙ wrap-of_in_range false B p h i
 
 pub ruleset patterns = (pattern-of_number, number-of_pattern)

@@ -7,7 +7,7 @@ use Rattle.arbitrary_base.specs.Operation.{bitwise_and, bitwise_not, bitwise_or,
 use Rattle.arbitrary_base.specs.Residue.{Congruent}
 use Rattle.arbitrary_base.proofs.bit_lists.Pointwise.{and-comm}
 use Rattle.arbitrary_base.proofs.bit_lists.UnsignedNumber.{length-bits, num-not, same_length}
-use Rattle.arbitrary_base.proofs.modular.Congruence.{Congruent-refl, Congruent-sub, Congruent-sym, Congruent-trans}
+use Rattle.arbitrary_base.proofs.modular.Congruence.{Congruent-by_times, Congruent-refl, Congruent-sub, Congruent-sym, Congruent-trans}
 use Rattle.arbitrary_base.proofs.operations.BitsAndSums.{and-in_range, natural, num-and_not, num-or_and, of-list}
 use Rattle.arbitrary_base.proofs.operations.Definition.{bits-and, bits-not, bits-or, not-in_range}
 use Rattle.arbitrary_base.proofs.operations.WrappedRing.{by-congruence, difference-congruent, difference-in_range, sum-congruent, sum-in_range}
@@ -15,7 +15,7 @@ use Rattle.arbitrary_base.proofs.operations.WrappedRing.{by-congruence, differen
 pub not-congruent : (s : Bool) (B : ℕ) (x a : ℤ) → Congruent B x a → Congruent B (bitwise_not s B x) (negsuc 0 -ℤ a)
 not-congruent s B x a c =
     let e : num (bits B x) + num (map not (bits B x)) + 1 ≡ 2 ^ B = num-not (bits B x) ∙ ap (λ (n : ℕ). 2 ^ n) (length-bits B x) in
-    let d : Congruent B (pos (num (map not (bits B x)))) (negsuc 0 -ℤ pos (num (bits B x))) = record { times = pos 1; apart = omega (arith, ints) } in
+    let d : Congruent B (pos (num (map not (bits B x)))) (negsuc 0 -ℤ pos (num (bits B x))) = Congruent-by_times B _ _ (pos 1) (omega (arith, ints)) in
     let f = Congruent-trans B _ x a (Congruent-sym B x _ (natural B x)) c in
     Congruent-trans B _ _ _ (of-list B _ _ (bits-not s B x)) (Congruent-trans B _ _ _ d (Congruent-sub B _ _ _ _ (Congruent-refl B (negsuc 0)) f))
 

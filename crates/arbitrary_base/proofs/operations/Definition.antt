@@ -15,6 +15,7 @@ use Rattle.arbitrary_base.proofs.bit_lists.Pointwise.{length-pointwise, pointwis
 use Rattle.arbitrary_base.proofs.bit_lists.TwosComplement.{bits-congruent, bits-negsuc, bits-val, val-bits_in_range, val-num}
 use Rattle.arbitrary_base.proofs.bit_lists.UnsignedNumber.{length-bits, length-not, same_length}
 use Rattle.arbitrary_base.proofs.modular.Residue.{wrap-in_range}
+use Rattle.arbitrary_base.proofs.modular.Congruence.{Congruent-by_times}
 
 -- ---- what each word is
 
@@ -129,7 +130,7 @@ bits-minus_one B = bits-negsuc B 0 ∙ ap (map not) (bits-zero B) ∙ replicate-
 
 pub bits-highest : (B : ℕ) → bits B (pos (2 ^ B) -ℤ pos 1) ≡ replicate B true
 bits-highest B =
-    let c : Congruent B (pos (2 ^ B) -ℤ pos 1) (negsuc 0) = record { times = pos 1; apart = omega (arith, ints) } in
+    let c : Congruent B (pos (2 ^ B) -ℤ pos 1) (negsuc 0) = Congruent-by_times B _ _ (pos 1) (omega (arith, ints)) in
     bits-congruent B (pos (2 ^ B) -ℤ pos 1) (negsuc 0) c ∙ bits-minus_one B
 
 pub bits-not_zero : (s : Bool) (B : ℕ) → bits B (bitwise_not s B (pos 0)) ≡ replicate B true

@@ -1,7 +1,8 @@
 -- The laws of numbers under a known mask: the bits that it keeps, clears, sets and toggles, in sums, multiples
 -- and remainders.
+use Rattle.std.specs.Int.{int_rem_euclid}
 use Rattle.std.specs.Int.Bits.{bit_and}
-use Rattle.std.specs.Prelude.{Bool, false, negsuc, pos, true, unsigned_abs, ℕ, ℤ, ◌%◌, ◌&&◌, ◌*ℤ◌, ◌+◌, ◌-ℤ◌, ◌-◌, ◌<◌, ◌^◌, ◌≡◌, ◌≤ℤ◌, ◌≤◌}
+use Rattle.std.specs.Prelude.{Bool, false, pos, true, unsigned_abs, ℕ, ℤ, ◌%◌, ◌&&◌, ◌+◌, ◌-◌, ◌<◌, ◌^◌, ◌≡◌, ◌≤ℤ◌, ◌≤◌}
 use Rattle.std.proofs.Common.{ap, arith, lt_of_le_of_lt, mod-eq_of_lt, mod-lt, refl, subst, sym, ◌∙◌}
 use Rattle.std.proofs.lemmas.Grind.{low_zeros}
 use Rattle.std.proofs.lemmas.Int.{ints}
@@ -58,8 +59,7 @@ and-by_one s B x y z h f e d =
     let g : pos 1 ≤ℤ hi s B = let t = f.high in omega (arith, ints) in
     let w = and-within s B 1 x h g in
     let c = and-congruent s B 1 x h g h refl in
-    e ∙ ap (bitwise_and s B x) d ∙ w.1 ∙ ap pos (by-cases w.0 x c.times w.2 (ap (λ (a : ℤ). a -ℤ x) (sym w.1) ∙ c.apart))
+    e ∙ ap (bitwise_and s B x) d ∙ w.1 ∙ ap pos (of-congruent w.0 x w.2 (subst (λ (a : ℤ). Congruent 1 a x) w.1 c))
   where
-    by-cases : (m : ℕ) (x t : ℤ) → m ≤ 1 → pos m -ℤ x ≡ t *ℤ pos (2 ^ 1) → m ≡ unsigned_abs x % 2
-    by-cases m (pos n) t l e = omega (arith, ints)
-    by-cases m (negsuc n) t l e = omega (arith, ints)
+    of-congruent : (m : ℕ) (x : ℤ) → m ≤ 1 → Congruent 1 (pos m) x → m ≡ unsigned_abs x % 2
+    of-congruent m x l c = let e : int_rem_euclid (pos m) (pos 2) ≡ int_rem_euclid x (pos 2) = c.remainders in grind (arith, ints)

@@ -9,7 +9,7 @@ use Rattle.arbitrary_base.specs.Range.{InRange, lo}
 use Rattle.arbitrary_base.specs.Residue.{Congruent, residue, wrap}
 use Rattle.arbitrary_base.specs.Saturating.{clamp}
 use Rattle.arbitrary_base.proofs.integers.Powers.{one-mul_z, power-one, power-suc}
-use Rattle.arbitrary_base.proofs.modular.Congruence.{Congruent-narrower, pow_half}
+use Rattle.arbitrary_base.proofs.modular.Congruence.{Congruent-by_times, Congruent-narrower, pow_half}
 use Rattle.arbitrary_base.proofs.modular.Residue.{residue-congruent, wrap-of_in_range, wrap-same}
 use Rattle.arbitrary_base.proofs.storages.Clamp.{clamp-fits}
 
@@ -55,8 +55,8 @@ quotient-of_least true B (pos n) y h f g e d = let p = pow_pos (B - 1) in absurd
 quotient-of_least true B (negsuc m) y h f g e d =
     let p = pow_half B h in
     let q : int_div (negsuc m) y ≡ pos (suc m) = ap (int_div (negsuc m)) d ∙ ap pos (let i : suc m / 1 ≡ suc m = omega arith in i) in
-    let c : Congruent B (pos (suc m)) (negsuc m) = record { times = pos 1; apart = omega (arith, ints) } in
-    ap (wrap true B) q ∙ wrap-same true B (pos (suc m)) (negsuc m) h c ∙ wrap-of_in_range true B (negsuc m) h f
+    let c : Congruent B (pos (suc m)) (negsuc m) = Congruent-by_times B _ _ (pos 1) (omega (arith, ints)) in
+    ap (wrap true B) q ∙ wrap-same true B (pos (suc m)) (negsuc m) c ∙ wrap-of_in_range true B (negsuc m) h f
 
 pub wrapped-of_least : (s : Bool) (B : ℕ) (x y z : ℤ) → 1 ≤ B → InRange s B x → InRange s B y → z ≡ wrap s B (int_div x y) → x ≡ lo s B → y ≡ neg_ℤ (pos 1) → z ≡ x
 wrapped-of_least s B x y z h f g e d n = e ∙ quotient-of_least s B x y h f g d n
@@ -64,7 +64,7 @@ wrapped-of_least s B x y z h f g e d n = e ∙ quotient-of_least s B x y h f g d
 -- the number of 128 bits that a number is extended to, cut again
 pub to_u128_bits-back : (s : Bool) (B : ℕ) (x : ℤ) → 1 ≤ B → B ≤ 128 → InRange s B x → wrap s B (pos (residue 128 x)) ≡ x
 to_u128_bits-back s B x h g f =
-    wrap-same s B (pos (residue 128 x)) x h (Congruent-narrower B 128 (pos (residue 128 x)) x g (residue-congruent 128 x))
+    wrap-same s B (pos (residue 128 x)) x (Congruent-narrower B 128 (pos (residue 128 x)) x g (residue-congruent 128 x))
     ∙ wrap-of_in_range s B x h f
 
 -- the same for an equal result and an equal pattern

@@ -69,7 +69,7 @@ shifted_right-not B x k h g f =
 pub shifted_left-is_product : (s : Bool) (B : ℕ) (x : ℤ) (k : ℕ) → 1 ≤ B → k ≤ B → shifted_left s B x k ≡ wrapped_product s B x (pos (2 ^ k))
 shifted_left-is_product s B x k h g =
     left-is s B x k ∙ val-shl s B k (residue B x) x h g refl
-    ∙ wrap-same s B (pos (residue B x * 2 ^ k)) (x *ℤ pos (2 ^ k)) h (Congruent-mul_left B (pos (residue B x)) x (pos (2 ^ k)) (residue-congruent B x))
+    ∙ wrap-same s B (pos (residue B x * 2 ^ k)) (x *ℤ pos (2 ^ k)) (Congruent-mul_left B (pos (residue B x)) x (pos (2 ^ k)) (residue-congruent B x))
     ∙ sym (product-is s B x (pos (2 ^ k)))
 
 pub shifted_left-sum : (s : Bool) (B : ℕ) (x y : ℤ) (k : ℕ) → 1 ≤ B → k ≤ B

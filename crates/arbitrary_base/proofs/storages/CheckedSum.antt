@@ -14,7 +14,7 @@ use Rattle.arbitrary_base.proofs.modular.Truncation.{InRange-wider}
 
 -- to wrap at more bits first changes nothing
 pub wrap-wrap : (s : Bool) (A B : ℕ) (x : ℤ) → 1 ≤ A → A ≤ B → wrap s A (wrap s B x) ≡ wrap s A x
-wrap-wrap s A B x h g = wrap-same s A (wrap s B x) x h (Congruent-narrower A B _ x g (wrap-congruent s B x))
+wrap-wrap s A B x h g = wrap-same s A (wrap s B x) x (Congruent-narrower A B _ x g (wrap-congruent s B x))
 
 -- a type has zero
 pub zero-in_range : (s : Bool) (B : ℕ) → 1 ≤ B → InRange s B (pos 0)

@@ -34,7 +34,7 @@ wrap-pos B n h =
 -- a difference that wraps
 pub unsigned-sub : (B a b : ℕ) → 1 ≤ B → b ≤ 2 ^ B → pos ((a + (2 ^ B - b)) % 2 ^ B) ≡ wrap false B (pos a -ℤ pos b)
 unsigned-sub B a b h g =
-    sym (wrap-pos B (a + (2 ^ B - b)) h) ∙ wrap-same false B _ _ h (Congruent-from_apart B _ _ (0, 1, omega (arith, ints)))
+    sym (wrap-pos B (a + (2 ^ B - b)) h) ∙ wrap-same false B _ _ (Congruent-from_apart B _ _ (0, 1, omega (arith, ints)))
 
 -- ---- signed
 

@@ -9,7 +9,7 @@ use Rattle.arbitrary_base.specs.Residue.{Congruent, residue, wrap}
 use Rattle.arbitrary_base.specs.Saturating.{clamp}
 use Rattle.arbitrary_base.specs.BitList.{bits, val, fill, shl, shr}
 use Rattle.arbitrary_base.proofs.integers.Ring.{add-mul_z, sub-mul_z, neg-mul_z, mul_assoc_z, pos-unsigned_abs}
-use Rattle.arbitrary_base.proofs.modular.Congruence.{pow_split, Congruent-mul_left}
+use Rattle.arbitrary_base.proofs.modular.Congruence.{pow_split, Congruent-mul_left, times, Congruent-by_times}
 use Rattle.arbitrary_base.proofs.modular.Residue.{wrap-unique, wrap-same, wrap-in_range, wrap-congruent, wrap-of_in_range, residue-congruent}
 use Rattle.arbitrary_base.proofs.bit_lists.SignBit.{val-shl, val-shr}
 use Rattle.arbitrary_base.proofs.operations.ShiftAsProduct.{int_shr-low, int_shr-high}
@@ -75,14 +75,12 @@ wrap-raised s B W x h g =
     (moved (wrap s B x) (wrap-congruent s B x))
   where
     moved : (w : ℤ) → Congruent B w x → Congruent W (w *ℤ pos (2 ^ (W - B))) (x *ℤ pos (2 ^ (W - B)))
-    moved w c = record {
-      times = c.times;
-      apart =
-          let m = pos (2 ^ (W - B)) in
-          let p : 2 ^ B * 2 ^ (W - B) ≡ 2 ^ W = let q = pow_split B W g in omega arith in
-          sym (sub-mul_z w x m) ∙ ap (λ (z : ℤ). z *ℤ m) c.apart ∙ mul_assoc_z c.times (pos (2 ^ B)) m
-          ∙ ap (λ (n : ℕ). c.times *ℤ pos n) p;
-    }
+    moved w c =
+        let t = times B w x c in
+        let m = pos (2 ^ (W - B)) in
+        let p : 2 ^ B * 2 ^ (W - B) ≡ 2 ^ W = let q = pow_split B W g in omega arith in
+        Congruent-by_times W _ _ t.0
+        (sym (sub-mul_z w x m) ∙ ap (λ (z : ℤ). z *ℤ m) t.1 ∙ mul_assoc_z t.0 (pos (2 ^ B)) m ∙ ap (λ (n : ℕ). t.0 *ℤ pos n) p)
 
 -- a shift down of what lies between two multiples is the lower one's number
 int_shr-between : (k : ℕ) (x m : ℤ) → (x *ℤ pos (2 ^ k)) ≤ℤ m → m <ℤ (x *ℤ pos (2 ^ k) +ℤ pos (2 ^ k)) → int_shr m k ≡ x
@@ -102,7 +100,7 @@ int_shr-raised k x = let p = pow_pos k in int_shr-between k x (x *ℤ pos (2 ^ k
 raise-wraps : (s : Bool) (B W v : ℕ) (x z : ℤ) → 1 ≤ B → B ≤ W → v ≡ W → z ≡ val s (shl (bits W x) (v - B)) → z ≡ wrap s W (x *ℤ pos (2 ^ (W - B)))
 raise-wraps s B W v x z h g q e =
     e ∙ ap (λ (n : ℕ). val s (shl (bits W x) (n - B))) q ∙ val-shl s W (W - B) (residue W x) x (omega arith) (omega arith) refl
-    ∙ wrap-same s W (pos (residue W x * 2 ^ (W - B))) (x *ℤ pos (2 ^ (W - B))) (omega arith) (Congruent-mul_left W (pos (residue W x)) x (pos (2 ^ (W - B))) (residue-congruent W x))
+    ∙ wrap-same s W (pos (residue W x * 2 ^ (W - B))) (x *ℤ pos (2 ^ (W - B))) (Congruent-mul_left W (pos (residue W x)) x (pos (2 ^ (W - B))) (residue-congruent W x))
 
 pub raise-value : (s : Bool) (B W v : ℕ) (x z : ℤ) → 1 ≤ B → B ≤ W → InRange s B x → v ≡ W → z ≡ val s (shl (bits W x) (v - B)) → z ≡ x *ℤ pos (2 ^ (W - B))
 raise-value s B W v x z h g i q e =

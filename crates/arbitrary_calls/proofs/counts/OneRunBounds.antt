@@ -1,6 +1,6 @@
 -- What the counts of leading and trailing ones determine of a number: they are the zeros of its complement.
 use Rattle.std.specs.Bool.{beq}
-use Rattle.std.specs.Int.{int_div_euclid}
+use Rattle.std.specs.Int.{int_div_euclid, int_rem_euclid}
 use Rattle.std.specs.List.{count_by, prefix_len, suffix_len}
 use Rattle.std.specs.Prelude.{Bool, false, neg_ℤ, negsuc, pos, suc, true, unsigned_abs, zero, ℕ, ℤ, ◌%◌, ◌*ℤ◌, ◌+◌, ◌-ℤ◌, ◌-◌, ◌<ℤ◌, ◌<◌, ◌==◌, ◌^◌, ◌∷◌, ◌≡◌, ◌≢◌, ◌≤ℤ◌, ◌≤◌}
 use Rattle.std.proofs.Common.{ap, arith, refl, sym, ◌∙◌}
@@ -112,18 +112,10 @@ unfolding bits
 lowest k x = refl
 
 even-is : (x : ℤ) → Congruent 1 x (pos 0) → unsigned_abs x % 2 ≡ 0
-even-is x c = by-cases x c.times c.apart
-  where
-    by-cases : (x t : ℤ) → x -ℤ pos 0 ≡ t *ℤ pos (2 ^ 1) → unsigned_abs x % 2 ≡ 0
-    by-cases (pos n) t e = omega (arith, ints)
-    by-cases (negsuc n) t e = omega (arith, ints)
+even-is x c = let e : int_rem_euclid x (pos 2) ≡ pos 0 = c.remainders in grind (arith, ints)
 
 odd-is : (x : ℤ) → Congruent 1 x (pos 1) → unsigned_abs x % 2 ≡ 1
-odd-is x c = by-cases x c.times c.apart
-  where
-    by-cases : (x t : ℤ) → x -ℤ pos 1 ≡ t *ℤ pos (2 ^ 1) → unsigned_abs x % 2 ≡ 1
-    by-cases (pos n) t e = omega (arith, ints)
-    by-cases (negsuc n) t e = omega (arith, ints)
+odd-is x c = let e : int_rem_euclid x (pos 2) ≡ pos 1 = c.remainders in grind (arith, ints)
 
 -- by the remainder
 pub trailing_ones-lowest_clear : (B : ℕ) (x : ℤ) → 1 ≤ B → unsigned_abs x % 2 ≡ 0 → prefix_len (beq true) (bits B x) ≡ 0

@@ -14,7 +14,7 @@ use Rattle.arbitrary_base.specs.Residue.{Congruent, residue}
 use Rattle.arbitrary_base.proofs.bit_lists.Count.{front-fits, leading-num}
 use Rattle.arbitrary_base.proofs.bit_lists.TwosComplement.{num-bits_residue}
 use Rattle.arbitrary_base.proofs.bit_lists.UnsignedNumber.{length-bits}
-use Rattle.arbitrary_base.proofs.modular.Congruence.{Congruent-narrower, Congruent-sym, Congruent-trans, pow_half, pow_le}
+use Rattle.arbitrary_base.proofs.modular.Congruence.{Congruent-by_times, Congruent-narrower, Congruent-sym, Congruent-trans, pow_half, pow_le}
 use Rattle.arbitrary_base.proofs.modular.Residue.{residue-congruent, residue-lt, wrap-unique}
 use Rattle.arbitrary_base.proofs.modular.Truncation.{residue-wrap}
 use Rattle.arbitrary_base.proofs.storages.Primitive.{residue-pos}
@@ -41,7 +41,7 @@ residue-below true B x h f g =
     let e = pow_half B h in
     let p = pow_pos (B - 1) in
     let r : InRange false B (x +ℤ pos (2 ^ B)) = record { low = omega (arith, ints); high = omega (arith, ints) } in
-    let c : Congruent B (x +ℤ pos (2 ^ B)) x = record { times = pos 1; apart = omega (arith, ints) } in
+    let c : Congruent B (x +ℤ pos (2 ^ B)) x = Congruent-by_times B _ _ (pos 1) (omega (arith, ints)) in
     let v : pos (residue B x) ≡ x +ℤ pos (2 ^ B) = residue-wrap B x h ∙ wrap-unique false B x (x +ℤ pos (2 ^ B)) h r c in
     (v, omega (arith, ints))
 
@@ -200,7 +200,7 @@ module _ (s : Bool) (B : ℕ) (x : ℤ) (h : 1 ≤ B) (f : InRange s B x) where
       let r = parts in
       let k = prefix_len (beq false) (bits B x) in
       let e = r.1 in
-      let c : Congruent (prefix_len (beq false) (bits B x)) (pos (residue B x)) (pos 0) = record { times = pos r.0; apart = omega (arith, ints) } in
+      let c : Congruent (prefix_len (beq false) (bits B x)) (pos (residue B x)) (pos 0) = Congruent-by_times _ _ _ (pos r.0) (omega (arith, ints)) in
       Congruent-trans (prefix_len (beq false) (bits B x)) x (pos (residue B x)) (pos 0) (Congruent-sym (prefix_len (beq false) (bits B x)) (pos (residue B x)) x (low-zeros (prefix_len (beq false) (bits B x)) (front-fits false B x))) c
 
   pub trailing-odd : x ≢ pos 0 → Congruent (prefix_len (beq false) (bits B x) + 1) x (pos (2 ^ prefix_len (beq false) (bits B x)))
@@ -222,7 +222,7 @@ module _ (s : Bool) (B : ℕ) (x : ℤ) (h : 1 ≤ B) (f : InRange s B x) where
           let next : 2 ^ (k + 1) ≡ 2 ^ suc k = ap (λ (n : ℕ). 2 ^ n) (omega arith) in
           let t : 2 ^ (k + 1) ≡ 2 * 2 ^ k = omega arith in
           let u : p ≡ 2 ^ k + q / 2 * 2 ^ (k + 1) = grind arith in
-          record { times = pos (q / 2); apart = omega (arith, ints) }
+          Congruent-by_times (k + 1) (pos p) (pos (2 ^ k)) (pos (q / 2)) (omega (arith, ints))
 
 -- ---- ones
 

@@ -90,7 +90,6 @@ where
         Int::<T, BITS>::value(self)
     }
 
-    #[tactic(auto, using(arbitrary_base::proofs::modular::ExactOrCongruent::through))]
     fn to_unsigned(self) -> UInt<T::Unsigned, BITS> {
         UInt::<T::Unsigned, BITS>::new(self.to_bits())
     }

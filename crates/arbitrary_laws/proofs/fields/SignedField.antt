@@ -23,7 +23,7 @@ signed-of_unsigned B x h f = (refl, wrap-wrap true false B x h f)
 
 -- what is written of a number that was read of the bits n
 pub unsigned-of_signed : (B n : ℕ) → 1 ≤ B → (wrap true B (pos n) ≡ wrap true B (pos n)) × (wrap false B (wrap true B (pos n)) ≡ pos (n % 2 ^ B))
-unsigned-of_signed B n h = (refl, wrap-same false B _ (pos n) h (wrap-congruent true B (pos n)) ∙ wrap-pos B n h)
+unsigned-of_signed B n h = (refl, wrap-same false B _ (pos n) (wrap-congruent true B (pos n)) ∙ wrap-pos B n h)
 
 pub bits-of_signed : (B n : ℕ) → 1 ≤ B → (wrap true B (pos n) ≡ wrap true B (pos n)) × (pos (residue B (wrap true B (pos n))) ≡ pos (n % 2 ^ B))
 bits-of_signed B n h = let u = unsigned-of_signed B n h in (refl, residue-wrap B (wrap true B (pos n)) h ∙ u.1)

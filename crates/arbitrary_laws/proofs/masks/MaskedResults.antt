@@ -10,7 +10,7 @@ use Rattle.arbitrary_base.specs.Operation.{bitwise_and, bitwise_or, bitwise_xor,
 use Rattle.arbitrary_base.specs.Range.{InRange, hi}
 use Rattle.arbitrary_base.specs.Residue.{Congruent}
 use Rattle.arbitrary_base.proofs.integers.Ring.{mul_assoc_z}
-use Rattle.arbitrary_base.proofs.modular.Congruence.{Congruent-add, Congruent-mul, Congruent-narrower, Congruent-refl, Congruent-sub, Congruent-sym, Congruent-trans, pow_split}
+use Rattle.arbitrary_base.proofs.modular.Congruence.{Congruent-add, Congruent-by_times, Congruent-mul, Congruent-narrower, Congruent-refl, Congruent-sub, Congruent-sym, Congruent-trans, pow_split}
 use Rattle.arbitrary_base.proofs.modular.Residue.{congruent-same}
 use Rattle.arbitrary_base.proofs.operations.BitsAndSums.{and-in_range}
 use Rattle.arbitrary_base.proofs.operations.Bitwise.{bitwise_and-commutes, bitwise_or-commutes, bitwise_xor-commutes}
@@ -94,7 +94,7 @@ module _ (s : Bool) (B n : ℕ) (some : 1 ≤ B) (f : pos n ≤ℤ hi s B) (g : 
         let p : pos (2 ^ j) ≡ pos (2 ^ (j - k)) *ℤ pos (2 ^ k) = let e = pow_split k j past in omega (arith, ints) in
         let d : x *ℤ pos (2 ^ j) -ℤ pos 0 ≡ x *ℤ pos (2 ^ (j - k)) *ℤ pos (2 ^ k) =
         (let z : x *ℤ pos (2 ^ j) -ℤ pos 0 ≡ x *ℤ pos (2 ^ j) = omega (arith, ints) in z) ∙ ap (λ (z : ℤ). x *ℤ z) p ∙ sym (mul_assoc_z x (pos (2 ^ (j - k))) (pos (2 ^ k))) in
-        let c : Congruent k (x *ℤ pos (2 ^ j)) (pos 0) = record { times = x *ℤ pos (2 ^ (j - k)); apart = d } in
+        let c : Congruent k (x *ℤ pos (2 ^ j)) (pos 0) = Congruent-by_times k _ _ (x *ℤ pos (2 ^ (j - k))) d in
         subst (λ (z : ℤ). Congruent k z (pos 0)) (sym (shifted_left-is_product s B x j some within))
         (Congruent-trans k _ _ _ (Congruent-narrower k B _ _ g (product-congruent s B x (pos (2 ^ j)) x (pos (2 ^ j)) (Congruent-refl B x) (Congruent-refl B _))) c)
 

@@ -2,9 +2,10 @@
 -- cleared and set under it stay so. WrittenMask.antt has the mask of the complement of a constant, and
 -- MaskDigits.antt the quotients and remainders of the sum.
 use Rattle.std.specs.Bool.{beq}
+use Rattle.std.specs.Int.{int_rem_euclid}
 use Rattle.std.specs.Int.Bits.{bit_and}
 use Rattle.std.specs.Prelude.{Bool, false, int_lt, negsuc, not, pos, true, unsigned_abs, ℕ, ℤ, ◌%◌, ◌&&◌, ◌*◌, ◌+ℤ◌, ◌+◌, ◌-ℤ◌, ◌-◌, ◌/◌, ◌<◌, ◌^◌, ◌||◌, ◌≡◌, ◌≤ℤ◌, ◌≤◌}
-use Rattle.std.proofs.Common.{ap, ap₂, arith, div-add-mod', mod-lt, pow-add, refl, subst, sym, ◌∙◌}
+use Rattle.std.proofs.Common.{ap, ap₂, arith, div-add-mod', mod-eq_of_lt, mod-lt, pow-add, refl, subst, sym, ◌∙◌}
 use Rattle.std.proofs.Math.Nat.{div-div-eq-div-mul}
 use Rattle.std.proofs.lemmas.Grind.{bit_length, low_zeros}
 use Rattle.std.proofs.lemmas.Int.{ints}
@@ -17,12 +18,12 @@ use Rattle.arbitrary_base.specs.Residue.{Congruent}
 use Rattle.arbitrary_base.proofs.bit_lists.Pointwise.{pointwise}
 use Rattle.arbitrary_base.proofs.bit_lists.StdBitwise.{not-signed, num-plain}
 use Rattle.arbitrary_base.proofs.bit_lists.UnsignedNumber.{digit, length-bits, num-lt_of, same_length}
-use Rattle.arbitrary_base.proofs.modular.Congruence.{Apart-from_congruent, Congruent-from_apart, Congruent-narrower, Congruent-trans, pow_half}
+use Rattle.arbitrary_base.proofs.modular.Congruence.{Apart-from_congruent, Congruent-by_times, Congruent-from_apart, Congruent-narrower, Congruent-trans, pow_half}
 use Rattle.arbitrary_base.proofs.modular.Residue.{congruent-same}
 use Rattle.arbitrary_base.proofs.operations.BitsAndSums.{and-in_range, natural, num-or_and, num-xor_and, or-above, or-in_range, plain, xor-in_range}
 use Rattle.arbitrary_base.proofs.operations.Bitwise.{bitwise_and-commutes, bitwise_or-commutes}
 use Rattle.arbitrary_base.proofs.operations.Definition.{bits-and, bits-or, bits-xor, not-is}
-use Rattle.arbitrary_base.proofs.operations.KnownMask.{and-congruent, and-natural}
+use Rattle.arbitrary_base.proofs.operations.KnownMask.{and-congruent, and-natural, and-within}
 use Rattle.arbitrary_base.proofs.storages.Primitive.{unsigned-in_range}
 use Rattle.arbitrary_laws.proofs.bits.Identities.{and-absorbs, bitwise_and-associates, bitwise_and-complement, bitwise_and-same, bitwise_and-zero}
 use Rattle.arbitrary_laws.proofs.bits.Parts.{and_not-is_xor}
@@ -37,7 +38,7 @@ spelled B x true h f e =
     let t = f.high in
     let p = pow_half B h in
     let o = pow_pos (B - 1) in
-    let c : Congruent B (x +ℤ pos (2 ^ B)) x = record { times = pos 1; apart = omega (arith, ints) } in
+    let c : Congruent B (x +ℤ pos (2 ^ B)) x = Congruent-by_times B _ _ (pos 1) (omega (arith, ints)) in
     let r : InRange false B (x +ℤ pos (2 ^ B)) = record { low = omega (arith, ints); high = grind (arith, ints) } in
     let u = unsigned-in_range B (num (bits B x)) (num-lt_of B (bits B x) (length-bits B x)) in
     let d : x +ℤ pos (2 ^ B) ≡ pos (num (bits B x)) = congruent-same false B _ _ h r u (Congruent-trans B _ x _ c (natural B x)) in
@@ -192,6 +193,16 @@ and-digits_signed B n x h f z g l e =
     let j = bit_length 128 n - k in
     and-natural true B n x h g ∙ ap pos (and-of_run (num (bits B x)) n k (bit_length 128 n) l e)
     ∙ ap (λ (N : ℕ). pos (N / 2 ^ k % 2 ^ j * 2 ^ k)) (num-plain true B x f z)
+
+-- under a mask of low ones a number is its remainder, with or without a sign
+pub and-remainder : (s : Bool) (B n : ℕ) (x : ℤ) → 1 ≤ B → pos n ≤ℤ hi s B → low_zeros 128 (n + 1) ≤ B → n + 1 ≡ 2 ^ low_zeros 128 (n + 1)
+    → bitwise_and s B x (pos n) ≡ int_rem_euclid x (pos (n + 1))
+and-remainder s B n x h f l q =
+    let k = low_zeros 128 (n + 1) in
+    let c = and-congruent s B n x h f l (omega (arith, mod-eq_of_lt (let i : n < 2 ^ k = omega arith in i))) in
+    let w = and-within s B n x h f in
+    let small : w.0 % 2 ^ k ≡ w.0 = mod-eq_of_lt (let i = w.2 in omega arith) in
+    w.1 ∙ ap pos (sym small) ∙ ap (λ (y : ℤ). int_rem_euclid y (pos (2 ^ k))) (sym w.1) ∙ c.remainders ∙ ap (λ (i : ℕ). int_rem_euclid x (pos i)) (sym q)
 
 -- where there is a sign: z is the field of x, b over it, and r under it
 pub and-run : (B n : ℕ) (x : ℤ) → 1 ≤ B → pos n ≤ℤ hi true B → bit_length 128 n ≤ B → low_zeros 128 n ≤ bit_length 128 n → n + 2 ^ low_zeros 128 n ≡ 2 ^ bit_length 128 n

@@ -13,8 +13,7 @@ use Rattle.arbitrary_base.specs.Operation.{bitwise_and, bitwise_not, bitwise_or,
 use Rattle.arbitrary_base.specs.Range.{InRange, hi}
 use Rattle.arbitrary_base.specs.Residue.{Congruent, wrap}
 use Rattle.arbitrary_base.proofs.bit_lists.StdBitwise.{not-signed, not-unsigned}
-use Rattle.arbitrary_base.proofs.integers.Ring.{add-mul_z}
-use Rattle.arbitrary_base.proofs.modular.Congruence.{Congruent-mul_left, Congruent-narrower, Congruent-refl, Congruent-trans, pow_split}
+use Rattle.arbitrary_base.proofs.modular.Congruence.{Congruent-by_times, Congruent-mul_left, Congruent-narrower, Congruent-refl, Congruent-trans, pow_split}
 use Rattle.arbitrary_base.proofs.modular.Residue.{wrap-of_in_range}
 use Rattle.arbitrary_base.proofs.operations.BitsAndSums.{and-in_range}
 use Rattle.arbitrary_base.proofs.operations.Bitwise.{bitwise_or-commutes, bitwise_xor-commutes}
@@ -82,7 +81,7 @@ module _ (s : Bool) (B k : ℕ) (place : k < B) where
 
 pub not-of_highest : (B k : ℕ) (y : ℤ) → k < B → y ≡ pos (2 ^ B) -ℤ pos 1
     → bitwise_not false B (shifted_left false B y k) ≡ wrapped_difference false B (shifted_left false B (pos 1) k) (pos 1)
-not-of_highest B k y g e = not-of_ones false B k g y (record { times = pos 1; apart = omega (arith, ints) })
+not-of_highest B k y g e = not-of_ones false B k g y (Congruent-by_times B _ _ (pos 1) (omega (arith, ints)))
 
 pub not-of_minus_one : (B k : ℕ) → k < B
     → bitwise_not true B (shifted_left true B (negsuc 0) k) ≡ wrapped_difference true B (shifted_left true B (pos 1) k) (pos 1)
@@ -127,10 +126,7 @@ multiple-leaves_none (negsuc a) n p =
     int_rem_euclid_is (negsuc a *ℤ pos n) (pos n) n (a + 1) (0 * n) p refl e ∙ ap pos (mul-mod_left 0 n)
 
 moved-leaves_none : (B k : ℕ) (q y : ℤ) → k ≤ B → Congruent B y (q *ℤ pos (2 ^ k)) → int_rem_euclid y (pos (2 ^ k)) ≡ pos 0
-moved-leaves_none B k q y h c =
-    let n = Congruent-narrower k B y _ h c in
-    let t : y ≡ q *ℤ pos (2 ^ k) +ℤ n.times *ℤ pos (2 ^ k) = let a = n.apart in omega (arith, ints) in
-    ap (λ (z : ℤ). int_rem_euclid z (pos (2 ^ k))) (t ∙ sym (add-mul_z q n.times (pos (2 ^ k)))) ∙ multiple-leaves_none (q +ℤ n.times) (2 ^ k) (pow_pos k)
+moved-leaves_none B k q y h c = let n = Congruent-narrower k B y _ h c in n.remainders ∙ multiple-leaves_none q (2 ^ k) (pow_pos k)
 
 -- ---- what it leaves and clears
 

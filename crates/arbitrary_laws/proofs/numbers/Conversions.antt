@@ -9,40 +9,31 @@ use lib.Signed.{mag}
 use mir.Val.{hbits}
 use Rattle.arbitrary_base.specs.Range.{lo}
 use Rattle.arbitrary_base.specs.Residue.{Congruent, wrap}
-use Rattle.arbitrary_base.proofs.modular.Congruence.{Congruent-refl, Congruent-sym, Congruent-add, Congruent-sub, Congruent-mul, Congruent-narrower}
+use Rattle.arbitrary_base.proofs.modular.Congruence.{Congruent-refl, Congruent-sym, Congruent-add, Congruent-sub, Congruent-mul, Congruent-narrower, Congruent-by_times}
 use Rattle.arbitrary_base.proofs.storages.Primitive.{wrap-pos}
 use Rattle.arbitrary_base.proofs.modular.Residue.{residue-lt, wrap-congruent, wrap-same}
-
--- as `wrap-same`, at no bits too: where the width is not known, nothing says that it is 1 or more
-pub alike : (s : Bool) (B : ℕ) (x y : ℤ) → Congruent B x y → wrap s B x ≡ wrap s B y
-unfolding wrap
-alike s zero x y c =
-    let f = residue-lt 0 (x -ℤ lo s 0) in
-    let g = residue-lt 0 (y -ℤ lo s 0) in
-    omega (arith, ints)
-alike s (suc n) x y c = wrap-same s (suc n) x y (omega arith) c
 
 module _ (s t : Bool) (A B : ℕ) (x y : ℤ) (wider : A ≤ B) where
   low : Congruent A (wrap t B y) y
   low = Congruent-narrower A B (wrap t B y) y wider (wrap-congruent t B y)
 
   pub sum-right : wrap s A (x +ℤ wrap t B y) ≡ wrap s A (x +ℤ y)
-  sum-right = alike s A _ _ (Congruent-add A x x (wrap t B y) y (Congruent-refl A x) low)
+  sum-right = wrap-same s A _ _ (Congruent-add A x x (wrap t B y) y (Congruent-refl A x) low)
 
   pub sum-left : wrap s A (wrap t B y +ℤ x) ≡ wrap s A (y +ℤ x)
-  sum-left = alike s A _ _ (Congruent-add A (wrap t B y) y x x low (Congruent-refl A x))
+  sum-left = wrap-same s A _ _ (Congruent-add A (wrap t B y) y x x low (Congruent-refl A x))
 
   pub difference-right : wrap s A (x -ℤ wrap t B y) ≡ wrap s A (x -ℤ y)
-  difference-right = alike s A _ _ (Congruent-sub A x x (wrap t B y) y (Congruent-refl A x) low)
+  difference-right = wrap-same s A _ _ (Congruent-sub A x x (wrap t B y) y (Congruent-refl A x) low)
 
   pub difference-left : wrap s A (wrap t B y -ℤ x) ≡ wrap s A (y -ℤ x)
-  difference-left = alike s A _ _ (Congruent-sub A (wrap t B y) y x x low (Congruent-refl A x))
+  difference-left = wrap-same s A _ _ (Congruent-sub A (wrap t B y) y x x low (Congruent-refl A x))
 
   pub product-right : wrap s A (x *ℤ wrap t B y) ≡ wrap s A (x *ℤ y)
-  product-right = alike s A _ _ (Congruent-mul A x x (wrap t B y) y (Congruent-refl A x) low)
+  product-right = wrap-same s A _ _ (Congruent-mul A x x (wrap t B y) y (Congruent-refl A x) low)
 
   pub product-left : wrap s A (wrap t B y *ℤ x) ≡ wrap s A (y *ℤ x)
-  product-left = alike s A _ _ (Congruent-mul A (wrap t B y) y x x low (Congruent-refl A x))
+  product-left = wrap-same s A _ _ (Congruent-mul A (wrap t B y) y x x low (Congruent-refl A x))
 
 -- the same for a primitive that wraps, at its own width
 pub word_sum-right : (B a b m : ℕ) (y : ℤ) → m ≡ 2 ^ B → 1 ≤ B → pos b ≡ wrap false B y → Congruent B (pos ((a + b) % m)) (pos a +ℤ y)
@@ -60,10 +51,10 @@ congruent-by_remainder B x y e = by-sign (x -ℤ y) refl e
     by-sign : (z : ℤ) → z ≡ x -ℤ y → unsigned_abs z % 2 ^ B ≡ 0 → Congruent B x y
     by-sign (pos n) d e =
         let q : n ≡ n / 2 ^ B * 2 ^ B = omega (arith, div-add-mod' n (2 ^ B)) in
-        record { times = pos (n / 2 ^ B); apart = omega (arith, ints) }
+        Congruent-by_times _ _ _ (pos (n / 2 ^ B)) (omega (arith, ints))
     by-sign (negsuc n) d e =
         let q : suc n ≡ suc n / 2 ^ B * 2 ^ B = omega (arith, div-add-mod' (suc n) (2 ^ B)) in
-        Congruent-sym B y x (record { times = pos (suc n / 2 ^ B); apart = omega (arith, ints) })
+        Congruent-sym B y x (Congruent-by_times _ _ _ (pos (suc n / 2 ^ B)) (omega (arith, ints)))
 
 -- a primitive with a sign, as a generic call takes it and as a function gives it
 pub signed_primitive : (w : Width) (x : ℤ) → mag x < 2 ^ hbits w → cast_signed w (cast_unsigned w x) ≡ x

@@ -1,5 +1,6 @@
 -- The lowest set bit of a sum, a difference or a product, from the lowest set bits of its operands. Callers name
 -- the set `lowest_place`.
+use Rattle.std.specs.Int.{int_rem_euclid}
 use Rattle.std.specs.Prelude.{Bool, negsuc, pos, suc, unsigned_abs, zero, ℕ, ℤ, ◌%◌, ◌*ℤ◌, ◌+ℤ◌, ◌-ℤ◌, ◌/◌, ◌≡◌, ◌≤◌, ◌⊎◌}
 use Rattle.std.proofs.Common.{ap, arith, inl, inr, refl, subst, sym, ◌∙◌}
 use Rattle.std.proofs.lemmas.Bool.Decides.{Decides-int_eq}
@@ -7,7 +8,7 @@ use Rattle.std.proofs.lemmas.Int.{ints}
 use Rattle.arbitrary_base.specs.Operation.{bitwise_and, bitwise_xor, wrapped_difference, wrapped_product, wrapped_sum}
 use Rattle.arbitrary_base.specs.Range.{InRange}
 use Rattle.arbitrary_base.specs.Residue.{Congruent}
-use Rattle.arbitrary_base.proofs.modular.Congruence.{Congruent-mul, Congruent-narrower, Congruent-refl, Congruent-trans}
+use Rattle.arbitrary_base.proofs.modular.Congruence.{Congruent-by_times, Congruent-mul, Congruent-narrower, Congruent-refl, Congruent-trans}
 use Rattle.arbitrary_base.proofs.operations.Bitwise.{bitwise_and-commutes, bitwise_xor-commutes}
 use Rattle.arbitrary_base.proofs.operations.WrappedRing.{difference-congruent, product-congruent, sum-congruent}
 use Rattle.arbitrary_laws.proofs.bits.Identities.{and-distributes_or, and-distributes_xor, bitwise_and-associates, bitwise_and-zero, bitwise_xor-zero}
@@ -15,10 +16,7 @@ use Rattle.arbitrary_laws.proofs.masks.NumberUnderMask.{xor-by_and}
 use Rattle.arbitrary_laws.proofs.places.BitPlaces.{low-is_remainder}
 
 parity : (x y : ℤ) → Congruent 1 x y → unsigned_abs x % 2 ≡ unsigned_abs y % 2
-parity (pos m) (pos n) c = let e = c.apart in omega (arith, ints)
-parity (pos m) (negsuc n) c = let e = c.apart in omega (arith, ints)
-parity (negsuc m) (pos n) c = let e = c.apart in omega (arith, ints)
-parity (negsuc m) (negsuc n) c = let e = c.apart in omega (arith, ints)
+parity x y c = let e : int_rem_euclid x (pos 2) ≡ int_rem_euclid y (pos 2) = c.remainders in grind (arith, ints)
 
 module _ (s : Bool) (B : ℕ) (x y : ℤ) (two : 2 ≤ B) where
   same : (z w : ℤ) → Congruent 1 z w → bitwise_and s B z (pos 1) ≡ bitwise_and s B w (pos 1)
@@ -26,10 +24,10 @@ module _ (s : Bool) (B : ℕ) (x y : ℤ) (two : 2 ≤ B) where
 
   module _ (f : InRange s B x) (g : InRange s B y) where
     xor-parity : Congruent 1 (x +ℤ y) (bitwise_xor s B x y)
-    xor-parity = let e = xor-by_and s B x y (omega arith) f g in record { times = bitwise_and s B x y; apart = omega (arith, ints) }
+    xor-parity = let e = xor-by_and s B x y (omega arith) f g in Congruent-by_times _ _ _ (bitwise_and s B x y) (omega (arith, ints))
 
     xor-parity_less : Congruent 1 (x -ℤ y) (bitwise_xor s B x y)
-    xor-parity_less = let e = xor-by_and s B x y (omega arith) f g in record { times = bitwise_and s B x y -ℤ y; apart = omega (arith, ints) }
+    xor-parity_less = let e = xor-by_and s B x y (omega arith) f g in Congruent-by_times _ _ _ (bitwise_and s B x y -ℤ y) (omega (arith, ints))
 
     pub low-of_sum : bitwise_and s B (wrapped_sum s B x y) (pos 1) ≡ bitwise_and s B (bitwise_xor s B x y) (pos 1)
     low-of_sum =
@@ -44,12 +42,12 @@ module _ (s : Bool) (B : ℕ) (x y : ℤ) (two : 2 ≤ B) where
   lowest = by-rest (unsigned_abs y % 2) refl (low-is_remainder s B y two)
     where
       even : (q : ℕ) (z : ℤ) → q ≡ unsigned_abs z / 2 → 0 ≡ unsigned_abs z % 2 → Congruent 1 z (pos 0)
-      even q (pos m) e d = record { times = pos q; apart = omega (arith, ints) }
-      even q (negsuc m) e d = record { times = pos 0 -ℤ pos q; apart = omega (arith, ints) }
+      even q (pos m) e d = Congruent-by_times _ _ _ (pos q) (omega (arith, ints))
+      even q (negsuc m) e d = Congruent-by_times _ _ _ (pos 0 -ℤ pos q) (omega (arith, ints))
 
       odd : (q : ℕ) (z : ℤ) → q ≡ unsigned_abs z / 2 → 1 ≡ unsigned_abs z % 2 → Congruent 1 z (pos 1)
-      odd q (pos m) e d = record { times = pos q; apart = omega (arith, ints) }
-      odd q (negsuc m) e d = record { times = pos 0 -ℤ pos q -ℤ pos 1; apart = omega (arith, ints) }
+      odd q (pos m) e d = Congruent-by_times _ _ _ (pos q) (omega (arith, ints))
+      odd q (negsuc m) e d = Congruent-by_times _ _ _ (pos 0 -ℤ pos q -ℤ pos 1) (omega (arith, ints))
 
       by-rest : (r : ℕ) → r ≡ unsigned_abs y % 2 → bitwise_and s B y (pos 1) ≡ pos r
           → ((bitwise_and s B y (pos 1) ≡ pos 0) × Congruent 1 y (pos 0)) ⊎ ((bitwise_and s B y (pos 1) ≡ pos 1) × Congruent 1 y (pos 1))

@@ -13,7 +13,7 @@ use Rattle.arbitrary_base.specs.Residue.{Congruent}
 use Rattle.arbitrary_base.proofs.bit_lists.SignBit.{InRange-int_shr}
 use Rattle.arbitrary_base.proofs.bit_lists.UnsignedNumber.{length-bits}
 use Rattle.arbitrary_base.proofs.integers.Ring.{sub-mul_z}
-use Rattle.arbitrary_base.proofs.modular.Congruence.{Congruent-refl}
+use Rattle.arbitrary_base.proofs.modular.Congruence.{Congruent-by_times, Congruent-refl}
 use Rattle.arbitrary_base.proofs.operations.Definition.{alike, bits-highest, bits-left, bits-minus_one, by-bits, left-is, zero-is}
 use Rattle.arbitrary_base.proofs.operations.Shift.{left-right, right-left, shifted_left-is_product, shifted_right-is_shr}
 use Rattle.arbitrary_base.proofs.operations.ShiftAsProduct.{shl-stays}
@@ -72,7 +72,7 @@ highest-left B k h g =
     let a = sub-mul_z (pos (2 ^ B)) (pos 1) (pos (2 ^ k)) in
     let b = sub-mul_z (pos 1) (pos (2 ^ k)) (pos (2 ^ B)) in
     let c = *ℤ_comm (pos (2 ^ B)) (pos (2 ^ k)) in
-    let e : Congruent B (pos (2 ^ B) -ℤ pos (2 ^ k)) ((pos (2 ^ B) -ℤ pos 1) *ℤ pos (2 ^ k)) = record { times = pos 1 -ℤ pos (2 ^ k); apart = omega (arith, ints) } in
+    let e : Congruent B (pos (2 ^ B) -ℤ pos (2 ^ k)) ((pos (2 ^ B) -ℤ pos 1) *ℤ pos (2 ^ k)) = Congruent-by_times _ _ _ (pos 1 -ℤ pos (2 ^ k)) (omega (arith, ints)) in
     shifted_left-is_product false B _ k h g
     ∙ by-congruence false B _ _ _ _ h (product-in_range false B _ _ h) f (product-congruent false B _ _ _ _ (Congruent-refl B _) (Congruent-refl B _)) e refl
 

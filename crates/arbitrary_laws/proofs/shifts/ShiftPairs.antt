@@ -16,7 +16,7 @@ use Rattle.arbitrary_base.proofs.bit_lists.Pointwise.{and-comm, and-zeros, appen
 use Rattle.arbitrary_base.proofs.bit_lists.SignBit.{InRange-int_shr}
 use Rattle.arbitrary_base.proofs.bit_lists.UnsignedNumber.{length-bits}
 use Rattle.arbitrary_base.proofs.integers.Ring.{mul_assoc_z, sub-mul_z}
-use Rattle.arbitrary_base.proofs.modular.Congruence.{pow_split}
+use Rattle.arbitrary_base.proofs.modular.Congruence.{Congruent-by_times, pow_split, times}
 use Rattle.arbitrary_base.proofs.modular.Residue.{wrap-congruent, wrap-in_range, wrap-unique}
 use Rattle.arbitrary_base.proofs.operations.BitsAndSums.{sum-of_disjoint, xor-in_range}
 use Rattle.arbitrary_base.proofs.operations.Definition.{and-is, bits-left, bits-right, by-bits, product-is, zero-is}
@@ -72,11 +72,12 @@ int_shr-back (negsuc n) k =
 pub left_right-wraps : (s : Bool) (B : ℕ) (x : ℤ) (k : ℕ) → k + 1 ≤ B → shifted_right s B (shifted_left s B x k) k ≡ wrap s (B - k) x
 left_right-wraps s B x k h =
     let w = wrap s (B - k) x in
-    let c = wrap-congruent s (B - k) x in
+    let c = times (B - k) w x (wrap-congruent s (B - k) x) in
     let f = scaled s B k w h (wrap-in_range s (B - k) x (omega arith)) in
     let p : pos (2 ^ (B - k)) *ℤ pos (2 ^ k) ≡ pos (2 ^ B) = let e = pow_split k B (omega arith) in omega (arith, ints) in
     let d : Congruent B (w *ℤ pos (2 ^ k)) (x *ℤ pos (2 ^ k)) =
-    record { times = c.times; apart = sym (sub-mul_z w x (pos (2 ^ k))) ∙ ap (λ (z : ℤ). z *ℤ pos (2 ^ k)) c.apart ∙ mul_assoc_z c.times (pos (2 ^ (B - k))) (pos (2 ^ k)) ∙ ap (λ (z : ℤ). c.times *ℤ z) p } in
+    Congruent-by_times _ _ _ c.0
+    (sym (sub-mul_z w x (pos (2 ^ k))) ∙ ap (λ (z : ℤ). z *ℤ pos (2 ^ k)) c.1 ∙ mul_assoc_z c.0 (pos (2 ^ (B - k))) (pos (2 ^ k)) ∙ ap (λ (z : ℤ). c.0 *ℤ z) p) in
     let e = shifted_left-is_product s B x k (omega arith) (omega arith) ∙ product-is s B x (pos (2 ^ k)) ∙ wrap-unique s B (x *ℤ pos (2 ^ k)) (w *ℤ pos (2 ^ k)) (omega arith) f d in
     ap (λ (z : ℤ). shifted_right s B z k) e ∙ shifted_right-is_shr s B (w *ℤ pos (2 ^ k)) k (omega arith) (omega arith) f ∙ int_shr-back w k
 

@@ -10,7 +10,7 @@ use Rattle.arbitrary_base.specs.Operation.{bitwise_and, bitwise_xor, wrapped_dif
 use Rattle.arbitrary_base.specs.Range.{InRange, hi, in_range, lo}
 use Rattle.arbitrary_base.specs.Residue.{Congruent}
 use Rattle.arbitrary_base.proofs.LawProof.{out-of_range_tested}
-use Rattle.arbitrary_base.proofs.modular.Congruence.{Congruent-refl, Congruent-trans, pow_half}
+use Rattle.arbitrary_base.proofs.modular.Congruence.{Congruent-by_times, Congruent-refl, Congruent-trans, pow_half}
 use Rattle.arbitrary_base.proofs.modular.Residue.{congruent-same}
 use Rattle.arbitrary_base.proofs.operations.BitsAndSums.{xor-in_range}
 use Rattle.arbitrary_base.proofs.operations.Bitwise.{bitwise_and-commutes, bitwise_xor-commutes}
@@ -26,10 +26,10 @@ Once B z r = (InRange true B z × (r ≡ z)) ⊎ (((z <ℤ lo true B) × (r ≡ 
 
 module _ (B : ℕ) (z r : ℤ) (h : 1 ≤ B) (c : Congruent B r z) where
   up : Congruent B r (z +ℤ pos (2 ^ B))
-  up = Congruent-trans B r z _ c (record { times = pos 0 -ℤ pos 1; apart = omega (arith, ints) })
+  up = Congruent-trans B r z _ c (Congruent-by_times _ _ _ (pos 0 -ℤ pos 1) (omega (arith, ints)))
 
   down : Congruent B r (z -ℤ pos (2 ^ B))
-  down = Congruent-trans B r z _ c (record { times = pos 1; apart = omega (arith, ints) })
+  down = Congruent-trans B r z _ c (Congruent-by_times _ _ _ (pos 1) (omega (arith, ints)))
 
   once : InRange true B r → (pos 0 -ℤ pos (2 ^ B)) ≤ℤ z → z <ℤ pos (2 ^ B) → Once B z r
   unfolding Once

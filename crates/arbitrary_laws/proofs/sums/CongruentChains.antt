@@ -5,8 +5,8 @@ use Rattle.std.proofs.Common.{ap, arith, subst, ◌∙◌}
 use Rattle.std.proofs.lemmas.Int.{ints}
 use Rattle.arbitrary_base.specs.Residue.{Congruent, wrap}
 use Rattle.arbitrary_base.proofs.modular.Congruence.{Congruent-add, Congruent-mul, Congruent-narrower, Congruent-refl, Congruent-sub, Congruent-trans}
-use Rattle.arbitrary_base.proofs.modular.Residue.{wrap-congruent}
-use Rattle.arbitrary_laws.proofs.numbers.Conversions.{alike, difference-left, difference-right, product-left, product-right, sum-left, sum-right}
+use Rattle.arbitrary_base.proofs.modular.Residue.{wrap-congruent, wrap-same}
+use Rattle.arbitrary_laws.proofs.numbers.Conversions.{difference-left, difference-right, product-left, product-right, sum-left, sum-right}
 
 -- a sum or a difference on the right, as the steps one after another give it
 module _ (s t : Bool) (A B : ℕ) (x y z : ℤ) (wider : A ≤ B) where
@@ -43,30 +43,30 @@ module _ (s t u : Bool) (A B C : ℕ) (w x y : ℤ) (wider : A ≤ B) (wide : A 
   second z k c = Congruent-trans A _ z k (Congruent-narrower A B _ _ wider (wrap-congruent t B z)) c
 
   pub sum-after_sum : wrap s A (wrap t B (wrap u C w +ℤ y) +ℤ x) ≡ wrap s A ((w +ℤ y) +ℤ x)
-  sum-after_sum = alike s A _ _ (Congruent-add A _ (w +ℤ y) x x (second _ _ (Congruent-add A _ w y y first (Congruent-refl A y))) (Congruent-refl A x))
+  sum-after_sum = wrap-same s A _ _ (Congruent-add A _ (w +ℤ y) x x (second _ _ (Congruent-add A _ w y y first (Congruent-refl A y))) (Congruent-refl A x))
 
   pub sum-after_difference : wrap s A (wrap t B (wrap u C w -ℤ y) +ℤ x) ≡ wrap s A ((w -ℤ y) +ℤ x)
-  sum-after_difference = alike s A _ _ (Congruent-add A _ (w -ℤ y) x x (second _ _ (Congruent-sub A _ w y y first (Congruent-refl A y))) (Congruent-refl A x))
+  sum-after_difference = wrap-same s A _ _ (Congruent-add A _ (w -ℤ y) x x (second _ _ (Congruent-sub A _ w y y first (Congruent-refl A y))) (Congruent-refl A x))
 
   pub sum-after_product : wrap s A (wrap t B (wrap u C w *ℤ y) +ℤ x) ≡ wrap s A ((w *ℤ y) +ℤ x)
-  sum-after_product = alike s A _ _ (Congruent-add A _ (w *ℤ y) x x (second _ _ (Congruent-mul A _ w y y first (Congruent-refl A y))) (Congruent-refl A x))
+  sum-after_product = wrap-same s A _ _ (Congruent-add A _ (w *ℤ y) x x (second _ _ (Congruent-mul A _ w y y first (Congruent-refl A y))) (Congruent-refl A x))
 
   pub difference-after_sum : wrap s A (wrap t B (wrap u C w +ℤ y) -ℤ x) ≡ wrap s A ((w +ℤ y) -ℤ x)
-  difference-after_sum = alike s A _ _ (Congruent-sub A _ (w +ℤ y) x x (second _ _ (Congruent-add A _ w y y first (Congruent-refl A y))) (Congruent-refl A x))
+  difference-after_sum = wrap-same s A _ _ (Congruent-sub A _ (w +ℤ y) x x (second _ _ (Congruent-add A _ w y y first (Congruent-refl A y))) (Congruent-refl A x))
 
   pub difference-after_difference : wrap s A (wrap t B (wrap u C w -ℤ y) -ℤ x) ≡ wrap s A ((w -ℤ y) -ℤ x)
-  difference-after_difference = alike s A _ _ (Congruent-sub A _ (w -ℤ y) x x (second _ _ (Congruent-sub A _ w y y first (Congruent-refl A y))) (Congruent-refl A x))
+  difference-after_difference = wrap-same s A _ _ (Congruent-sub A _ (w -ℤ y) x x (second _ _ (Congruent-sub A _ w y y first (Congruent-refl A y))) (Congruent-refl A x))
 
   pub difference-after_product : wrap s A (wrap t B (wrap u C w *ℤ y) -ℤ x) ≡ wrap s A ((w *ℤ y) -ℤ x)
-  difference-after_product = alike s A _ _ (Congruent-sub A _ (w *ℤ y) x x (second _ _ (Congruent-mul A _ w y y first (Congruent-refl A y))) (Congruent-refl A x))
+  difference-after_product = wrap-same s A _ _ (Congruent-sub A _ (w *ℤ y) x x (second _ _ (Congruent-mul A _ w y y first (Congruent-refl A y))) (Congruent-refl A x))
 
   pub product-after_sum : wrap s A (wrap t B (wrap u C w +ℤ y) *ℤ x) ≡ wrap s A ((w +ℤ y) *ℤ x)
-  product-after_sum = alike s A _ _ (Congruent-mul A _ (w +ℤ y) x x (second _ _ (Congruent-add A _ w y y first (Congruent-refl A y))) (Congruent-refl A x))
+  product-after_sum = wrap-same s A _ _ (Congruent-mul A _ (w +ℤ y) x x (second _ _ (Congruent-add A _ w y y first (Congruent-refl A y))) (Congruent-refl A x))
 
   pub product-after_difference : wrap s A (wrap t B (wrap u C w -ℤ y) *ℤ x) ≡ wrap s A ((w -ℤ y) *ℤ x)
-  product-after_difference = alike s A _ _ (Congruent-mul A _ (w -ℤ y) x x (second _ _ (Congruent-sub A _ w y y first (Congruent-refl A y))) (Congruent-refl A x))
+  product-after_difference = wrap-same s A _ _ (Congruent-mul A _ (w -ℤ y) x x (second _ _ (Congruent-sub A _ w y y first (Congruent-refl A y))) (Congruent-refl A x))
 
   pub product-after_product : wrap s A (wrap t B (wrap u C w *ℤ y) *ℤ x) ≡ wrap s A ((w *ℤ y) *ℤ x)
-  product-after_product = alike s A _ _ (Congruent-mul A _ (w *ℤ y) x x (second _ _ (Congruent-mul A _ w y y first (Congruent-refl A y))) (Congruent-refl A x))
+  product-after_product = wrap-same s A _ _ (Congruent-mul A _ (w *ℤ y) x x (second _ _ (Congruent-mul A _ w y y first (Congruent-refl A y))) (Congruent-refl A x))
 
 pub ruleset congruent_chains = (wrap-known, sum-right, sum-left, difference-right, difference-left, product-right, product-left, sum-with_sum, sum-with_difference, difference-with_sum, difference-with_difference, sum-after_sum, sum-after_difference, sum-after_product, difference-after_sum, difference-after_difference, difference-after_product, product-after_sum, product-after_difference, product-after_product)

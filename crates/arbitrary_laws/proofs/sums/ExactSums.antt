@@ -27,27 +27,27 @@ module _ (s : Bool) (B : ℕ) (x y : ℤ) (some : 1 ≤ B) where
     low z = Congruent-narrower B A _ _ wide (wrap-congruent t A z)
 
     pub sum-left : wrapped_sum s B (wrap t A x) y ≡ wrapped_sum s B x y
-    sum-left = sum-is s B (wrap t A x) y ∙ wrap-same s B _ _ some (Congruent-add B _ x y y (low x) (Congruent-refl B y)) ∙ sym (sum-is s B x y)
+    sum-left = sum-is s B (wrap t A x) y ∙ wrap-same s B _ _ (Congruent-add B _ x y y (low x) (Congruent-refl B y)) ∙ sym (sum-is s B x y)
 
     pub sum-right : wrapped_sum s B x (wrap t A y) ≡ wrapped_sum s B x y
-    sum-right = sum-is s B x (wrap t A y) ∙ wrap-same s B _ _ some (Congruent-add B x x _ y (Congruent-refl B x) (low y)) ∙ sym (sum-is s B x y)
+    sum-right = sum-is s B x (wrap t A y) ∙ wrap-same s B _ _ (Congruent-add B x x _ y (Congruent-refl B x) (low y)) ∙ sym (sum-is s B x y)
 
     pub difference-left : wrapped_difference s B (wrap t A x) y ≡ wrapped_difference s B x y
-    difference-left = difference-is s B (wrap t A x) y ∙ wrap-same s B _ _ some (Congruent-sub B _ x y y (low x) (Congruent-refl B y)) ∙ sym (difference-is s B x y)
+    difference-left = difference-is s B (wrap t A x) y ∙ wrap-same s B _ _ (Congruent-sub B _ x y y (low x) (Congruent-refl B y)) ∙ sym (difference-is s B x y)
 
     pub difference-right : wrapped_difference s B x (wrap t A y) ≡ wrapped_difference s B x y
-    difference-right = difference-is s B x (wrap t A y) ∙ wrap-same s B _ _ some (Congruent-sub B x x _ y (Congruent-refl B x) (low y)) ∙ sym (difference-is s B x y)
+    difference-right = difference-is s B x (wrap t A y) ∙ wrap-same s B _ _ (Congruent-sub B x x _ y (Congruent-refl B x) (low y)) ∙ sym (difference-is s B x y)
 
     -- ---- that are converted afterwards
 
     pub sum-converted : wrap s B (wrapped_sum t A x y) ≡ wrapped_sum s B x y
-    sum-converted = ap (wrap s B) (sum-is t A x y) ∙ wrap-same s B _ _ some (low (x +ℤ y)) ∙ sym (sum-is s B x y)
+    sum-converted = ap (wrap s B) (sum-is t A x y) ∙ wrap-same s B _ _ (low (x +ℤ y)) ∙ sym (sum-is s B x y)
 
     pub difference-converted : wrap s B (wrapped_difference t A x y) ≡ wrapped_difference s B x y
-    difference-converted = ap (wrap s B) (difference-is t A x y) ∙ wrap-same s B _ _ some (low (x -ℤ y)) ∙ sym (difference-is s B x y)
+    difference-converted = ap (wrap s B) (difference-is t A x y) ∙ wrap-same s B _ _ (low (x -ℤ y)) ∙ sym (difference-is s B x y)
 
     pub product-converted : wrap s B (wrapped_product t A x y) ≡ wrapped_product s B x y
-    product-converted = ap (wrap s B) (product-is t A x y) ∙ wrap-same s B _ _ some (low (x *ℤ y)) ∙ sym (product-is s B x y)
+    product-converted = ap (wrap s B) (product-is t A x y) ∙ wrap-same s B _ _ (low (x *ℤ y)) ∙ sym (product-is s B x y)
 
     -- ---- one after another
 
@@ -56,24 +56,24 @@ module _ (s : Bool) (B : ℕ) (x y : ℤ) (some : 1 ≤ B) where
       sum-of_sum =
           sum-is s B (wrapped_sum t A x y) z
           ∙ ap (λ (n : ℤ). wrap s B (n +ℤ z)) (sum-is t A x y)
-          ∙ wrap-same s B _ _ some (Congruent-add B _ _ z z (low (x +ℤ y)) (Congruent-refl B z)) ∙ sym (sum-is s B (x +ℤ y) z)
+          ∙ wrap-same s B _ _ (Congruent-add B _ _ z z (low (x +ℤ y)) (Congruent-refl B z)) ∙ sym (sum-is s B (x +ℤ y) z)
 
       pub sum-of_difference : wrapped_sum s B (wrapped_difference t A x y) z ≡ wrapped_sum s B (x -ℤ y) z
       sum-of_difference =
           sum-is s B (wrapped_difference t A x y) z
           ∙ ap (λ (n : ℤ). wrap s B (n +ℤ z)) (difference-is t A x y)
-          ∙ wrap-same s B _ _ some (Congruent-add B _ _ z z (low (x -ℤ y)) (Congruent-refl B z)) ∙ sym (sum-is s B (x -ℤ y) z)
+          ∙ wrap-same s B _ _ (Congruent-add B _ _ z z (low (x -ℤ y)) (Congruent-refl B z)) ∙ sym (sum-is s B (x -ℤ y) z)
 
       pub difference-of_sum : wrapped_difference s B (wrapped_sum t A x y) z ≡ wrapped_difference s B (x +ℤ y) z
       difference-of_sum =
           difference-is s B (wrapped_sum t A x y) z
           ∙ ap (λ (n : ℤ). wrap s B (n -ℤ z)) (sum-is t A x y)
-          ∙ wrap-same s B _ _ some (Congruent-sub B _ _ z z (low (x +ℤ y)) (Congruent-refl B z)) ∙ sym (difference-is s B (x +ℤ y) z)
+          ∙ wrap-same s B _ _ (Congruent-sub B _ _ z z (low (x +ℤ y)) (Congruent-refl B z)) ∙ sym (difference-is s B (x +ℤ y) z)
 
       pub difference-of_difference : wrapped_difference s B (wrapped_difference t A x y) z ≡ wrapped_difference s B (x -ℤ y) z
       difference-of_difference =
           difference-is s B (wrapped_difference t A x y) z
           ∙ ap (λ (n : ℤ). wrap s B (n -ℤ z)) (difference-is t A x y)
-          ∙ wrap-same s B _ _ some (Congruent-sub B _ _ z z (low (x -ℤ y)) (Congruent-refl B z)) ∙ sym (difference-is s B (x -ℤ y) z)
+          ∙ wrap-same s B _ _ (Congruent-sub B _ _ z z (low (x -ℤ y)) (Congruent-refl B z)) ∙ sym (difference-is s B (x -ℤ y) z)
 
 pub ruleset exact_sums = (Decides-int_eq, sum-exact, difference-exact, product-exact, sum-left, sum-right, difference-left, difference-right, sum-converted, difference-converted, product-converted, sum-of_sum, sum-of_difference, difference-of_sum, difference-of_difference)

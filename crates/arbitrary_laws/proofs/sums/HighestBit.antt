@@ -5,7 +5,7 @@ use Rattle.std.proofs.Common.{ap, arith, refl, sym, ◌∙◌}
 use Rattle.std.proofs.lemmas.Int.{ints}
 use Rattle.arbitrary_base.specs.Operation.{bitwise_and, bitwise_xor, wrapped_difference, wrapped_sum}
 use Rattle.arbitrary_base.specs.Residue.{Congruent}
-use Rattle.arbitrary_base.proofs.modular.Congruence.{Congruent-refl, Congruent-trans}
+use Rattle.arbitrary_base.proofs.modular.Congruence.{Congruent-by_times, Congruent-refl, Congruent-trans}
 use Rattle.arbitrary_base.proofs.operations.BitsAndSums.{xor-in_range}
 use Rattle.arbitrary_base.proofs.operations.Definition.{zero-in_range}
 use Rattle.arbitrary_base.proofs.operations.Shift.{shifted_left-and}
@@ -16,13 +16,13 @@ use Rattle.arbitrary_laws.proofs.sums.Carry.{sum-with_carry}
 
 -- the double of the highest bit, with or without a sign
 double : (B : ℕ) (y : ℤ) → unsigned_abs y * 2 ≡ 2 ^ B → Congruent B (y +ℤ y) (pos 0)
-double B (pos n) e = record { times = pos 1; apart = omega (arith, ints) }
-double B (negsuc n) e = record { times = neg_ℤ (pos 1); apart = omega (arith, ints) }
+double B (pos n) e = Congruent-by_times _ _ _ (pos 1) (omega (arith, ints))
+double B (negsuc n) e = Congruent-by_times _ _ _ (neg_ℤ (pos 1)) (omega (arith, ints))
 
 -- so it makes no difference whether it is added or taken away
 turned : (B : ℕ) (x y : ℤ) → unsigned_abs y * 2 ≡ 2 ^ B → Congruent B (x -ℤ y) (x +ℤ y)
-turned B x (pos n) e = record { times = neg_ℤ (pos 1); apart = omega (arith, ints) }
-turned B x (negsuc n) e = record { times = pos 1; apart = omega (arith, ints) }
+turned B x (pos n) e = Congruent-by_times _ _ _ (neg_ℤ (pos 1)) (omega (arith, ints))
+turned B x (negsuc n) e = Congruent-by_times _ _ _ (pos 1) (omega (arith, ints))
 
 module _ (s : Bool) (B : ℕ) (x y : ℤ) (h : 1 ≤ B) (e : unsigned_abs y * 2 ≡ 2 ^ B) where
   twice : wrapped_sum s B y y ≡ pos 0

@@ -7,7 +7,7 @@ use Rattle.arbitrary_base.specs.Operation.{wrapped_difference, wrapped_product, 
 use Rattle.arbitrary_base.specs.Range.{hi}
 use Rattle.arbitrary_base.specs.Residue.{Congruent}
 use Rattle.arbitrary_base.proofs.integers.Ring.{add-mul_z, sub-mul_z}
-use Rattle.arbitrary_base.proofs.modular.Congruence.{Congruent-refl}
+use Rattle.arbitrary_base.proofs.modular.Congruence.{Congruent-by_times, Congruent-refl}
 use Rattle.arbitrary_base.proofs.operations.WrappedRing.{by-congruence, difference-congruent, difference-in_range, product-congruent, product-in_range, sum-congruent, sum-in_range}
 use Rattle.arbitrary_laws.proofs.sums.Ring.{wrapped_product-two}
 
@@ -52,7 +52,7 @@ module _ (s : Bool) (B : ℕ) (x a : ℤ) (h : 1 ≤ B) where
 
 -- the greatest number of a type with no sign is congruent to -1
 highest-congruent : (B : ℕ) → Congruent B (hi false B) (negsuc 0)
-highest-congruent B = record { times = pos 1; apart = omega (arith, ints) }
+highest-congruent B = Congruent-by_times _ _ _ (pos 1) (omega (arith, ints))
 
 pub wrapped_product-highest : (B : ℕ) (x : ℤ) → 1 ≤ B → wrapped_product false B x (hi false B) ≡ wrapped_difference false B (pos 0) x
 wrapped_product-highest B x h =

@@ -5,7 +5,7 @@ use Rattle.std.proofs.lemmas.Int.{ints}
 use Rattle.arbitrary_base.specs.Operation.{wrapped_difference, wrapped_sum}
 use Rattle.arbitrary_base.specs.Range.{hi, lo}
 use Rattle.arbitrary_base.specs.Residue.{Congruent}
-use Rattle.arbitrary_base.proofs.modular.Congruence.{Congruent-refl}
+use Rattle.arbitrary_base.proofs.modular.Congruence.{Congruent-by_times, Congruent-refl}
 use Rattle.arbitrary_base.proofs.operations.WrappedRing.{by-congruence, difference-congruent, difference-in_range, sum-congruent, sum-in_range}
 
 module _ (s : Bool) (B : ℕ) (x a b : ℤ) (h : 1 ≤ B) where
@@ -41,11 +41,11 @@ another s B x a b h c =
     (sum-congruent s B _ _ _ _ (Congruent-refl B x) c) (sum-congruent s B _ _ _ _ (Congruent-refl B x) (Congruent-refl B b)) refl
 
 pub offset-above : (s : Bool) (B : ℕ) (x : ℤ) (n : ℕ) → 1 ≤ B → IsTrue (int_lt (hi s B) (pos n)) → wrapped_sum s B x (pos n) ≡ wrapped_sum s B x (pos n -ℤ pos (2 ^ B))
-offset-above s B x n h p = another s B x _ _ h (record { times = pos 1; apart = omega (arith, ints) })
+offset-above s B x n h p = another s B x _ _ h (Congruent-by_times _ _ _ (pos 1) (omega (arith, ints)))
 
 pub offset-below : (s : Bool) (B : ℕ) (x : ℤ) (n : ℕ) → 1 ≤ B → IsTrue (int_lt (negsuc n) (lo s B)) → wrapped_sum s B x (negsuc n) ≡ wrapped_sum s B x (negsuc n +ℤ pos (2 ^ B))
-offset-below s B x n h p = another s B x _ _ h (record { times = negsuc 0; apart = omega (arith, ints) })
+offset-below s B x n h p = another s B x _ _ h (Congruent-by_times _ _ _ (negsuc 0) (omega (arith, ints)))
 
 -- with no sign, down is up by what is left of the round
 pub offset-round : (B : ℕ) (x : ℤ) (n : ℕ) → 1 ≤ B → wrapped_difference false B x (pos n) ≡ wrapped_sum false B x (pos (2 ^ B) -ℤ pos n)
-offset-round B x n h = down false B x (pos n) h ∙ another false B x _ _ h (record { times = negsuc 0; apart = omega (arith, ints) })
+offset-round B x n h = down false B x (pos n) h ∙ another false B x _ _ h (Congruent-by_times _ _ _ (negsuc 0) (omega (arith, ints)))

@@ -38,7 +38,7 @@ difference B a b m x y e l c d =
 -- ---- a word that is read with a sign, or with fewer bits
 
 pub wrap-remainder : (s : Bool) (B n m : ℕ) → 1 ≤ B → m ≡ 2 ^ B → wrap s B (pos (n % m)) ≡ wrap s B (pos n)
-wrap-remainder s B n m h e = wrap-same s B (pos (n % m)) (pos n) h (remainder B n m e)
+wrap-remainder s B n m h e = wrap-same s B (pos (n % m)) (pos n) (remainder B n m e)
 
 -- `suc m` fits a mask that is written out
 pub wrap-masked : (s : Bool) (B n m : ℕ) → 1 ≤ B → suc (suc m) ≡ 2 ^ B → wrap s B (pos (bit_and n (suc m))) ≡ wrap s B (pos n)
@@ -68,6 +68,6 @@ word_difference-right B a b m y e l f = difference B a b m (pos a) y e l (same B
 -- a difference that is read with a sign, or with fewer bits
 pub wrap-word_difference : (s : Bool) (B a b m : ℕ) → 1 ≤ B → m ≡ 2 ^ B → b ≤ m → wrap s B (pos ((a + (m - b)) % m)) ≡ wrap s B (pos a -ℤ pos b)
 wrap-word_difference s B a b m h e l =
-    wrap-same s B (pos ((a + (m - b)) % m)) (pos a -ℤ pos b) h (difference B a b m (pos a) (pos b) e l (same B a) (same B b))
+    wrap-same s B (pos ((a + (m - b)) % m)) (pos a -ℤ pos b) (difference B a b m (pos a) (pos b) e l (same B a) (same B b))
 
 pub ruleset wrapped_words = (wrap-congruent, signed_primitive, wrap-remainder, wrap-masked, word_sum-left, word_sum-before, word_sum-after, word_difference-right, wrap-word_difference)

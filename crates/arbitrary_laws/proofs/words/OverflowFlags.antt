@@ -128,7 +128,7 @@ module _ (B : ℕ) (x y : ℤ) (h : 1 ≤ B) (f : InRange false B x) (g : InRang
       let q = pos-unsigned_abs y g.low in
       let l : unsigned_abs y ≤ 2 ^ B = omega (arith, ints, q, g.high) in
       let c : Congruent B (pos n) (x -ℤ y) = Congruent-from_apart B (pos n) (x -ℤ y) (0, 1, omega (arith, ints, p, q, l)) in
-      difference-is false B x y ∙ sym (wrap-same false B (pos n) (x -ℤ y) h c) ∙ wrap-pos B n h
+      difference-is false B x y ∙ sym (wrap-same false B (pos n) (x -ℤ y) c) ∙ wrap-pos B n h
 
 -- carry, overflow and borrow, and a half carry
 pub ruleset one_bits = (under_one, digit_of_and, digit_of_or, digit_of_xor, digit_of_not, sum-remainder, difference-remainder)

@@ -1,11 +1,10 @@
-use Rattle.std.specs.Prelude.{ℤ, Bool}
+use Rattle.std.specs.Prelude.{Bool}
 use Rattle.std.proofs.Common.{subst}
 use Rattle.arbitrary_base.specs.Range.{InRange}
-use Rattle.arbitrary_base.specs.Residue.{Congruent}
 use Rattle.arbitrary_base.proofs.modular.Congruence.{Congruent-narrower, Congruent-trans}
 use Rattle.arbitrary_base.proofs.modular.ExactOrCongruent.{wrapped-congruent, wrapped-exact}
 use Rattle.arbitrary_base.proofs.modular.Truncation.{InRange-of_unsigned, InRange-wider}
-use Rattle.arbitrary_traits.proofs.Conversion.{congruent-signed, low-of_unsigned, wrap-to_u128_bits}
+use Rattle.arbitrary_traits.proofs.Conversion.{low-of_unsigned, wrap-to_u128_bits}
 use Rattle.arbitrary_traits.proofs.numbered.Numbered.masked_new.Goals as goal
 
 pub returns : goal.returns
@@ -26,11 +25,8 @@ returns g c =
       as_wide = λ d l. exact (InRange-wider s A B x h l (subst (λ (t : Bool). InRange t A x) d f));
       wider = λ d l. exact (InRange-of_unsigned s A B x h l (subst (λ (t : Bool). InRange t A x) d f));
       low = λ d t l. low-of_unsigned s g.T.Numbered.IS_SIGNED A B x _ some.0 f d t e;
-      narrower = λ d l. congruent;
-      other_sign = λ d. congruent;
-      congruent = λ y d. subst (λ (z : ℤ). Congruent B (g.Self.Numbered.number c.from_u128_bits.result) z) d congruent;
+      congruent = congruent;
       congruent_to = λ y l d. Congruent-trans B _ x y congruent (Congruent-narrower B A x y l d);
-      congruent_signed = congruent-signed g.T.Numbered.IS_SIGNED s B _ _ congruent;
       value_in_range = c.to_u128_bits.ensures.self_in_range;
       width = c.to_u128_bits.ensures.width;
     }

@@ -1,6 +1,5 @@
 use Rattle.std.proofs.Common.{◌∙◌, ap}
 use Rattle.arbitrary_base.specs.Residue.{wrap}
-use Rattle.arbitrary_base.proofs.modular.Congruence.{Congruent-trans}
 use Rattle.arbitrary_base.proofs.modular.Inverse.{counterpart-undoes}
 use Rattle.arbitrary_base.proofs.modular.ExactOrCongruent.{wrapped-congruent}
 use Rattle.arbitrary_core.proofs.integer.signed.IntInteger.from_unsigned.Goals as goal
@@ -12,6 +11,5 @@ returns g c =
     record {
       value = e;
       congruent = k;
-      congruent_to = λ y f. Congruent-trans g.row.BITS _ _ y k f;
       undo = λ y f d. counterpart-undoes g.T.Storage.SIGNED g.row.BITS _ _ y (c.value.ensures.width.0) f d e;
     }

@@ -1,5 +1,4 @@
 use Rattle.std.specs.Prelude.{false}
-use Rattle.arbitrary_base.proofs.modular.Congruence.{Congruent-trans}
 use Rattle.arbitrary_base.proofs.modular.ExactOrCongruent.{wrapped-congruent}
 use Rattle.arbitrary_core.proofs.Counterpart.{wrap-kept_at}
 use Rattle.arbitrary_core.proofs.integer.unsigned.UIntInteger.to_unsigned.Goals as goal
@@ -8,4 +7,4 @@ pub returns : goal.returns
 returns g c =
     let e = wrap-kept_at g.T.Storage.SIGNED false g.row.BITS _ _ _ g.met.T.UnsignedStorage.unsigned_law (c.value.ensures.width.0) c.value.ensures.self_in_range c.value.ensures.number c.new.ensures in
     let k = wrapped-congruent false g.row.BITS _ _ e in
-    record { value = e; congruent = k; congruent_to = λ y f. Congruent-trans g.row.BITS _ _ y k f; self_in_range = c.value.ensures.self_in_range }
+    record { value = e; congruent = k; self_in_range = c.value.ensures.self_in_range }
