@@ -35,7 +35,6 @@ pub fn write(registers: &mut [u12; 8], place: u3, value: u12)
 }
 
 /// Two steps of a counter that wraps.
-#[tactic(auto, using(arbitrary_laws::proofs::Everyday::everyday))]
 pub fn two_steps(count: u12) -> u12
     ensures { Congruent 12 result (count +ℤ pos 2) }
 {
@@ -50,7 +49,6 @@ pub fn low_sum(a: u24, b: u24) -> u12
 }
 
 /// The shorter turn from one direction to another, in steps of which a full turn has 16,384.
-#[tactic(auto, using(arbitrary_laws::proofs::numbers::Conversions::congruences))]
 pub fn turn(from: u14, to: u14) -> i14
     ensures { Congruent 14 (from +ℤ result) to }
 {
