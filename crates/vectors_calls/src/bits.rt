@@ -48,7 +48,7 @@ fn shifts_that_tell_of_an_amount_of_the_width_or_more(rt: HostRuntime) {
 fn rotations_at_full_width(rt: HostRuntime) {
     let octet = UInt::<u8, 8>::new(0xA3);
     for (amount, turned) in [(0, 0xA3), (8, 0xA3), (4, 0x3A)] {
-        assert_eq!(rt; octet.rotate_left(amount).value(), turned, "by {amount}");
+        same(&rt, octet.rotate_left(amount).value(), turned);
     }
     same(
         &rt,

@@ -4,7 +4,7 @@ use crate::same::same;
 use arbitrary_int::{Number, TryNewError, u5, u14};
 
 #[test]
-fn calls_compute_as_those_of_integer(rt: HostRuntime) {
+fn ends_of_the_range(rt: HostRuntime) {
     same(
         &rt,
         (<u14 as Number>::BITS, <u32 as Number>::BITS),
@@ -12,14 +12,22 @@ fn calls_compute_as_those_of_integer(rt: HostRuntime) {
     );
     same(&rt, <u14 as Number>::max_value().value(), 16383);
     same(&rt, <u14 as Number>::min_value().value(), 0);
+    same(&rt, <u8 as Number>::max_value(), 255);
+}
+
+#[test]
+fn values_are_made_and_read(rt: HostRuntime) {
     same(&rt, <u14 as Number>::new(300), u14::new(300));
     same(&rt, <u14 as Number>::try_new(16383), Ok(u14::new(16383)));
     same(&rt, <u14 as Number>::try_new(16384), Err(TryNewError));
     same(&rt, <u14 as Number>::value(u14::new(300)), 300);
+}
+
+#[test]
+fn values_are_converted(rt: HostRuntime) {
     same(&rt, <u14 as Number>::from_(u5::new(21)), u14::new(21));
     same(&rt, <u5 as Number>::masked_new(300u16), u5::new(12));
     same(&rt, <u14 as Number>::as_::<u5>(u14::new(300)), u5::new(12));
-    same(&rt, <u8 as Number>::max_value(), 255);
 }
 
 #[test]

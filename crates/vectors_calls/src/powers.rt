@@ -1,22 +1,17 @@
 //! Test vectors of powers, and of the number of their multiplications.
 
+use crate::same::same;
 use arbitrary_int::prelude::*;
 
 #[test]
 fn powers_end_at_the_range(rt: HostRuntime) {
     for (exponent, power) in [(3, -8192), (4294967294, 8191), (4294967295, -8192)] {
-        assert_eq!(rt;
-            i14::min_value().saturating_pow(exponent).value(),
-            power,
-            "to {exponent}"
-        );
+        let result = i14::min_value().saturating_pow(exponent);
+        same(&rt, result.value(), power);
     }
     for (exponent, power) in [(0, 0), (1, -1), (2, 0), (3, -1)] {
-        assert_eq!(rt;
-            Int::<i8, 1>::new(-1).saturating_pow(exponent).value(),
-            power,
-            "to {exponent}"
-        );
+        let result = Int::<i8, 1>::new(-1).saturating_pow(exponent);
+        same(&rt, result.value(), power);
     }
 }
 
@@ -28,7 +23,6 @@ fn few_multiplications_serve_a_great_exponent(rt: HostRuntime) {
         (4294967295, -8192, 64),
     ] {
         let (result, count) = i14::min_value().saturating_pow_counted(exponent);
-        assert_eq!(rt; result.value(), power, "to {exponent}");
-        assert!(rt; count <= most, "to {exponent}: {count}");
+        same(&rt, (result.value(), count <= most), (power, true));
     }
 }

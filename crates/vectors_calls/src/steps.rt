@@ -38,20 +38,37 @@ fn shifted(to: usize, src: usize) -> Step {
     }
 }
 
+/// What the steps leave of the registers, and how the run ends. A test that calls this looks up no trait of the registers' type.
+fn leaves(
+    rt: &impl Abort,
+    steps: &[Step],
+    registers: &mut [u7],
+    wanted: &[u7],
+    ending: Result<(), Stop>,
+) {
+    assert!(rt; well_formed(steps, registers.len()));
+    same(rt, run(steps, registers), ending);
+    same(rt, &*registers, wanted);
+}
+
+/// Three numbers as registers.
+fn registers_of(numbers: [u8; 3]) -> [u7; 3] {
+    [
+        u7::masked_new(numbers[0]),
+        u7::masked_new(numbers[1]),
+        u7::masked_new(numbers[2]),
+    ]
+}
+
 #[test]
 fn no_steps_change_nothing(rt: HostRuntime) {
-    let mut registers: [u7; 0] = [];
-    assert!(rt; well_formed(&[], 0));
-    same(&rt, run(&[], &mut registers), Ok(()));
+    leaves(&rt, &[], &mut [], &[], Ok(()));
 }
 
 #[test]
 fn a_register_may_be_read_twice_and_written(rt: HostRuntime) {
     let steps = [two(TwoOp::WrappingAdd, 0, 0, 0)];
-    let mut registers = [u7::new(100)];
-    assert!(rt; well_formed(&steps, registers.len()));
-    same(&rt, run(&steps, &mut registers), Ok(()));
-    same(&rt, registers, [u7::new(72)]);
+    leaves(&rt, &steps, &mut [u7::new(100)], &[u7::new(72)], Ok(()));
 }
 
 #[test]
@@ -60,11 +77,14 @@ fn a_refused_step_ends_the_run_and_keeps_the_earlier_ones(rt: HostRuntime) {
         two(TwoOp::WrappingAdd, 2, 0, 1),
         two(TwoOp::CheckedAdd, 0, 0, 1),
     ];
-    let mut registers = [u7::new(100), u7::new(50), u7::new(0)];
-    assert!(rt; well_formed(&steps, registers.len()));
     let why = Why::Refused;
-    same(&rt, run(&steps, &mut registers), Err(Stop { at: 1, why }));
-    same(&rt, registers, [u7::new(100), u7::new(50), u7::new(22)]);
+    leaves(
+        &rt,
+        &steps,
+        &mut registers_of([100, 50, 0]),
+        &registers_of([100, 50, 22]),
+        Err(Stop { at: 1, why }),
+    );
 }
 
 #[test]
@@ -73,11 +93,14 @@ fn a_zero_divisor_stops_a_division(rt: HostRuntime) {
         (TwoOp::SaturatingDiv, Why::ZeroDivisor),
         (TwoOp::CheckedDiv, Why::Refused),
     ] {
-        let steps = [two(op, 0, 0, 2)];
-        let mut registers = [u7::new(100), u7::new(50), u7::new(0)];
-        assert!(rt; well_formed(&steps, registers.len()));
-        same(&rt, run(&steps, &mut registers), Err(Stop { at: 0, why }));
-        same(&rt, registers, [u7::new(100), u7::new(50), u7::new(0)]);
+        let stop = Stop { at: 0, why };
+        leaves(
+            &rt,
+            &[two(op, 0, 0, 2)],
+            &mut registers_of([100, 50, 0]),
+            &registers_of([100, 50, 0]),
+            Err(stop),
+        );
     }
 }
 
@@ -107,33 +130,26 @@ fn a_register_whose_number_is_the_count_is_none_of_them(rt: HostRuntime) {
     }
 }
 
-/// Three numbers as registers.
-fn registers_of(numbers: [u8; 3]) -> [u7; 3] {
-    [
-        u7::masked_new(numbers[0]),
-        u7::masked_new(numbers[1]),
-        u7::masked_new(numbers[2]),
-    ]
-}
-
 /// What one step leaves of the registers 100, 50 and 7.
-fn leaves(rt: &impl Abort, step: Step, wanted: [u8; 3]) {
-    let steps = [step];
-    let mut registers = registers_of([100, 50, 7]);
-    assert!(rt; well_formed(&steps, registers.len()));
-    same(rt, run(&steps, &mut registers), Ok(()));
-    same(rt, registers, registers_of(wanted));
+fn one_leaves(rt: &impl Abort, step: Step, wanted: [u8; 3]) {
+    leaves(
+        rt,
+        &[step],
+        &mut registers_of([100, 50, 7]),
+        &registers_of(wanted),
+        Ok(()),
+    );
 }
 
 #[test]
 fn the_sources_are_read_before_the_target_is_written(rt: HostRuntime) {
-    leaves(&rt, two(TwoOp::WrappingSub, 0, 0, 1), [50, 50, 7]);
-    leaves(&rt, two(TwoOp::WrappingSub, 0, 1, 0), [78, 50, 7]);
-    leaves(&rt, two(TwoOp::WrappingSub, 0, 0, 0), [0, 50, 7]);
-    leaves(&rt, two(TwoOp::WrappingSub, 2, 1, 2), [100, 50, 43]);
-    leaves(&rt, two(TwoOp::WrappingSub, 2, 2, 1), [100, 50, 85]);
-    leaves(&rt, complement(0, 0), [27, 50, 7]);
-    leaves(&rt, complement(2, 2), [100, 50, 120]);
-    leaves(&rt, shifted(0, 0), [32, 50, 7]);
-    leaves(&rt, shifted(2, 2), [100, 50, 56]);
+    one_leaves(&rt, two(TwoOp::WrappingSub, 0, 0, 1), [50, 50, 7]);
+    one_leaves(&rt, two(TwoOp::WrappingSub, 0, 1, 0), [78, 50, 7]);
+    one_leaves(&rt, two(TwoOp::WrappingSub, 0, 0, 0), [0, 50, 7]);
+    one_leaves(&rt, two(TwoOp::WrappingSub, 2, 1, 2), [100, 50, 43]);
+    one_leaves(&rt, two(TwoOp::WrappingSub, 2, 2, 1), [100, 50, 85]);
+    one_leaves(&rt, complement(0, 0), [27, 50, 7]);
+    one_leaves(&rt, complement(2, 2), [100, 50, 120]);
+    one_leaves(&rt, shifted(0, 0), [32, 50, 7]);
+    one_leaves(&rt, shifted(2, 2), [100, 50, 56]);
 }
