@@ -1,9 +1,11 @@
-//! Test vectors of the calls. Each expected result comes from outside the library. `vectors_base` has those of the
-//! base.
+//! Test vectors of the calls, and of the functions of `arbitrary_base`. Each expected result comes from outside the
+//! library.
 #![tactic(auto)]
 
 #[cfg(test)]
 mod arithmetic;
+#[cfg(test)]
+mod base;
 #[cfg(test)]
 mod bits;
 #[cfg(test)]

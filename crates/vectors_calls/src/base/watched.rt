@@ -3,6 +3,7 @@
 
 ghost use Rattle.std.specs.Prelude.{◌≤◌, IfOk};
 
+use crate::same::same;
 use arbitrary_base::watched::Watched;
 use std::io;
 use std::io::{ErrorKind, Read, Write};
@@ -102,17 +103,23 @@ const KINDS: [ErrorKind; 42] = [
     ErrorKind::Uncategorized,
 ];
 
+/// The outcome of a call, with the kind of its error.
+fn kind_of(outcome: io::Result<usize>) -> Result<usize, ErrorKind> {
+    match outcome {
+        Ok(count) => Ok(count),
+        Err(error) => Err(error.kind()),
+    }
+}
+
 #[test]
 fn a_fault_of_any_kind_is_passed_on_and_recorded(rt: HostRuntime) {
     for kind in KINDS {
         let mut reader = watched(Err(kind));
-        let read = reader.read(&mut [0]);
-        assert_eq!(rt; read.err().map(|error| error.kind()), Some(kind));
-        assert!(rt; reader.failed());
+        same(&rt, kind_of(reader.read(&mut [0])), Err(kind));
+        same(&rt, reader.failed(), true);
         let mut writer = watched(Err(kind));
-        let written = writer.write(&[0]);
-        assert_eq!(rt; written.err().map(|error| error.kind()), Some(kind));
-        assert!(rt; writer.failed());
+        same(&rt, kind_of(writer.write(&[0])), Err(kind));
+        same(&rt, writer.failed(), true);
     }
 }
 
@@ -131,13 +138,13 @@ fn each_call_asks_the_inner_one_once(rt: HostRuntime) {
                 Ok(most) => Ok(if calls == 2 { 0 } else { most.min(2) }),
                 Err(kind) => Err(kind),
             };
-            assert_eq!(rt; read.map_err(|error| error.kind()), wanted);
-            assert_eq!(rt; written.map_err(|error| error.kind()), wanted);
-            assert_eq!(rt; reader.failed(), result.is_err());
-            assert_eq!(rt; writer.failed(), !matches!(result, Ok(1 | 9)));
+            same(&rt, kind_of(read), wanted);
+            same(&rt, kind_of(written), wanted);
+            same(&rt, reader.failed(), result.is_err());
+            same(&rt, writer.failed(), !matches!(result, Ok(1 | 9)));
         }
         let (reader, writer) = (reader.into_inner(), writer.into_inner());
-        assert_eq!(rt; (reader.calls, writer.calls), (3, 3));
+        same(&rt, (reader.calls, writer.calls), (3, 3));
     }
 }
 
@@ -148,12 +155,13 @@ fn the_flag_stays_up_when_later_calls_succeed(rt: HostRuntime) {
         later: Ok(1),
         calls: 0,
     });
-    let refused = broken.read(&mut [0]);
-    assert!(rt; refused.is_err());
-    let (read, written) = (broken.read(&mut [0]), broken.write(&[0]));
-    assert_eq!(rt; read.ok(), Some(1));
-    assert_eq!(rt; written.ok(), Some(1));
-    assert!(rt; broken.failed());
-    assert_eq!(rt; broken.failures(), 1);
-    assert_eq!(rt; broken.into_inner().calls, 3);
+    same(
+        &rt,
+        kind_of(broken.read(&mut [0])),
+        Err(ErrorKind::Interrupted),
+    );
+    same(&rt, kind_of(broken.read(&mut [0])), Ok(1));
+    same(&rt, kind_of(broken.write(&[0])), Ok(1));
+    same(&rt, (broken.failed(), broken.failures()), (true, 1));
+    same(&rt, broken.into_inner().calls, 3);
 }

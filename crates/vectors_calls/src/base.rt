@@ -1,0 +1,5 @@
+//! Test vectors of `arbitrary_base`.
+
+mod bits;
+mod powers;
+mod watched;
