@@ -1,5 +1,4 @@
 //! The decoder of a small processor, and a step of its machine.
-#![tactic(auto, using(arbitrary_laws::proofs::numbers::Conversions::conversions))]
 
 ghost use Rattle.std.specs.Prelude.{◌≡◌, ◌≢◌, ◌+ℤ◌, pos};
 ghost use Rattle.arbitrary_int.specs.Field.{field};

@@ -20,6 +20,7 @@ pub mod range_iterators;
 pub mod ranges;
 pub mod rust_lines;
 pub mod signed_orders;
+pub mod signed_primitives;
 pub mod special_operands;
 pub mod stream_bytes;
 pub mod totals;

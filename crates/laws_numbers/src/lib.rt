@@ -10,7 +10,6 @@ pub mod cancellations;
 pub mod carries;
 pub mod complement_parts;
 pub mod complements;
-pub mod congruences;
 pub mod distances;
 pub mod documented_calls;
 pub mod exact;

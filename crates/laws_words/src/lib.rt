@@ -26,7 +26,6 @@ pub mod registers;
 pub mod replaced_fields;
 pub mod side_by_side;
 pub mod signed_fields;
-pub mod signed_primitives;
 pub mod signed_words;
 pub mod tested_flags;
 pub mod words;

@@ -125,14 +125,12 @@ pub fn sign_extended_by_shifts(x: u9) -> i16
 
 // ---- signed samples in the bits of a wider word
 
-#[tactic(auto, using(arbitrary_laws::proofs::numbers::Conversions::congruences))]
 pub fn low_sample(word: u32) -> i12
     ensures { Congruent 12 result (pos word) }
 {
     i12::from_bits((word & 0xFFF) as u16)
 }
 
-#[tactic(auto, using(arbitrary_laws::proofs::numbers::Conversions::congruences))]
 pub fn high_sample(word: u32) -> i12
     ensures { Congruent 12 result (pos (word / 16)) }
 {

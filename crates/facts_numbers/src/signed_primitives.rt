@@ -1,5 +1,4 @@
 //! Signed primitives with numbers that wrap: the distance of two moments, and steps by an `i8` or an `i16`.
-#![tactic(auto, using(arbitrary_laws::proofs::numbers::Conversions::conversions))]
 
 ghost use Rattle.std.specs.Prelude.{◌+ℤ◌, ◌-ℤ◌, pos};
 ghost use Rattle.arbitrary_int.specs.Residue.{Congruent};
@@ -34,21 +33,18 @@ pub fn low_part(number: i32) -> i12
 
 // ---- differences of two moments, read with a sign
 
-#[tactic(auto, using(arbitrary_laws::proofs::Sets::fields))]
 pub fn ticks_apart(now: u16, then: u16) -> i16
     ensures { Congruent 16 result (pos now -ℤ pos then) }
 {
     now.wrapping_sub(then).as_i16()
 }
 
-#[tactic(auto, using(arbitrary_laws::proofs::sums::WrappedWords::wrapped_words))]
 pub fn milliseconds_apart(after: u32, before: u32) -> i32
     ensures { Congruent 32 result (pos after -ℤ pos before) }
 {
     after.wrapping_sub(before).as_i32()
 }
 
-#[tactic(auto, using(arbitrary_laws::proofs::Sets::fields))]
 pub fn sequence_apart(after: u12, before: u12) -> i16
     ensures { Congruent 12 result (after -ℤ before) }
 {
