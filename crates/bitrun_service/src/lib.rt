@@ -13,3 +13,4 @@ mod printing;
 mod running;
 pub mod serving;
 mod stream;
+mod types;

@@ -1,5 +1,6 @@
 //! The output of an input: it reads the lines, and runs the steps at the type that the first line names.
-//! `bitrun_text` reads the words, `running` runs the steps at one type, and `serving` reads and writes the bytes.
+//! `bitrun_text` reads the words, `types` has a function for each type, `running` runs the steps at one type, and
+//! `serving` reads and writes the bytes.
 
 ghost use Rattle.std.specs.Prelude.{◌≡◌, ◌≤◌, length, map, filter, IfOk, IfErr, All};
 ghost use Rattle.bitrun_text.specs.Kind.{type_row, type_of};
@@ -10,8 +11,9 @@ ghost use Rattle.bitrun_text.specs.Form.{IsStep, IsValue, LinesFault, FormFault}
 ghost use Rattle.bitrun_service.specs.Output.{output_text, wide_output_text, text_for, IsOutput, IsOutputAt};
 
 use crate::running::{run_text, wide_run_text};
+use crate::types;
+use arbitrary_int::Step;
 use arbitrary_int::traits::{FixedWidth, Integer, Numbered};
-use arbitrary_int::{Step, i1, i7, i14, i120, u1, u7, u14, u120};
 use bitrun_text::fault::Fault;
 use bitrun_text::kind::{Kind, RegisterType, WidePair, kind_named};
 use bitrun_text::parsing::{registers, steps};
@@ -52,23 +54,23 @@ fn output_with<'a, A: Allocator>(
         (type_row (type_of kind)).2 lines.old.words lines.old.later) }
 {
     match kind {
-        Kind::Run(RegisterType::U1) => output_at::<u1, A>(alloc, lines),
-        Kind::Run(RegisterType::I1) => output_at::<i1, A>(alloc, lines),
-        Kind::Run(RegisterType::U7) => output_at::<u7, A>(alloc, lines),
-        Kind::Run(RegisterType::I7) => output_at::<i7, A>(alloc, lines),
-        Kind::Run(RegisterType::U14) => output_at::<u14, A>(alloc, lines),
-        Kind::Run(RegisterType::I14) => output_at::<i14, A>(alloc, lines),
-        Kind::Run(RegisterType::U120) => output_at::<u120, A>(alloc, lines),
-        Kind::Run(RegisterType::I120) => output_at::<i120, A>(alloc, lines),
-        Kind::Wide(WidePair::U14U7) => wide_output_at::<u14, u7, A>(alloc, lines),
-        Kind::Wide(WidePair::U14I7) => wide_output_at::<u14, i7, A>(alloc, lines),
-        Kind::Wide(WidePair::I14U7) => wide_output_at::<i14, u7, A>(alloc, lines),
-        Kind::Wide(WidePair::I120U14) => wide_output_at::<i120, u14, A>(alloc, lines),
+        Kind::Run(RegisterType::U1) => types::output_u1(alloc, lines),
+        Kind::Run(RegisterType::I1) => types::output_i1(alloc, lines),
+        Kind::Run(RegisterType::U7) => types::output_u7(alloc, lines),
+        Kind::Run(RegisterType::I7) => types::output_i7(alloc, lines),
+        Kind::Run(RegisterType::U14) => types::output_u14(alloc, lines),
+        Kind::Run(RegisterType::I14) => types::output_i14(alloc, lines),
+        Kind::Run(RegisterType::U120) => types::output_u120(alloc, lines),
+        Kind::Run(RegisterType::I120) => types::output_i120(alloc, lines),
+        Kind::Wide(WidePair::U14U7) => types::output_u14_u7(alloc, lines),
+        Kind::Wide(WidePair::U14I7) => types::output_u14_i7(alloc, lines),
+        Kind::Wide(WidePair::I14U7) => types::output_i14_u7(alloc, lines),
+        Kind::Wide(WidePair::I120U14) => types::output_i120_u14(alloc, lines),
     }
 }
 
 /// The output of the lines from the second on, with registers of the type `R`.
-fn output_at<'a, R: FixedWidth, A: Allocator>(
+pub fn output_at<'a, R: FixedWidth, A: Allocator>(
     alloc: &'a A,
     lines: &mut Cursor,
 ) -> Result<Vec<u8, &'a A>, Fault>
@@ -85,7 +87,7 @@ fn output_at<'a, R: FixedWidth, A: Allocator>(
 }
 
 /// The output of the lines from the second on, with registers of the type `W`, and their low bits at the type `N`.
-fn wide_output_at<'a, W: FixedWidth, N: Integer, A: Allocator>(
+pub fn wide_output_at<'a, W: FixedWidth, N: Integer, A: Allocator>(
     alloc: &'a A,
     lines: &mut Cursor,
 ) -> Result<Vec<u8, &'a A>, Fault>
