@@ -44,8 +44,10 @@ SECONDS = float(SAMPLE[3].replace(',', '')) / (int(FUNCTIONS) - int(SAMPLE[1]))
 FIGURES = [
     (r"printf '(.*)' \| \./bitrun\.sh", INPUT.replace('\n', '\\n')),
     (r'\./bitrun\.sh +# (`.*`)\n', ', '.join(f'`{line}`' for line in OUTPUT.splitlines())),
-    (r'about (\d+) minutes', *source(MEASURED, r'with nothing proved \| (\d+)')),
-    (r'(\d+) processor minutes', *source(MEASURED, r'with nothing proved \| \d+ \| (\d+)')),
+    (r'(\d+) to \d+ minutes', *source(MEASURED, r'with nothing proved \| (\d+)')),
+    (r'\d+ to (\d+) minutes', *source(MEASURED, r'on a slower machine \| (\d+)')),
+    (r'(\d+) to \d+ processor minutes', *source(MEASURED, r'with nothing proved \| \d+ \| (\d+)')),
+    (r'\d+ to (\d+) processor minutes', *source(MEASURED, r'on a slower machine \| \d+ \| (\d+)')),
     (r'in (\d+) more\s+minutes', *source(MEASURED, r'bitrun\.sh` after that \| (\d+)')),
     (r'wrong bodies: (\d+) minutes', *source(MEASURED, r'test\.sh`, .*?\| (\d+) \|')),
     (r'took (\d+) minutes, and', *source(MEASURED, r'test\.sh`, .*?\| (\d+) \|')),
