@@ -1,14 +1,12 @@
 //! The calls on integers of fixed width.
 
 use crate::rounds::{Call, Nothing, Operands, repeat};
+use crate::single::Word;
 use arbitrary_calls::calls::FixedWidthCalls;
 use arbitrary_calls::calls::counts::CountCalls;
 use arbitrary_calls::calls::products::ProductCalls;
 use arbitrary_calls::calls::shifts::ShiftCalls;
 use arbitrary_calls::calls::sums::SumCalls;
-use arbitrary_calls::extraction::Extraction;
-use arbitrary_core::aliases::signed::{i7, i14};
-use arbitrary_core::aliases::unsigned::{u7, u14};
 
 struct WrappingSum;
 
@@ -118,27 +116,9 @@ impl<V: FixedWidthCalls> Call<V> for OnesCounted {
 
 struct Extracted;
 
-impl Call<u7> for Extracted {
-    fn result(_x: u7, y: u7, amount: u32) -> u7 {
-        u7::extract_u32(amount, (y.value() % 16) as usize)
-    }
-}
-
-impl Call<i7> for Extracted {
-    fn result(_x: i7, y: i7, amount: u32) -> i7 {
-        i7::extract_u32(amount, (y.to_bits() % 16) as usize)
-    }
-}
-
-impl Call<u14> for Extracted {
-    fn result(_x: u14, y: u14, amount: u32) -> u14 {
-        u14::extract_u32(amount, (y.value() % 16) as usize)
-    }
-}
-
-impl Call<i14> for Extracted {
-    fn result(_x: i14, y: i14, amount: u32) -> i14 {
-        i14::extract_u32(amount, (y.to_bits() % 16) as usize)
+impl<V: Word> Call<V> for Extracted {
+    fn result(_x: V, y: V, amount: u32) -> V {
+        V::taken(amount, y.place())
     }
 }
 
@@ -167,22 +147,7 @@ pub fn results<V: FixedWidthCalls>(
     }
 }
 
-/// The last results of `u7::extract_u32`.
-pub fn extracts_u7(operands: &Operands<u7>, passes: u32) -> [u7; 1024] {
-    repeat::<u7, Extracted>(operands, passes)
-}
-
-/// The last results of `i7::extract_u32`.
-pub fn extracts_i7(operands: &Operands<i7>, passes: u32) -> [i7; 1024] {
-    repeat::<i7, Extracted>(operands, passes)
-}
-
-/// The last results of `u14::extract_u32`.
-pub fn extracts_u14(operands: &Operands<u14>, passes: u32) -> [u14; 1024] {
-    repeat::<u14, Extracted>(operands, passes)
-}
-
-/// The last results of `i14::extract_u32`.
-pub fn extracts_i14(operands: &Operands<i14>, passes: u32) -> [i14; 1024] {
-    repeat::<i14, Extracted>(operands, passes)
+/// The last results of `extract_u32`.
+pub fn extracts<V: Word>(operands: &Operands<V>, passes: u32) -> [V; 1024] {
+    repeat::<V, Extracted>(operands, passes)
 }

@@ -45,137 +45,144 @@ fn show<V: Display + Copy + Drop, const N: usize>(
     Ok(())
 }
 
-/// The call `extract_u32` alone: a proof grows with the square of the calls.
-fn take_fixed(rt: &impl Print, name: &str, limit: u32, passes: u32) -> io::Result<()>
-    requires { 1 ≤ limit }
+/// Moves the operands toward 0, or next to the ends of the range, for calls in functions of their own.
+fn prepare<V: FixedWidth>(operands: &mut Operands<V>, kind: &str, places: u32)
+    requires { V.valid }
 {
-    match name {
-        "u7" => show(rt, Some(fixed::extracts_u7(&Operands::new(limit), passes))),
-        "i7" => show(rt, Some(fixed::extracts_i7(&Operands::new(limit), passes))),
-        "u14" => show(rt, Some(fixed::extracts_u14(&Operands::new(limit), passes))),
-        "i14" => show(rt, Some(fixed::extracts_i14(&Operands::new(limit), passes))),
-        _ => println!(rt; "no such type"),
+    match kind {
+        "moved" => operands.moved(places),
+        "ends" => operands.at_ends(),
+        _ => {}
     }
 }
 
-fn measure_fixed(rt: &impl Print, name: &str, call: &str, limit: u32, passes: u32) -> io::Result<()>
-    requires { 1 ≤ limit }
-{
-    if call == "extract_u32" {
-        return take_fixed(rt, name, limit, passes);
-    }
-    match name {
-        "u7" => show(
-            rt,
-            fixed::results::<u7>(call, &Operands::new(limit), passes),
-        ),
-        "i7" => show(
-            rt,
-            fixed::results::<i7>(call, &Operands::new(limit), passes),
-        ),
-        "u14" => show(
-            rt,
-            fixed::results::<u14>(call, &Operands::new(limit), passes),
-        ),
-        "i14" => show(
-            rt,
-            fixed::results::<i14>(call, &Operands::new(limit), passes),
-        ),
-        "u120" => show(
-            rt,
-            fixed::results::<u120>(call, &Operands::new(limit), passes),
-        ),
-        "i120" => show(
-            rt,
-            fixed::results::<i120>(call, &Operands::new(limit), passes),
-        ),
-        _ => println!(rt; "no such type"),
-    }
-}
+// Each type has a function of its own: the check of a function takes time with the square of the types at which it calls generic code.
 
-/// Operands for calls in functions of their own: moved toward 0, or next to the ends of the range.
-fn chosen<V: FixedWidth>(limit: u32, places: Option<u32>) -> Operands<V>
-    requires width { V.valid }
-    requires some { 1 ≤ limit }
-{
-    let mut operands = Operands::new(limit);
-    match places {
-        Some(places) => operands.moved(places),
-        None => operands.at_ends(),
-    }
-    operands
-}
-
-/// The call `extract_u32` alone: a proof grows with the square of the calls.
-fn take_single(
+fn measure_u7(
     rt: &impl Print,
-    name: &str,
-    limit: u32,
-    rounds: u32,
-    places: Option<u32>,
-) -> io::Result<()>
-    requires { 1 ≤ limit }
-{
-    match name {
-        "u7" => show(
-            rt,
-            Some(single::taken::<u7>(&chosen(limit, places), rounds)),
-        ),
-        "i7" => show(
-            rt,
-            Some(single::taken::<i7>(&chosen(limit, places), rounds)),
-        ),
-        "u14" => show(
-            rt,
-            Some(single::taken::<u14>(&chosen(limit, places), rounds)),
-        ),
-        "i14" => show(
-            rt,
-            Some(single::taken::<i14>(&chosen(limit, places), rounds)),
-        ),
-        _ => println!(rt; "no such type"),
-    }
-}
-
-fn measure_single(
-    rt: &impl Print,
-    name: &str,
+    kind: &str,
     call: &str,
     limit: u32,
     rounds: u32,
-    places: Option<u32>,
+    places: u32,
 ) -> io::Result<()>
     requires { 1 ≤ limit }
 {
-    if call == "extract_u32" {
-        return take_single(rt, name, limit, rounds, places);
+    let mut operands = Operands::<u7>::new(limit);
+    match (kind, call) {
+        ("loop", "extract_u32") => show(rt, Some(fixed::extracts(&operands, rounds))),
+        ("loop", _) => show(rt, fixed::results(call, &operands, rounds)),
+        (_, "extract_u32") => show(rt, Some(single::extracts(&operands, rounds))),
+        _ => {
+            prepare(&mut operands, kind, places);
+            show(rt, single::results(call, &operands, rounds))
+        }
     }
-    match name {
-        "u7" => show(
-            rt,
-            single::results::<u7>(call, &chosen(limit, places), rounds),
-        ),
-        "i7" => show(
-            rt,
-            single::results::<i7>(call, &chosen(limit, places), rounds),
-        ),
-        "u14" => show(
-            rt,
-            single::results::<u14>(call, &chosen(limit, places), rounds),
-        ),
-        "i14" => show(
-            rt,
-            single::results::<i14>(call, &chosen(limit, places), rounds),
-        ),
-        "u120" => show(
-            rt,
-            single::results::<u120>(call, &chosen(limit, places), rounds),
-        ),
-        "i120" => show(
-            rt,
-            single::results::<i120>(call, &chosen(limit, places), rounds),
-        ),
-        _ => println!(rt; "no such type"),
+}
+
+fn measure_i7(
+    rt: &impl Print,
+    kind: &str,
+    call: &str,
+    limit: u32,
+    rounds: u32,
+    places: u32,
+) -> io::Result<()>
+    requires { 1 ≤ limit }
+{
+    let mut operands = Operands::<i7>::new(limit);
+    match (kind, call) {
+        ("loop", "extract_u32") => show(rt, Some(fixed::extracts(&operands, rounds))),
+        ("loop", _) => show(rt, fixed::results(call, &operands, rounds)),
+        (_, "extract_u32") => show(rt, Some(single::extracts(&operands, rounds))),
+        _ => {
+            prepare(&mut operands, kind, places);
+            show(rt, single::results(call, &operands, rounds))
+        }
+    }
+}
+
+fn measure_u14(
+    rt: &impl Print,
+    kind: &str,
+    call: &str,
+    limit: u32,
+    rounds: u32,
+    places: u32,
+) -> io::Result<()>
+    requires { 1 ≤ limit }
+{
+    let mut operands = Operands::<u14>::new(limit);
+    match (kind, call) {
+        ("loop", "extract_u32") => show(rt, Some(fixed::extracts(&operands, rounds))),
+        ("loop", _) => show(rt, fixed::results(call, &operands, rounds)),
+        (_, "extract_u32") => show(rt, Some(single::extracts(&operands, rounds))),
+        _ => {
+            prepare(&mut operands, kind, places);
+            show(rt, single::results(call, &operands, rounds))
+        }
+    }
+}
+
+fn measure_i14(
+    rt: &impl Print,
+    kind: &str,
+    call: &str,
+    limit: u32,
+    rounds: u32,
+    places: u32,
+) -> io::Result<()>
+    requires { 1 ≤ limit }
+{
+    let mut operands = Operands::<i14>::new(limit);
+    match (kind, call) {
+        ("loop", "extract_u32") => show(rt, Some(fixed::extracts(&operands, rounds))),
+        ("loop", _) => show(rt, fixed::results(call, &operands, rounds)),
+        (_, "extract_u32") => show(rt, Some(single::extracts(&operands, rounds))),
+        _ => {
+            prepare(&mut operands, kind, places);
+            show(rt, single::results(call, &operands, rounds))
+        }
+    }
+}
+
+fn measure_u120(
+    rt: &impl Print,
+    kind: &str,
+    call: &str,
+    limit: u32,
+    rounds: u32,
+    places: u32,
+) -> io::Result<()>
+    requires { 1 ≤ limit }
+{
+    let mut operands = Operands::<u120>::new(limit);
+    match (kind, call) {
+        ("loop", _) => show(rt, fixed::results(call, &operands, rounds)),
+        _ => {
+            prepare(&mut operands, kind, places);
+            show(rt, single::results(call, &operands, rounds))
+        }
+    }
+}
+
+fn measure_i120(
+    rt: &impl Print,
+    kind: &str,
+    call: &str,
+    limit: u32,
+    rounds: u32,
+    places: u32,
+) -> io::Result<()>
+    requires { 1 ≤ limit }
+{
+    let mut operands = Operands::<i120>::new(limit);
+    match (kind, call) {
+        ("loop", _) => show(rt, fixed::results(call, &operands, rounds)),
+        _ => {
+            prepare(&mut operands, kind, places);
+            show(rt, single::results(call, &operands, rounds))
+        }
     }
 }
 
@@ -201,13 +208,20 @@ fn main(rt: HostRuntime) -> io::Result<()> {
     let call = words.next().unwrap_or("");
     let limit = number(words.next());
     let rounds = number(words.next());
+    let places = number(words.next());
     if limit == 0 {
         return println!(rt; "the limit is 0");
     }
-    match kind {
-        "loop" => measure_fixed(&rt, name, call, limit, rounds),
-        "moved" => measure_single(&rt, name, call, limit, rounds, Some(number(words.next()))),
-        "ends" => measure_single(&rt, name, call, limit, rounds, None),
-        _ => println!(rt; "no such kind"),
+    if !matches!(kind, "loop" | "moved" | "ends") {
+        return println!(rt; "no such kind");
+    }
+    match name {
+        "u7" => measure_u7(&rt, kind, call, limit, rounds, places),
+        "i7" => measure_i7(&rt, kind, call, limit, rounds, places),
+        "u14" => measure_u14(&rt, kind, call, limit, rounds, places),
+        "i14" => measure_i14(&rt, kind, call, limit, rounds, places),
+        "u120" => measure_u120(&rt, kind, call, limit, rounds, places),
+        "i120" => measure_i120(&rt, kind, call, limit, rounds, places),
+        _ => println!(rt; "no such type"),
     }
 }

@@ -183,16 +183,24 @@ fn counted_ones<V: FixedWidthCalls>(x: V::Representation) -> u32
     V::from_storage(x).count_ones()
 }
 
-/// A type whose values are stored in words of 32 bits.
+/// A type of at most 16 bits, which are extracted from a word.
 pub trait Word: FixedWidthCalls {
     /// The value of the bits of the word from that place on.
     fn taken(word: u32, place: usize) -> Self
         requires { place ≤ 15 };
+
+    /// A place that depends on the value.
+    fn place(self) -> usize
+        ensures { result ≤ 15 };
 }
 
 impl Word for u7 {
     fn taken(word: u32, place: usize) -> u7 {
         u7::extract_u32(word, place)
+    }
+
+    fn place(self) -> usize {
+        (self.value() % 16) as usize
     }
 }
 
@@ -200,17 +208,29 @@ impl Word for i7 {
     fn taken(word: u32, place: usize) -> i7 {
         i7::extract_u32(word, place)
     }
+
+    fn place(self) -> usize {
+        (self.to_bits() % 16) as usize
+    }
 }
 
 impl Word for u14 {
     fn taken(word: u32, place: usize) -> u14 {
         u14::extract_u32(word, place)
     }
+
+    fn place(self) -> usize {
+        (self.value() % 16) as usize
+    }
 }
 
 impl Word for i14 {
     fn taken(word: u32, place: usize) -> i14 {
         i14::extract_u32(word, place)
+    }
+
+    fn place(self) -> usize {
+        (self.to_bits() % 16) as usize
     }
 }
 
@@ -287,8 +307,8 @@ fn ones_results<V: FixedWidthCalls>(
     results
 }
 
-/// The last results of `rounds` reads of a value from a word.
-pub fn taken<V: Word>(operands: &Operands<V>, rounds: u32) -> [V::Representation; 16] {
+/// The last results of `rounds` calls of `extract_u32`.
+pub fn extracts<V: Word>(operands: &Operands<V>, rounds: u32) -> [V::Representation; 16] {
     let mut results = [operands.left[0].to_storage(); 16];
     for i in 0..rounds {
         let at = (i % 16) as usize;
