@@ -17,10 +17,10 @@ grep -qE "^${crate}( [^:]*)?:" crates.txt || stop "crates.txt has no crate $crat
 [ -d "crates/$crate/src" ] || stop "there is no folder crates/$crate/src"
 free_disk=$(df -Pm . | awk 'NR == 2 { print $4 }')
 [ "$free_disk" -ge 3000 ] || stop "the disk has $free_disk MB free, and the proofs need 3,000"
-# A job takes up to 2 GB.
+# A job takes up to 2 GB. Of several jobs, one waits while the others work, so that one more than there are processors keeps all busy.
 free_memory=$(awk '/MemAvailable/ { print int($2 / 1048576) }' /proc/meminfo)
-jobs=$(nproc)
-[ "$jobs" -le 4 ] || jobs=4
+jobs=$(($(nproc) + 1))
+[ "$jobs" -le 5 ] || jobs=5
 [ "$jobs" -le $((free_memory / 2)) ] || jobs=$((free_memory / 2))
 [ "$jobs" -ge 1 ] || stop "only $free_memory GB of memory are free, and a check needs 2"
 
