@@ -31,17 +31,41 @@ fn is_found<K: Hash + Copy + Drop>(alloc: Global, key: K) -> Result<bool, AllocF
 }
 
 #[test]
-fn keys_of_each_storage(rt: HostRuntime) -> Result<(), Fail> {
+fn keys_of_8_bits(rt: HostRuntime) -> Result<(), Fail> {
     let alloc = rt.alloc();
     same(&rt, is_found(alloc, UInt::<u8, 8>::max_value())?, true);
-    same(&rt, is_found(alloc, u14::max_value())?, true);
-    same(&rt, is_found(alloc, u31::max_value())?, true);
-    same(&rt, is_found(alloc, u53::max_value())?, true);
-    same(&rt, is_found(alloc, u127::max_value())?, true);
     same(&rt, is_found(alloc, Int::<i8, 8>::min_value())?, true);
+    Ok(())
+}
+
+#[test]
+fn keys_of_14_bits(rt: HostRuntime) -> Result<(), Fail> {
+    let alloc = rt.alloc();
+    same(&rt, is_found(alloc, u14::max_value())?, true);
     same(&rt, is_found(alloc, i14::min_value())?, true);
+    Ok(())
+}
+
+#[test]
+fn keys_of_31_bits(rt: HostRuntime) -> Result<(), Fail> {
+    let alloc = rt.alloc();
+    same(&rt, is_found(alloc, u31::max_value())?, true);
     same(&rt, is_found(alloc, i31::min_value())?, true);
+    Ok(())
+}
+
+#[test]
+fn keys_of_53_bits(rt: HostRuntime) -> Result<(), Fail> {
+    let alloc = rt.alloc();
+    same(&rt, is_found(alloc, u53::max_value())?, true);
     same(&rt, is_found(alloc, i53::min_value())?, true);
+    Ok(())
+}
+
+#[test]
+fn keys_of_127_bits(rt: HostRuntime) -> Result<(), Fail> {
+    let alloc = rt.alloc();
+    same(&rt, is_found(alloc, u127::max_value())?, true);
     same(&rt, is_found(alloc, i127::min_value())?, true);
     Ok(())
 }

@@ -8,8 +8,8 @@ use std::fmt::{Binary, Debug, Display, HasDigits, LowerHex, Octal, UpperHex};
 use std::process::Abort;
 use std::test::Fail;
 
-/// How the least and the greatest number are written, by `{}` and by `{:?}`. With a bound `Integer` in place of these, a line takes
-/// twice the proof.
+/// Fails if the least and the greatest number are written otherwise, by `{}` and by `{:?}`. With a bound `Integer` in place of these,
+/// the check of a line takes twice as long.
 fn has_ends<V: num_traits::Bounded + Display + Debug + Drop>(
     rt: &impl Abort,
     alloc: Global,
@@ -23,24 +23,48 @@ fn has_ends<V: num_traits::Bounded + Display + Debug + Drop>(
 }
 
 #[test]
-fn decimals_at_full_width(rt: HostRuntime) -> Result<(), Fail> {
+fn decimals_of_8_bits(rt: HostRuntime) -> Result<(), Fail> {
     let alloc = rt.alloc();
     has_ends::<UInt<u8, 8>>(&rt, alloc, "0 255 0 255")?;
-    has_ends::<UInt<u16, 16>>(&rt, alloc, "0 65535 0 65535")?;
-    has_ends::<UInt<u32, 32>>(&rt, alloc, "0 4294967295 0 4294967295")?;
-    has_ends::<UInt<u64, 64>>(&rt, alloc, "0 18446744073709551615 0 18446744073709551615")?;
-    has_ends::<UInt<u128, 128>>(
-        &rt,
-        alloc,
-        "0 340282366920938463463374607431768211455 0 340282366920938463463374607431768211455",
-    )?;
     has_ends::<Int<i8, 8>>(&rt, alloc, "-128 127 -128 127")?;
+    Ok(())
+}
+
+#[test]
+fn decimals_of_16_bits(rt: HostRuntime) -> Result<(), Fail> {
+    let alloc = rt.alloc();
+    has_ends::<UInt<u16, 16>>(&rt, alloc, "0 65535 0 65535")?;
     has_ends::<Int<i16, 16>>(&rt, alloc, "-32768 32767 -32768 32767")?;
+    Ok(())
+}
+
+#[test]
+fn decimals_of_32_bits(rt: HostRuntime) -> Result<(), Fail> {
+    let alloc = rt.alloc();
+    has_ends::<UInt<u32, 32>>(&rt, alloc, "0 4294967295 0 4294967295")?;
     has_ends::<Int<i32, 32>>(&rt, alloc, "-2147483648 2147483647 -2147483648 2147483647")?;
+    Ok(())
+}
+
+#[test]
+fn decimals_of_64_bits(rt: HostRuntime) -> Result<(), Fail> {
+    let alloc = rt.alloc();
+    has_ends::<UInt<u64, 64>>(&rt, alloc, "0 18446744073709551615 0 18446744073709551615")?;
     has_ends::<Int<i64, 64>>(
         &rt,
         alloc,
         "-9223372036854775808 9223372036854775807 -9223372036854775808 9223372036854775807",
+    )?;
+    Ok(())
+}
+
+#[test]
+fn decimals_of_128_bits(rt: HostRuntime) -> Result<(), Fail> {
+    let alloc = rt.alloc();
+    has_ends::<UInt<u128, 128>>(
+        &rt,
+        alloc,
+        "0 340282366920938463463374607431768211455 0 340282366920938463463374607431768211455",
     )?;
     has_ends::<Int<i128, 128>>(
         &rt,
@@ -51,22 +75,52 @@ fn decimals_at_full_width(rt: HostRuntime) -> Result<(), Fail> {
 }
 
 #[test]
-fn decimals_at_narrower_widths(rt: HostRuntime) -> Result<(), Fail> {
+fn decimals_of_one_bit(rt: HostRuntime) -> Result<(), Fail> {
     let alloc = rt.alloc();
     has_ends::<u1>(&rt, alloc, "0 1 0 1")?;
     has_ends::<i1>(&rt, alloc, "-1 0 -1 0")?;
+    Ok(())
+}
+
+#[test]
+fn decimals_of_7_bits(rt: HostRuntime) -> Result<(), Fail> {
+    let alloc = rt.alloc();
     has_ends::<u7>(&rt, alloc, "0 127 0 127")?;
     has_ends::<i7>(&rt, alloc, "-64 63 -64 63")?;
+    Ok(())
+}
+
+#[test]
+fn decimals_of_14_bits(rt: HostRuntime) -> Result<(), Fail> {
+    let alloc = rt.alloc();
     has_ends::<u14>(&rt, alloc, "0 16383 0 16383")?;
     has_ends::<i14>(&rt, alloc, "-8192 8191 -8192 8191")?;
+    Ok(())
+}
+
+#[test]
+fn decimals_of_18_bits(rt: HostRuntime) -> Result<(), Fail> {
+    let alloc = rt.alloc();
     has_ends::<u18>(&rt, alloc, "0 262143 0 262143")?;
     has_ends::<i18>(&rt, alloc, "-131072 131071 -131072 131071")?;
+    Ok(())
+}
+
+#[test]
+fn decimals_of_53_bits(rt: HostRuntime) -> Result<(), Fail> {
+    let alloc = rt.alloc();
     has_ends::<u53>(&rt, alloc, "0 9007199254740991 0 9007199254740991")?;
     has_ends::<i53>(
         &rt,
         alloc,
         "-4503599627370496 4503599627370495 -4503599627370496 4503599627370495",
     )?;
+    Ok(())
+}
+
+#[test]
+fn decimals_of_127_bits(rt: HostRuntime) -> Result<(), Fail> {
+    let alloc = rt.alloc();
     has_ends::<u127>(
         &rt,
         alloc,
@@ -77,6 +131,12 @@ fn decimals_at_narrower_widths(rt: HostRuntime) -> Result<(), Fail> {
         alloc,
         "-85070591730234615865843651857942052864 85070591730234615865843651857942052863 -85070591730234615865843651857942052864 85070591730234615865843651857942052863",
     )?;
+    Ok(())
+}
+
+#[test]
+fn decimals_in_a_wider_storage(rt: HostRuntime) -> Result<(), Fail> {
+    let alloc = rt.alloc();
     has_ends::<UInt<u128, 5>>(&rt, alloc, "0 31 0 31")?;
     has_ends::<Int<i32, 4>>(&rt, alloc, "-8 7 -8 7")?;
     Ok(())

@@ -1,5 +1,5 @@
 //! The test of one width. Each storage has one function with the width as its parameter, so the check looks up
-//! the traits of a type once for each storage. This saves most of the proof.
+//! the traits of a type once for each storage. This saves most of its time.
 
 use arbitrary_base::storage::{BuiltinInteger, SignedStorage, UnsignedOf, UnsignedStorage};
 use arbitrary_base::truncation::to_u128_bits;
@@ -9,7 +9,7 @@ use arbitrary_widths::HasWidth;
 use num_traits::{Bounded, SaturatingAdd, SaturatingSub};
 use std::process::Abort;
 
-/// The 128 bits of a value. `Integer` has them too, and takes four times the proof.
+/// The 128 bits of a value. `Integer` has them too, but its check takes four times as long.
 trait Bits: Copy {
     fn bits(self) -> u128;
 }
