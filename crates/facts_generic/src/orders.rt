@@ -4,19 +4,19 @@ ghost use Rattle.std.specs.Prelude.{◌≤ℤ◌, IsTrue};
 
 use arbitrary_int::prelude::*;
 
-pub fn le_total<V: FixedWidth>(x: V, y: V) -> bool
+pub fn le_total<V: Integer>(x: V, y: V) -> bool
     ensures { IsTrue result }
 {
     x <= y || y <= x
 }
 
-pub fn lt_transitive<V: FixedWidth>(x: V, y: V, z: V) -> bool
+pub fn lt_transitive<V: Integer>(x: V, y: V, z: V) -> bool
     ensures { IsTrue result }
 {
     !(x < y && y <= z) || x < z
 }
 
-pub fn min_associates<V: FixedWidth>(x: V, y: V, z: V) -> bool
+pub fn min_associates<V: Integer>(x: V, y: V, z: V) -> bool
     ensures { IsTrue result }
 {
     x.min(y).min(z) == x.min(y.min(z))
@@ -38,7 +38,7 @@ pub fn clamped_twice<V: Integer>(x: V, low: V, high: V) -> bool
     y == z
 }
 
-pub fn held_by_clamp<V: FixedWidth>(x: V, low: V, high: V) -> V
+pub fn held_by_clamp<V: Integer>(x: V, low: V, high: V) -> V
     requires { V.number low ≤ℤ V.number high }
     ensures low { V.number low ≤ℤ V.number result }
     ensures high { V.number result ≤ℤ V.number high }
@@ -46,7 +46,7 @@ pub fn held_by_clamp<V: FixedWidth>(x: V, low: V, high: V) -> V
     x.clamp(low, high)
 }
 
-pub fn held_early<V: FixedWidth>(x: V, low: V, high: V) -> V
+pub fn held_early<V: Integer>(x: V, low: V, high: V) -> V
     requires { V.number low ≤ℤ V.number high }
     ensures low { V.number low ≤ℤ V.number result }
     ensures high { V.number result ≤ℤ V.number high }
