@@ -1,9 +1,9 @@
-//! The types' own calls without an import of a trait, and one call of `imports` for each bound. The proof of a generic
-//! call loads all that its bound requires, so the other calls are only in `imports`.
+//! The types' own calls without an import of a trait, and one call of `pages::imports` for each bound. The proof of a
+//! generic call loads all that its bound requires, so the other calls are only there.
 
 use crate::same::same;
 use arbitrary_int::{TryNewError, UInt, i4, i5, i7, u4, u5, u7};
-use imports::{by_fixed_width, by_integer, by_storage, by_type};
+use pages::imports::{by_fixed_width, by_integer, by_storage, by_type};
 
 #[test]
 fn widths(rt: HostRuntime) {

@@ -1,5 +1,5 @@
-//! The examples of the pages, and tests of the crates `pages`, `imports` and `bit_fields`. These have no tests of their
-//! own, because the gate proves a crate with tests twice.
+//! The examples of the pages, and tests of the crates `pages` and `bit_fields`. These have no tests of their own, because the
+//! gate proves a crate with tests twice.
 #![tactic(auto)]
 
 #[cfg(test)]

@@ -1,5 +1,4 @@
 //! The import that each form of a call needs. Each module imports one trait, or none. `vectors_examples` has the tests.
-#![tactic(auto)]
 
 pub mod by_fixed_width;
 pub mod by_integer;
