@@ -12,8 +12,7 @@ ROOT = Path(__file__).resolve().parent.parent
 PAGE = ROOT / 'docs/API.md'
 CALLS = ROOT / 'docs/CALLS.md'
 BASE = 'arbitrary_base'
-LIBRARIES = ['arbitrary_int', 'bit_fields', 'arbitrary_calls', 'arbitrary_version_1', 'arbitrary_constants', 'arbitrary_core', 'arbitrary_widths', 'arbitrary_traits',
-             BASE]
+LIBRARIES = ['arbitrary_int', 'bit_fields', 'arbitrary_calls', 'arbitrary_version_1', 'arbitrary_core', 'arbitrary_widths', 'arbitrary_traits', BASE]
 HEAD = '''# The public items of the libraries
 
 This page lists the public items of the libraries by file: the item, the first sentence of its comment, and the names of its clauses. A clause

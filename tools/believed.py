@@ -14,7 +14,7 @@ import sys
 from pathlib import Path
 
 ROOT = Path(__file__).resolve().parent.parent
-LIBRARIES = ['arbitrary_base', 'arbitrary_traits', 'arbitrary_widths', 'arbitrary_core', 'arbitrary_constants', 'arbitrary_version_1', 'arbitrary_calls', 'arbitrary_int']
+LIBRARIES = ['arbitrary_base', 'arbitrary_traits', 'arbitrary_widths', 'arbitrary_core', 'arbitrary_version_1', 'arbitrary_calls', 'arbitrary_int']
 FIELDS = 'bit_fields'
 # Of the modules of the program and of its library, those whose contracts speak of what it does as a whole.
 PROGRAM = [ROOT / 'crates' / name for name in ['bitrun_service/src/serving.rt', 'bitrun_text/src/fault.rt']]

@@ -207,14 +207,13 @@ def layers():
     full, high, gap, third, crates = 700, 48, 6, 228, listed()
     # Three columns of the upper rows, the lower rows, and what each crate has.
     program = ['bitrun', 'bitrun_service', 'bitrun_text']
-    lower = [['arbitrary_int'], ['arbitrary_calls', 'arbitrary_constants', 'arbitrary_version_1'], ['arbitrary_core'],
-             ['arbitrary_traits', 'arbitrary_widths'], ['arbitrary_base']]
+    lower = [['arbitrary_int'], ['arbitrary_calls', 'arbitrary_version_1'], ['arbitrary_core'], ['arbitrary_traits', 'arbitrary_widths'],
+             ['arbitrary_base']]
     texts = {
         'bitrun': 'the program', 'bitrun_service': 'runs steps, writes the output', 'bitrun_text': 'parses the text',
         'arbitrary_laws': 'laws for your proofs', 'bit_fields': 'fields in a record',
-        'arbitrary_int': 'the crate to import; adds run, run_wide, bytes, streams, sums and ranges',
-        'arbitrary_calls': 'wrapping and checked calls, shifts, counts', 'arbitrary_constants': 'MIN, MAX, ZERO, MASK',
-        'arbitrary_version_1': 'the deprecated Number',
+        'arbitrary_int': 'the crate to import; adds run, run_wide, constants, bytes, streams and ranges',
+        'arbitrary_calls': 'wrapping, saturating and checked calls, shifts, counts', 'arbitrary_version_1': 'the deprecated Number',
         'arbitrary_core': 'UInt and Int, their operators, conversions, hash and text',
         'arbitrary_traits': 'Integer, and its impls for primitives', 'arbitrary_widths': 'which widths are valid',
         'arbitrary_base': 'definitions, and arithmetic at a width in every primitive',
@@ -244,7 +243,7 @@ def layers():
         crate(x, rows[name], full - third - gap, name, texts[name], BLUE)
     for row in lower:
         x = 10
-        for name, share in zip(row, {1: [1], 2: [0.68, 0.32], 3: [0.48, 0.26, 0.26]}[len(row)]):
+        for name, share in zip(row, {1: [1], 2: [0.68, 0.32]}[len(row)]):
             width = (full - gap * (len(row) - 1)) * share
             crate(x, rows[name], width, name, texts[name], BLUE)
             x += width + gap

@@ -21,7 +21,7 @@ SHARED = {
     'arbitrary_int': ['GenericLaws'],
     'bit_fields': ['BitField'],
 }
-LIBRARIES = ['arbitrary_base', 'arbitrary_traits', 'arbitrary_widths', 'arbitrary_core', 'arbitrary_constants', 'arbitrary_version_1', 'arbitrary_calls', 'arbitrary_int', 'bit_fields']
+LIBRARIES = ['arbitrary_base', 'arbitrary_traits', 'arbitrary_widths', 'arbitrary_core', 'arbitrary_version_1', 'arbitrary_calls', 'arbitrary_int', 'bit_fields']
 CLAUSE = re.compile(r'\s*(requires|ensures)\b')
 MEMBER = re.compile(r'\s*(requires|ensures|ghost (?!use))\b')
 

@@ -25,7 +25,7 @@ SIGNS = [
 ]
 PAIRS = [f'arbitrary_core/src/{module}' for module in [
     'bitwise/', 'bounds/', 'comparisons/', 'conversions/', 'conversions/narrower_', 'formats/', 'hashing/', 'integer/',
-    'numeric/', 'operators/', 'radix/', 'shifting/', 'totals/', '']] + ['arbitrary_constants/src/', 'arbitrary_calls/src/fixed_width/']
+    'numeric/', 'operators/', 'radix/', 'shifting/', 'totals/', '']] + ['arbitrary_int/src/constants/', 'arbitrary_calls/src/fixed_width/']
 WIDTHS = [8, 16, 32, 64, 128]
 FAMILIES = ['arbitrary_base/src/storage/bits{}.rt', 'arbitrary_traits/src/primitives/bits{}.rt']
 

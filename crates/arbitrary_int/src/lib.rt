@@ -5,6 +5,7 @@
 pub mod borsh;
 pub mod byte_laws;
 pub mod byte_orders;
+pub mod constants;
 pub mod laws;
 pub mod prelude;
 pub mod ranges;

@@ -40,8 +40,8 @@ pub use arbitrary_core::aliases::unsigned::{
     u101, u102, u103, u104, u105, u106, u107, u108, u109, u110, u111, u112, u113, u114, u115, u116,
     u117, u118, u119, u120, u121, u122, u123, u124, u125, u126, u127,
 };
-pub use arbitrary_constants::Constants;
-pub use arbitrary_constants::valid::ValidWidth;
+pub use crate::constants::Constants;
+pub use crate::constants::valid::ValidWidth;
 pub use arbitrary_core::signed::Int;
 pub use arbitrary_core::unsigned::UInt;
 pub use arbitrary_traits::counterparts::{SignedCounterpart, UnsignedCounterpart};

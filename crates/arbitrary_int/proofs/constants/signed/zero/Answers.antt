@@ -1,6 +1,6 @@
 use Rattle.std.proofs.Common.{rules, ◌∙◌}
 use Rattle.arbitrary_core.proofs.EndBits.{zero-fits, zero-number}
-use Rattle.arbitrary_constants.proofs.signed.zero.Goals as goal
+use Rattle.arbitrary_int.proofs.constants.signed.zero.Goals as goal
 
 pub from_bits-requires : goal.from_bits-requires
 from_bits-requires g c =

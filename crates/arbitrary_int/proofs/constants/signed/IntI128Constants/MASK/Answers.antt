@@ -1,6 +1,6 @@
 use Rattle.std.proofs.Common.{rules}
 use Rattle.arbitrary_core.proofs.EndBits.{below_sign}
-use Rattle.arbitrary_constants.proofs.signed.IntI128Constants.MASK.Goals as goal
+use Rattle.arbitrary_int.proofs.constants.signed.IntI128Constants.MASK.Goals as goal
 
 pub overflow_cast-result : goal.overflow_cast-result
 overflow_cast-result g c = search (rules, below_sign g.row.BITS c.low_mask.result (search rules) c.if-this-eq128.false c.low_mask.ensures.value)

@@ -5,7 +5,7 @@ ghost use Rattle.std.proofs.Common.{true≢false};
 ghost use Rattle.std.specs.Int.{IsInRange};
 ghost use Rattle.arbitrary_base.specs.Range.{lo, hi};
 
-use crate::Constants;
+use crate::constants::Constants;
 use arbitrary_base::storage::{BuiltinInteger, SignedStorage, UnsignedOf};
 use arbitrary_base::truncation::low_mask;
 use arbitrary_core::signed::Int;

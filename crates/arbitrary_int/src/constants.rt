@@ -1,10 +1,9 @@
 //! The constants of an integer type under their names in the Rust crate: `u7::MAX` is what `u7::max_value()` returns.
-#![tactic(auto)]
 
 ghost use Rattle.std.specs.Prelude.{◌≡◌, ◌-ℤ◌, ◌^◌, false, pos};
 ghost use Rattle.arbitrary_base.specs.Range.{lo, hi};
 
-use crate::valid::ValidWidth;
+use crate::constants::valid::ValidWidth;
 
 pub mod primitives;
 pub mod signed;

@@ -1,6 +1,6 @@
 use Rattle.std.proofs.Common.{rules, ◌∙◌}
 use Rattle.arbitrary_core.proofs.EndBits.{least-fits, least-number}
-use Rattle.arbitrary_constants.proofs.signed.least.Goals as goal
+use Rattle.arbitrary_int.proofs.constants.signed.least.Goals as goal
 
 pub from_bits-requires : goal.from_bits-requires
 from_bits-requires g c =

@@ -1,6 +1,6 @@
 use Rattle.std.proofs.Common.{rules, ◌∙◌}
 use Rattle.arbitrary_core.proofs.EndBits.{greatest-fits, greatest-number}
-use Rattle.arbitrary_constants.proofs.signed.greatest.Goals as goal
+use Rattle.arbitrary_int.proofs.constants.signed.greatest.Goals as goal
 
 pub from_bits-requires : goal.from_bits-requires
 from_bits-requires g c =

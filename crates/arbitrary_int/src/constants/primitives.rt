@@ -4,7 +4,7 @@ ghost use Rattle.std.specs.Prelude.{neg_ℤ, pos, true, refl};
 ghost use Rattle.std.proofs.Common.{true≢false};
 ghost use Rattle.arbitrary_base.specs.Range.{lo, hi};
 
-use crate::Constants;
+use crate::constants::Constants;
 
 impl Constants for u8 {
     ghost ZERO = { 0 };

@@ -6,7 +6,7 @@ ghost use Rattle.std.proofs.lemmas.Nat.{pow_pos};
 ghost use Rattle.arbitrary_base.specs.Range.{lo, hi};
 ghost use Rattle.arbitrary_base.proofs.modular.Truncation.{low_mask-number};
 
-use crate::Constants;
+use crate::constants::Constants;
 use arbitrary_base::truncation::low_mask;
 use arbitrary_core::unsigned::UInt;
 use arbitrary_widths::HasWidth;
