@@ -1,6 +1,6 @@
 //! Which widths fit a storage, as traits. With `HasWidth`, a function without arguments, such as std's `default`,
 //! can make a value at every valid width. `to_64` and `to_128` have its impls, and `fits_to_64` and `fits_to_128`
-//! those of `FitsIn`.
+//! those of `FitsIn`. In a larger crate, these impls would take longer to check than they do here.
 #![tactic(auto)]
 
 ghost use Rattle.std.specs.Prelude.{◌≤◌};
