@@ -21,7 +21,7 @@ LONG = b'run u7\n1\n' + 65528 * b'\n'
 
 
 def late(good):
-    """6,000 steps, of which the first bad one comes after so many good ones."""
+    """6,000 steps, with the first bad one after `good` good ones."""
     return b'run u7\n1 2\n' + good * b'not 0 1\n' + b'not 0 2\n' + (5999 - good) * b'not 0 1\n'
 
 

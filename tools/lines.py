@@ -105,7 +105,7 @@ def instructions(program, data):
 
 
 def each(program, make, count):
-    """What each costs of so many, the second half of them."""
+    """The instructions for each of the items in the second half of an input."""
     return (instructions(program, make(count)) - instructions(program, make(count // 2))) / (count - count // 2)
 
 

@@ -33,16 +33,16 @@ from wrong_bodies import KIT, PARTS, below, command, libraries
 LAWS = 'arbitrary_laws'
 PAGE = ROOT / 'docs/PROVING.md'
 STARTED = time.monotonic()
-# As many steps as the check gives the laws of an attribute, and the eighth of them that is enough for most proofs.
+# The steps that the check gives the laws of an attribute, and an eighth of them, which is enough for most proofs.
 STEPS = 2000000
 FEW = 250000
-# What each round tries at a goal: with so many steps the sets up to this rank, one at a time, and so many of the best laws.
+# The attempts of each round at a goal: the steps of an attempt, the number of sets to try one at a time, and the numbers of best laws to try.
 ROUNDS = [[(FEW, 40, (8, 24))], [(STEPS, 12, (8,)), (FEW, 1000, (16, 48))], [(STEPS, 1000, (24, 80))]]
-# The other goals of a function are tried with so many of the lists that close its first. So many of the best sets, and all public ones, are tried as
-# the attribute of a function that stays open, and in generic code the best first of all. A function gets so many steps at most.
+# The number of lists that close a function's first goal, which are then tried at its other goals. It is also the number of best sets that, with all
+# public ones, are tried as the attribute of an open function; in generic code, they come first. The next number limits the steps of a function.
 LISTS = 4
 MOST = 600000000
-# After a round, so many choices of laws for a function are checked as attributes.
+# The number of choices of laws for a function that are checked as attributes after a round.
 CHOICES = 4
 # A check takes this much memory, in GB, and this many seconds at least.
 MEMORY = 2.5
@@ -226,7 +226,7 @@ class Copies:
 
 
 def shares(listed, count, kind=list):
-    """So many parts of a list, one for each copy."""
+    """Splits a list into `count` parts, one for each copy."""
     return [kind(listed[number::count]) for number in range(count)]
 
 
@@ -334,7 +334,7 @@ class Search:
             say(f'{it.name}: {count} of {len(it.goals)} goals open')
 
     def try_all(self, wanted, what):
-        """Tries these lists of laws, by function and goal, with so many steps each, as far as they were not. Returns the functions of which it tried
+        """Tries these lists of laws, by function and goal, each with its steps, except those already tried. Returns the functions of which it tried
         any."""
         attempts = {}
         for (function, goal), choices in wanted.items():

@@ -17,7 +17,7 @@ WIDTHS = [bits for bits in range(1, 128) if bits not in STORAGES]
 
 
 def storage(bits):
-    """How many bits the smallest primitive with room for so many has."""
+    """The width of the smallest primitive that has room for `bits` bits."""
     return next(width for width in STORAGES if bits <= width)
 
 
@@ -78,7 +78,7 @@ def room(first, last):
 
 
 def widest(bits):
-    """How many bits the widest primitive has whose numbers all fit in so many."""
+    """The width of the widest primitive whose numbers all fit in `bits` bits."""
     return max(width for width in STORAGES if width <= bits)
 
 
