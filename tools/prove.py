@@ -10,7 +10,6 @@ contract and no body, and without `--write` nothing.
 """
 import argparse
 import math
-import os
 import re
 import shutil
 import signal
@@ -27,7 +26,7 @@ if not shutil.which('rt'):
 from attributes import changed, changes, without_laws, write
 from program import ROOT
 from relevance import Index, is_group, path, words
-from wrong_bodies import KIT, PARTS, below, command, libraries
+from wrong_bodies import KIT, PARTS, at_a_time, below, command, libraries
 
 # The crate that has the laws for callers. The libraries below it have more laws.
 LAWS = 'arbitrary_laws'
@@ -44,8 +43,7 @@ LISTS = 4
 MOST = 600000000
 # The number of choices of laws for a function that are checked as attributes after a round.
 CHOICES = 4
-# A check takes this much memory, in GB, and this many seconds at least.
-MEMORY = 2.5
+# A check takes this many seconds at least.
 START = 15
 CHECKED = re.compile(r'^checked \w+::(\S+), \d+ of \d+')
 ENDED = re.compile(r'^(?:logic=|holes=|only=)', re.M)
@@ -128,8 +126,7 @@ class Copies:
 
     def __init__(self, crate, room, uses, jobs):
         self.crate, self.uses, self.running, self.is_ended = crate, uses, [], False
-        free = int(re.search(r'MemAvailable: *(\d+)', Path('/proc/meminfo').read_text())[1]) / 2**20
-        self.count = max(1, min(jobs or len(os.sched_getaffinity(0)), int(free / MEMORY)))
+        self.count = at_a_time(jobs)
         self.rooms = [room / str(number) for number in range(self.count)]
         self.folder = ROOT / 'crates' / crate
         for it in self.rooms:

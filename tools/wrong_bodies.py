@@ -2,7 +2,8 @@
 """wrong_bodies.py [--some N] [CRATE | CRATE/EDIT ..]
 
 Fails unless the prover refuses the wrong bodies in `wrong-bodies` of these crates, or these of a crate, or all. With `--some` it tries all that
-are named as CRATE/EDIT, and N of the others, which the commit selects. It uses the crates below as `rt check` or `rt ci` last proved them.
+are named as CRATE/EDIT, those of a CRATE/, and N of the others in the named crates or in all, which the commit selects. It uses the crates below
+as `rt check` or `rt ci` last proved them.
 
 Each file there is an edit. It names the function that it makes wrong, a file, and pairs of lines: a text that is once in the file, and the
 text in its place. Before any check, the script fails if an edit does not find its text, so `--some 0` tests only that. An edit:
@@ -16,14 +17,17 @@ A line `says: TEXT` requires that the prover prints this text, which a page quot
 
 One check tries many wrong bodies of a crate, each of another function in another place. It proves a function from the contracts of the functions
 that it calls, not from their bodies. If a called function is wrong too, the prover reports only that, and the caller waits for the next check.
+Crates are tried side by side.
 """
 import argparse
 import hashlib
+import os
 import re
 import shutil
 import subprocess
 import sys
 import tempfile
+from concurrent.futures import ThreadPoolExecutor
 from pathlib import Path
 
 from program import ROOT
@@ -31,6 +35,8 @@ from program import ROOT
 KIT = Path(subprocess.check_output(['rt', 'doc'], text=True)).parent
 # The folders of a crate that a check reads.
 PARTS = ['src', 'specs', 'proofs']
+# A check takes this much memory, in GB.
+MEMORY = 2.5
 # How many edits of a crate a sample has before it takes another crate, whose first check costs a minute.
 FEW = 4
 # The prover's words for a function that it refuses, and for one that hangs on another: on what it calls, or on what now calls it.
@@ -73,6 +79,12 @@ class WrongBody:
         """Whether one check can take both: they are of two functions, and neither changes anything amid the other's changes."""
         apart = self.file != other.file or self.end <= other.start or other.end <= self.start
         return self.function != other.function and apart
+
+
+def at_a_time(most=None):
+    """How many checks run at a time: `most`, or one for each processor, but only as many as there is memory for."""
+    free = int(re.search(r'MemAvailable: *(\d+)', Path('/proc/meminfo').read_text())[1]) / 2**20
+    return max(1, min(most or len(os.sched_getaffinity(0)), int(free / MEMORY)))
 
 
 def tried(crate, bodies, uses):
@@ -176,15 +188,17 @@ def main():
     asked.add_argument('named', metavar='CRATE | CRATE/EDIT', nargs='*')
     asked = asked.parse_args()
     uses = libraries()
-    crates = [it for it in uses if (ROOT / 'crates' / it / 'wrong-bodies').is_dir()]
-    bodies = {it: WrongBody(it) for named in asked.named or crates for it in files(named)}
+    named = [it for name in asked.named if '/' in name for it in files(name)]
+    crates = [name for name in asked.named if '/' not in name]
+    if not crates and (asked.some is not None or not named):
+        crates = [it for it in uses if (ROOT / 'crates' / it / 'wrong-bodies').is_dir()]
+    others = [it for crate in crates for it in files(crate) if it not in named]
+    bodies = {it: WrongBody(it) for it in named + others}
     if asked.some is not None:
-        named = [it for name in asked.named if '/' in name for it in files(name)]
-        others = [it for it in bodies if it not in named]
         bodies = {it: bodies[it] for it in named + chosen(others, asked.some)}
-    bad = []
-    for crate in uses:
-        bad += tried(crate, [body for path, body in bodies.items() if path.parents[1].name == crate], uses)
+    with ThreadPoolExecutor(at_a_time()) as pool:
+        tries = [pool.submit(tried, crate, [body for path, body in bodies.items() if path.parents[1].name == crate], uses) for crate in uses]
+        bad = [it for each in tries for it in each.result()]
     print(*bad, f'{len(bodies) - len(bad)} wrong bodies refused, {len(bad)} not', sep='\n')
     return 1 if bad else 0
 
