@@ -26,7 +26,7 @@ programs=(crates/bitrun/out/bitrun crates/bitrun/out/bitrun.by-rattle)
 python3 tools/endings.py "${programs[@]}"
 python3 tools/fuzz.py "${programs[@]}"
 # wrong bodies that the check must refuse: each that a page shows, each that is named here, and as many of the others as `--some` says
-python3 tools/wrong_bodies.py --some 20 pages/ bounds/{i7_sum_out_of_range,new_of_u7_one_past_the_greatest,u53_shifted_by_its_width_as_u128} \
+python3 tools/wrong_bodies.py --some 12 pages/ bounds/{i7_sum_out_of_range,new_of_u7_one_past_the_greatest,u53_shifted_by_its_width_as_u128} \
     arbitrary_base/{multiplies_as_often_as_the_exponent_says,quotient_rounds_down,shifts_left_without_the_mask,sum_drops_the_width} \
     arbitrary_int/{leaves_the_narrow_registers_alone_at_a_stop,leaves_zero_in_the_registers,masks_first_and_runs_narrow_only} \
     bit_fields/{clears_the_bits_above_the_field,every_two_fields_are_disjoint,no_two_fields_are_disjoint}
