@@ -17,7 +17,7 @@ LINES = 400
 SUBJECT = 72
 # the words of several modules, or of a crate above
 SHARED = {
-    'arbitrary_base': ['Range', 'Residue', 'Field', 'BitList', 'Operation', 'Assigned', 'Order'],
+    'arbitrary_base': ['Range', 'Residue', 'Field', 'BitList', 'Operation', 'Assigned'],
     'arbitrary_int': ['GenericLaws'],
     'bit_fields': ['BitField'],
 }

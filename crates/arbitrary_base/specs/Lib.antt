@@ -6,7 +6,6 @@ pub mod Saturating
 pub mod BitList
 pub mod Operation
 pub mod Power
-pub mod Order
 pub mod Assigned
 pub mod Watched
 pub mod ByteLists

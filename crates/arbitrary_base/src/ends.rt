@@ -6,7 +6,7 @@ ghost use Rattle.std.specs.Ordering.{int_eq};
 ghost use Rattle.arbitrary_base.specs.Range.{lo, hi, range_end, InRange};
 
 use crate::storage::Storage;
-use crate::truncation::{compare, equal, from_low_bits, reach_below_zero};
+use crate::truncation::{from_low_bits, reach_below_zero};
 use std::cmp::Ordering;
 
 /// The least number of the type of `bits` bits.
@@ -52,14 +52,14 @@ pub fn zero<T: Storage>() -> T
 pub fn is_zero<T: Storage>(x: &T) -> bool
     ensures { result ≡ int_eq (T.number x.now) (pos 0) }
 {
-    equal(x, &zero())
+    x.equal(&zero())
 }
 
 /// Whether the first number is below the second.
 pub(crate) fn is_below<T: Storage>(x: &T, y: &T) -> bool
     ensures { result ≡ int_lt (T.number x.now) (T.number y.now) }
 {
-    compare(x, y) == Ordering::Less
+    x.compare(y) == Ordering::Less
 }
 
 /// Whether the number is below zero.

@@ -10,7 +10,7 @@ ghost use Rattle.arbitrary_base.specs.Power.{PowersOfSums, PowersOfProducts};
 use crate::checked;
 use crate::ends::{end, is_below_zero};
 use crate::storage::Storage;
-use crate::truncation::{equal, is_in_range};
+use crate::truncation::is_in_range;
 
 /// The laws of powers, for callers' proofs. It does nothing.
 pub fn power_laws()
@@ -83,11 +83,11 @@ fn exact_power<T: Storage>(x: T, exp: u32, bits: usize, count: &mut u32) -> Opti
     if 1 < exp {
         // The first iteration of the loop, the only one whose square can be the base itself or 1.
         let square = multiply(x, x, bits, count)?;
-        if equal(&square, &x) {
+        if square.equal(&x) {
             // Each power of 0 and of 1 is the base.
             return Some(x);
         }
-        if equal(&square, &product) {
+        if square.equal(&product) {
             // The powers of -1 alternate between -1 and 1.
             return Some(if exp % 2 == 1 { x } else { square });
         }

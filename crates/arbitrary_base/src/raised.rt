@@ -10,7 +10,6 @@ ghost use Rattle.arbitrary_base.specs.Saturating.{clamp};
 use crate::ends::is_zero;
 use crate::small;
 use crate::storage::Storage;
-use crate::truncation::equal;
 
 /// The number, shifted up to the storage's end.
 fn raise<T: Storage>(x: T, bits: usize) -> T
@@ -65,7 +64,7 @@ fn is_exact<T: Storage>(product: T, x: T, y: T) -> bool
     requires product { T.number product ≡ wrap T.SIGNED T.WIDTH (T.number x *ℤ T.number y) }
     ensures { IsTrue result ↔ InRange T.SIGNED T.WIDTH (T.number x *ℤ T.number y) }
 {
-    is_zero(&x) || equal(&product.wrapping_div(x), &y)
+    is_zero(&x) || product.wrapping_div(x).equal(&y)
 }
 
 /// The product, wrapped, and whether the exact product is out of range.

@@ -1,14 +1,12 @@
 //! The primitive integers, as storages of numbers with fewer bits.
 
 ghost use Rattle.std.specs.Prelude.{◌≡◌, ◌≢◌, ◌↔◌, ◌≤◌, ◌<◌, ◌+ℤ◌, ◌-ℤ◌, ◌*ℤ◌, ℕ, ℤ, Bool, true, false, pos, Some, int_div, IsTrue, SomeIff, option_map};
-ghost use Rattle.std.specs.Ordering.{int_cmp};
-ghost use Rattle.std.specs.Fmt.{signed_decimal};
+ghost use Rattle.std.specs.Ordering.{int_cmp, int_eq};
 ghost use Rattle.arbitrary_base.specs.Range.{InRange};
 ghost use Rattle.arbitrary_base.specs.Residue.{residue, wrap};
 ghost use Rattle.arbitrary_base.specs.BitList.{bits, val, shl, shr, fill};
 
-use std::fmt::{Debug, Display};
-use std::hash::Hash;
+use std::cmp::Ordering;
 
 pub mod bits128;
 pub mod bits16;
@@ -25,7 +23,9 @@ impl Sealed for usize {}
 impl Sealed for isize {}
 
 /// A primitive integer, which can store a number of at most `WIDTH` bits.
-pub trait Storage: Sealed + Copy + Ord + Hash + Display + Debug + Drop {
+// It requires few traits, because the check of a function takes longer with each trait that its bounds require. So it has `equal` and
+// `compare` in place of `Ord`.
+pub trait Storage: Sealed + Copy + Drop {
     ghost WIDTH: { ℕ };
 
     ghost SIGNED: { Bool };
@@ -92,14 +92,18 @@ pub trait Storage: Sealed + Copy + Ord + Hash + Display + Debug + Drop {
         ensures { let list = bits WIDTH (number self) in
             number result ≡ val SIGNED (shr list n (fill SIGNED list)) };
 
+    /// Whether the two numbers are equal.
+    fn equal(&self, other: &Self) -> bool
+        ensures { result ≡ int_eq (number self.now) (number other.now) };
+
+    /// How the two numbers are ordered.
+    fn compare(&self, other: &Self) -> Ordering
+        ensures { result ≡ int_cmp (number self.now) (number other.now) };
+
     ghost width_law: { (1 ≤ WIDTH) × (WIDTH ≤ 128) };
 
     // So each type has the number 1.
     ghost one_law: { 2 ≤ WIDTH };
-
-    ghost order_law: { (a b : Self) → Self.cmp a b ≡ int_cmp (number a) (number b) };
-
-    ghost display_law: { (x : Self) → Self.output x ≡ Some (signed_decimal (number x)) };
 }
 
 /// An unsigned primitive integer.

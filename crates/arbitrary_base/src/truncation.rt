@@ -2,12 +2,10 @@
 //! `shifts` call std, and then a function of this module, which brings the result into the range.
 
 ghost use Rattle.std.specs.Prelude.{◌≡◌, ◌≤◌, ◌<◌, ◌+◌, ◌%◌, ◌^◌, ◌-ℤ◌, ◌↔◌, pos, neg_ℤ, IsTrue};
-ghost use Rattle.std.specs.Ordering.{int_cmp, int_eq};
 ghost use Rattle.arbitrary_base.specs.Range.{lo, InRange};
 ghost use Rattle.arbitrary_base.specs.Residue.{Congruent, residue, wrap};
 
 use crate::storage::Storage;
-use std::cmp::Ordering;
 
 /// The pattern whose low `bits` bits are one and whose other bits are zero.
 #[tactic(auto, using(crate::proofs::modular::Truncation::low_mask_laws))]
@@ -126,20 +124,6 @@ pub fn cast<S: Storage, T: Storage>(x: S, bits: usize) -> T
     from_low_bits(to_u128_bits(x), bits)
 }
 
-/// Whether the two numbers are equal.
-pub fn equal<T: Storage>(x: &T, y: &T) -> bool
-    ensures { result ≡ int_eq (T.number x.now) (T.number y.now) }
-{
-    x == y
-}
-
-/// How the two numbers are ordered.
-pub fn compare<T: Storage>(x: &T, y: &T) -> Ordering
-    ensures { result ≡ int_cmp (T.number x.now) (T.number y.now) }
-{
-    x.cmp(y)
-}
-
 /// Whether the number is in the range of `bits` bits.
 #[tactic(auto, using(crate::proofs::storages::CheckedSum::range_tests))]
 pub fn is_in_range<T: Storage>(x: T, bits: usize) -> bool
@@ -147,5 +131,5 @@ pub fn is_in_range<T: Storage>(x: T, bits: usize) -> bool
     requires storage { bits ≤ T.WIDTH }
     ensures { IsTrue result ↔ InRange T.SIGNED bits (T.number x) }
 {
-    equal(&truncated(x, bits), &x)
+    truncated(x, bits).equal(&x)
 }

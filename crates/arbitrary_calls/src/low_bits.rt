@@ -23,7 +23,7 @@ pub trait LowBits: Numbered {
         ensures high { Self.BITS ≤ 128 };
 }
 
-impl<T: BuiltinInteger + UnsignedStorage, const BITS: usize> LowBits for UInt<T, BITS> {
+impl<T: UnsignedStorage, const BITS: usize> LowBits for UInt<T, BITS> {
     fn low_bits(self) -> u128 {
         low_bits_in_range(UInt::<T, BITS>::value(self), BITS)
     }

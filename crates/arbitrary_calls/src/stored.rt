@@ -37,7 +37,7 @@ pub trait Stored: Numbered {
     ghost sign_law: { Self.Representation.SIGNED ≡ Self.IS_SIGNED };
 }
 
-impl<T: BuiltinInteger + UnsignedStorage, const BITS: usize> Stored for UInt<T, BITS> {
+impl<T: UnsignedStorage, const BITS: usize> Stored for UInt<T, BITS> {
     type Representation = T;
 
     fn to_storage(self) -> T {

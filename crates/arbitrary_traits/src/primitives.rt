@@ -2,7 +2,7 @@
 //! valid, and every value is in range.
 
 ghost use Rattle.std.specs.Prelude.{◌≡◌, ◌≢◌, ◌+ℤ◌, ◌-ℤ◌, ◌*ℤ◌, ⊤, pos, Some, int_div, map, not};
-ghost use Rattle.std.specs.Ordering.{int_eq};
+ghost use Rattle.std.specs.Ordering.{int_cmp, int_eq};
 ghost use Rattle.std.specs.Fmt.{signed_decimal};
 ghost use Rattle.arbitrary_base.specs.Range.{InRange};
 ghost use Rattle.arbitrary_base.specs.BitList.{bits, bits_and, bits_or, bits_xor, val};
@@ -14,7 +14,7 @@ use arbitrary_base::ends::{highest, lowest, zero};
 use arbitrary_base::error::TryNewError;
 use arbitrary_base::storage::{BuiltinInteger, UnsignedOf};
 use arbitrary_base::truncation::{cast, from_low_bits, to_u128_bits};
-use std::fmt::{Binary, HasDigits, LowerHex, Octal, UpperHex};
+use std::fmt::{Binary, Debug, Display, HasDigits, LowerHex, Octal, UpperHex};
 use std::ops::{
     Add, AddAssign, BitAnd, BitAndAssign, BitOr, BitOrAssign, BitXor, BitXorAssign, Div, DivAssign,
     Mul, MulAssign, Not, Sub, SubAssign,
@@ -28,6 +28,9 @@ pub mod bits8;
 
 /// A primitive integer whose operators meet the laws of `Integer` at its own width.
 pub trait Primitive: BuiltinInteger
+    + Ord
+    + Display
+    + Debug
     + LowerHex
     + UpperHex
     + Octal
@@ -53,6 +56,11 @@ pub trait Primitive: BuiltinInteger
     ghost infallible_law: { (a : Self) → Self.is_infallible a };
 
     ghost eq_law: { (a b : Self) → Self.eq a b ≡ int_eq (Self.number a) (Self.number b) };
+
+    ghost cmp_law: { (a b : Self) → Self.cmp a b ≡ int_cmp (Self.number a) (Self.number b) };
+
+    ghost output_law: { (a : Self) → let text = signed_decimal (Self.number a) in
+        Self.output a ≡ Some text };
 
     ghost debug_output_law: { (a : Self) → let text = signed_decimal (Self.number a) in
         Self.debug_output a ≡ Some text };
@@ -208,9 +216,9 @@ where
 
     ghost eq_law = { T.eq_law };
 
-    ghost cmp_law = { T.order_law };
+    ghost cmp_law = { T.cmp_law };
 
-    ghost output_law = { T.display_law };
+    ghost output_law = { T.output_law };
 
     ghost debug_output_law = { T.debug_output_law };
 

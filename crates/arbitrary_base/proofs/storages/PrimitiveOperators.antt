@@ -2,7 +2,7 @@
 -- `arbitrary_traits` cite these lemmas.
 use Rattle.std.specs.Prelude.{◌≡◌, ◌≢◌, ◌-◌, ◌^◌, ◌<◌, ◌≤◌, ◌-ℤ◌, ℕ, ℤ, zero, suc, pos, negsuc, int_div, FitsSigned, true, false, nat_eq}
 use Rattle.std.specs.Int.{Width, IsNonZero}
-use Rattle.std.specs.Ordering.{int_eq}
+use Rattle.std.specs.Ordering.{int_cmp, int_eq, nat_cmp}
 use Rattle.std.proofs.Common.{arith, refl}
 use Rattle.std.proofs.lemmas.Int.{ints}
 use Rattle.std.proofs.lemmas.Nat.{pow_pos}
@@ -13,6 +13,9 @@ use Rattle.arbitrary_base.proofs.storages.Primitive.{pow_bits}
 
 pub nat_eq-pos : (a b : ℕ) → nat_eq a b ≡ int_eq (pos a) (pos b)
 nat_eq-pos a b = grind (arith, ints)
+
+pub nat_cmp-pos : (a b : ℕ) → nat_cmp a b ≡ int_cmp (pos a) (pos b)
+nat_cmp-pos a b = grind (arith, ints)
 
 pub lt-of_in_range : (B n : ℕ) → InRange false B (pos n) → n < 2 ^ B
 lt-of_in_range B n f = let h = f.high in let p = pow_pos B in omega (arith, ints)

@@ -6,6 +6,7 @@ ghost use Rattle.arbitrary_base.specs.Residue.{wrap};
 use crate::storage::{
     BuiltinInteger, Sealed, SignedOf, SignedStorage, Storage, UnsignedOf, UnsignedStorage,
 };
+use std::cmp::Ordering;
 
 impl Sealed for u128 {}
 
@@ -31,7 +32,6 @@ impl BuiltinInteger for u128 {
 impl Storage for u128 {
     ghost use Rattle.std.specs.Prelude.{false, pos, unsigned_abs, refl};
     ghost use Rattle.std.proofs.Common.{lit≤};
-    ghost use Rattle.arbitrary_base.specs.Order.{nat_cmp-pos};
 
     ghost WIDTH = { 128 };
 
@@ -89,13 +89,17 @@ impl Storage for u128 {
         self.overflowing_mul(other)
     }
 
+    fn equal(&self, other: &Self) -> bool {
+        *self == *other
+    }
+
+    fn compare(&self, other: &Self) -> Ordering {
+        self.cmp(other)
+    }
+
     ghost width_law = { (lit≤ tt, lit≤ tt) };
 
     ghost one_law = { lit≤ tt };
-
-    ghost order_law = { nat_cmp-pos };
-
-    ghost display_law = { λ x. refl };
 }
 
 /// The number with this magnitude, negative if the flag is set, wrapped.
@@ -195,11 +199,15 @@ impl Storage for i128 {
         (with_sign(size, (self < 0) != (other < 0)), overflow)
     }
 
+    fn equal(&self, other: &Self) -> bool {
+        *self == *other
+    }
+
+    fn compare(&self, other: &Self) -> Ordering {
+        self.cmp(other)
+    }
+
     ghost width_law = { (lit≤ tt, lit≤ tt) };
 
     ghost one_law = { lit≤ tt };
-
-    ghost order_law = { λ a b. refl };
-
-    ghost display_law = { λ x. refl };
 }

@@ -5,6 +5,7 @@ ghost use Rattle.std.specs.Prelude.{refl};
 use crate::storage::{
     BuiltinInteger, Sealed, SignedOf, SignedStorage, Storage, UnsignedOf, UnsignedStorage,
 };
+use std::cmp::Ordering;
 
 impl Sealed for u16 {}
 
@@ -30,7 +31,6 @@ impl BuiltinInteger for u16 {
 impl Storage for u16 {
     ghost use Rattle.std.specs.Prelude.{false, pos, unsigned_abs, refl};
     ghost use Rattle.std.proofs.Common.{lit≤};
-    ghost use Rattle.arbitrary_base.specs.Order.{nat_cmp-pos};
 
     ghost WIDTH = { 16 };
 
@@ -88,13 +88,17 @@ impl Storage for u16 {
         self.overflowing_mul(other)
     }
 
+    fn equal(&self, other: &Self) -> bool {
+        *self == *other
+    }
+
+    fn compare(&self, other: &Self) -> Ordering {
+        self.cmp(other)
+    }
+
     ghost width_law = { (lit≤ tt, lit≤ tt) };
 
     ghost one_law = { lit≤ tt };
-
-    ghost order_law = { nat_cmp-pos };
-
-    ghost display_law = { λ x. refl };
 }
 
 impl Sealed for i16 {}
@@ -178,11 +182,15 @@ impl Storage for i16 {
         self.overflowing_mul(other)
     }
 
+    fn equal(&self, other: &Self) -> bool {
+        *self == *other
+    }
+
+    fn compare(&self, other: &Self) -> Ordering {
+        self.cmp(other)
+    }
+
     ghost width_law = { (lit≤ tt, lit≤ tt) };
 
     ghost one_law = { lit≤ tt };
-
-    ghost order_law = { λ a b. refl };
-
-    ghost display_law = { λ x. refl };
 }

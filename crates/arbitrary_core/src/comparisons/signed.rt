@@ -11,7 +11,6 @@ ghost use Rattle.std.proofs.Common.{rules};
 use crate::signed::Int;
 use arbitrary_base::ends::lowest;
 use arbitrary_base::storage::{BuiltinInteger, SignedStorage, Storage, UnsignedOf};
-use arbitrary_base::truncation::{compare, equal};
 use std::cmp::Ordering;
 
 /// The place of the number in the order: its bits minus those of the least number, in the unsigned
@@ -41,7 +40,7 @@ where
     ghost laws = { Prim.search (comparing, rules) };
 
     fn eq(&self, other: &Self) -> bool {
-        equal(&self.to_bits(), &other.to_bits())
+        self.to_bits().equal(&other.to_bits())
     }
 }
 
@@ -79,7 +78,7 @@ where
     ghost matches_eq = { Prim.search (comparing, rules) };
 
     fn cmp(&self, other: &Self) -> Ordering {
-        compare(&place(*self), &place(*other))
+        place(*self).compare(&place(*other))
     }
 }
 

@@ -7,7 +7,6 @@ ghost use Rattle.std.proofs.Common.{rules};
 
 use crate::unsigned::UInt;
 use arbitrary_base::storage::UnsignedStorage;
-use arbitrary_base::truncation::{compare, equal};
 use std::cmp::Ordering;
 
 impl<T: UnsignedStorage, const BITS: usize> PartialEq for UInt<T, BITS> {
@@ -16,7 +15,7 @@ impl<T: UnsignedStorage, const BITS: usize> PartialEq for UInt<T, BITS> {
     ghost laws = { Prim.search (comparing, rules) };
 
     fn eq(&self, other: &Self) -> bool {
-        equal(&self.value(), &other.value())
+        self.value().equal(&other.value())
     }
 }
 
@@ -45,6 +44,6 @@ impl<T: UnsignedStorage, const BITS: usize> Ord for UInt<T, BITS> {
     ghost matches_eq = { Prim.search (comparing, rules) };
 
     fn cmp(&self, other: &Self) -> Ordering {
-        compare(&self.value(), &other.value())
+        self.value().compare(&other.value())
     }
 }

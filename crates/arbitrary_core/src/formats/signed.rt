@@ -5,6 +5,7 @@ ghost use Rattle.std.specs.Fmt.{signed_decimal};
 
 use crate::signed::Int;
 use arbitrary_base::storage::{BuiltinInteger, SignedStorage, UnsignedOf};
+use arbitrary_traits::numbered::Numbered;
 use std::fmt;
 
 impl<T: BuiltinInteger + SignedStorage, const BITS: usize> fmt::Display for Int<T, BITS>
@@ -14,7 +15,7 @@ where
     ghost output = { λ x. Some (signed_decimal x) };
 
     fn fmt<W: fmt::Write>(&self, f: &mut fmt::Formatter<W>) -> fmt::Result {
-        fmt::Display::fmt(&self.value(), f)
+        fmt::Display::fmt(&self.as_i128(), f)
     }
 }
 

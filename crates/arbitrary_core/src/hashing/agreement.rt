@@ -11,7 +11,7 @@ use std::hash::Hash;
 /// Two values of `UInt` are equal exactly if their numbers are, and exactly if neither comes before
 /// the other. Equal values feed a hasher the same input: that of the number in the storage.
 #[tactic(auto, using(crate::proofs::Agreement::agreements))]
-pub fn unsigned_agreement_law<T: UnsignedStorage, const BITS: usize>()
+pub fn unsigned_agreement_law<T: UnsignedStorage + Hash, const BITS: usize>()
     ensures equality { (x y : ℤ) → IsTrue (⟦<UInt<T, BITS> as PartialEq>⟧.eq x y) ↔ (x ≡ y) }
     ensures order { (x y : ℤ) → let compared = ⟦<UInt<T, BITS> as Ord>⟧.cmp x y in
         (compared ≡ Equal) ↔ IsTrue (⟦<UInt<T, BITS> as PartialEq>⟧.eq x y) }
@@ -22,7 +22,7 @@ pub fn unsigned_agreement_law<T: UnsignedStorage, const BITS: usize>()
 
 /// The same law for `Int`.
 #[tactic(auto, using(crate::proofs::Agreement::agreements))]
-pub fn signed_agreement_law<T: BuiltinInteger + SignedStorage, const BITS: usize>()
+pub fn signed_agreement_law<T: BuiltinInteger + SignedStorage + Hash, const BITS: usize>()
 where
     T::Unsigned: UnsignedOf<T>,
     ensures equality { (x y : ℤ) → IsTrue (⟦<Int<T, BITS> as PartialEq>⟧.eq x y) ↔ (x ≡ y) }

@@ -21,7 +21,7 @@ use arbitrary_traits::numbered::Numbered;
 
 impl<T: UnsignedStorage, const BITS: usize> Sealed for UInt<T, BITS> {}
 
-impl<T: BuiltinInteger + UnsignedStorage, const BITS: usize> Numbered for UInt<T, BITS> {
+impl<T: UnsignedStorage, const BITS: usize> Numbered for UInt<T, BITS> {
     const BITS: usize = BITS;
 
     const IS_SIGNED: bool = T::SIGNED;

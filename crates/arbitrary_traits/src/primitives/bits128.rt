@@ -6,7 +6,7 @@ ghost use Rattle.std.specs.Int.{w128};
 ghost use Rattle.std.proofs.Common.{ap, lit≤};
 ghost use Rattle.std.proofs.lemmas.Nat.{pow_below};
 ghost use Rattle.arbitrary_base.proofs.operations.Assigned.{all_assigned};
-ghost use Rattle.arbitrary_base.proofs.storages.PrimitiveOperators.{lt-of_in_range, nat_eq-pos, nonzero-pos, signed-divides, signed-fits, sub-in_range, sub-pos};
+ghost use Rattle.arbitrary_base.proofs.storages.PrimitiveOperators.{lt-of_in_range, nat_cmp-pos, nat_eq-pos, nonzero-pos, signed-divides, signed-fits, sub-in_range, sub-pos};
 ghost use Rattle.arbitrary_base.proofs.storages.PrimitiveBits.{bitand-signed, bitand-unsigned, bitor-signed, bitor-unsigned, bitxor-signed, bitxor-unsigned, not-signed, not-unsigned};
 
 use crate::integer::{SignedInteger, UnsignedInteger};
@@ -18,6 +18,10 @@ impl Primitive for u128 {
     ghost infallible_law = { λ _. tt };
 
     ghost eq_law = { nat_eq-pos };
+
+    ghost cmp_law = { nat_cmp-pos };
+
+    ghost output_law = { λ a. refl };
 
     ghost debug_output_law = { λ a. refl };
 
@@ -68,6 +72,10 @@ impl Primitive for i128 {
     ghost infallible_law = { λ _. tt };
 
     ghost eq_law = { λ a b. refl };
+
+    ghost cmp_law = { λ a b. refl };
+
+    ghost output_law = { λ a. refl };
 
     ghost debug_output_law = { λ a. refl };
 

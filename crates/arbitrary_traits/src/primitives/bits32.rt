@@ -5,7 +5,7 @@ ghost use Rattle.std.specs.Int.{w32};
 ghost use Rattle.std.proofs.Common.{ap, lit≤};
 ghost use Rattle.std.proofs.lemmas.Nat.{pow_below};
 ghost use Rattle.arbitrary_base.proofs.operations.Assigned.{all_assigned};
-ghost use Rattle.arbitrary_base.proofs.storages.PrimitiveOperators.{lt-of_in_range, nat_eq-pos, nonzero-pos, signed-divides, signed-fits, sub-in_range, sub-pos};
+ghost use Rattle.arbitrary_base.proofs.storages.PrimitiveOperators.{lt-of_in_range, nat_cmp-pos, nat_eq-pos, nonzero-pos, signed-divides, signed-fits, sub-in_range, sub-pos};
 ghost use Rattle.arbitrary_base.proofs.storages.PrimitiveBits.{bitand-signed, bitand-unsigned, bitor-signed, bitor-unsigned, bitxor-signed, bitxor-unsigned, not-signed, not-unsigned};
 
 use crate::integer::{SignedInteger, UnsignedInteger};
@@ -17,6 +17,10 @@ impl Primitive for u32 {
     ghost infallible_law = { λ _. tt };
 
     ghost eq_law = { nat_eq-pos };
+
+    ghost cmp_law = { nat_cmp-pos };
+
+    ghost output_law = { λ a. refl };
 
     ghost debug_output_law = { λ a. refl };
 
@@ -67,6 +71,10 @@ impl Primitive for i32 {
     ghost infallible_law = { λ _. tt };
 
     ghost eq_law = { λ a b. refl };
+
+    ghost cmp_law = { λ a b. refl };
+
+    ghost output_law = { λ a. refl };
 
     ghost debug_output_law = { λ a. refl };
 
