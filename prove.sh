@@ -1,7 +1,7 @@
 #!/usr/bin/env bash
 # prove.sh [CRATE]: proves the libraries of a crate from the lowest up, and then the crate; without a name, `arbitrary_int`.
 # `rt check` alone would do the same more slowly: it reads all sources first where a library is still unproved, and by its own
-# estimate of memory it often takes fewer jobs. What is proved stays proved: an interrupted run goes on where it stopped.
+# estimate of memory it often takes fewer jobs. A library that is proved stays proved: an interrupted run goes on with the next one.
 set -euo pipefail
 unset CDPATH
 cd -- "$(dirname -- "$(readlink -f -- "${BASH_SOURCE[0]}")")"
@@ -44,13 +44,18 @@ minutes() {
     awk -v name="$1" '$1 == name { found = $2 } END { print found ? found : 1 }' tools/minutes.txt
 }
 
+# Where rattle may keep proofs, it first checks these two libraries in parts, and waits for the slowest part. That takes half as long again.
+# So their first check keeps none, because a file is in place of the folder. Only an edit of these libraries then repeats it.
+in_parts=" arbitrary_base arbitrary_core "
+
 log="$(mktemp)"
+kept=""
 end() {
     local status=$?
     trap - EXIT INT TERM
     # shellcheck disable=SC2046
     kill $(jobs -p) 2> /dev/null || true
-    rm -f "$log"
+    rm -f "$log" ${kept:+"$kept"}
     exit "$status"
 }
 trap end EXIT
@@ -68,6 +73,12 @@ echo "prove.sh: ${#crates[@]} crates, $jobs jobs, $free_memory GB of memory free
 for name in "${crates[@]}"; do
     verb=lib
     [ "$name" != "$crate" ] || verb=check
+    folder="crates/$name/out/incremental"
+    if [ "$verb" = lib ] && [[ "$in_parts" == *" $name "* ]] && [ ! -d "$folder" ]; then
+        kept="$folder"
+        mkdir -p "crates/$name/out"
+        : > "$kept"
+    fi
     (cd "crates/$name" && exec rt "$verb" --jobs "$jobs" --progress) > "$log" 2>&1 &
     check=$!
     last=$SECONDS
@@ -83,6 +94,8 @@ for name in "${crates[@]}"; do
         stop "$name is not proved: its messages are above"
     fi
     printf 'prove.sh: %4d s  %s is proved\n' "$SECONDS" "$name"
+    rm -f ${kept:+"$kept"}
+    kept=""
     left=$((left - $(minutes "$name")))
 done
 grep '^logic=' "$log"
