@@ -2,6 +2,7 @@
 
 ghost use Rattle.std.specs.Prelude.{◌≡◌, ◌↔◌, ◌+ℤ◌, ◌≤ℤ◌, ◌<ℤ◌, pos, IsTrue};
 ghost use Rattle.arbitrary_int.specs.Range.{InRange, hi};
+ghost use Rattle.arbitrary_int.specs.Residue.{Congruent};
 
 use arbitrary_int::prelude::*;
 
@@ -30,6 +31,15 @@ where
     ensures { IsTrue result ↔ (x ≡ pos 0) }
 {
     x == UInt::<T, BITS>::zero()
+}
+
+pub fn wrapped_total<T: UnsignedStorage, const BITS: usize>(
+    x: UInt<T, BITS>,
+    y: UInt<T, BITS>,
+) -> UInt<T, BITS>
+    ensures { Congruent BITS result (x +ℤ y) }
+{
+    x.wrapping_add(y)
 }
 
 pub fn one_of_two<V: FixedWidth>(a: V, b: V) -> V
