@@ -50,7 +50,6 @@ pub(crate) fn from_i64<T: Storage>(x: i64) -> T
 }
 
 /// The number, or the nearest end of the range of `bits` bits over the storage.
-#[tactic(auto, using(crate::proofs::storages::SixteenBits::clamps))]
 pub(crate) fn clamped<T: Storage>(x: i64, bits: usize) -> i64
     requires small { T.WIDTH ≤ 16 }
     requires width { 1 ≤ bits }

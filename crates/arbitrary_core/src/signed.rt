@@ -209,7 +209,6 @@ where
     }
 
     /// The negated number, wrapped.
-    #[tactic(auto, using(arbitrary_base::proofs::modular::ExactOrCongruent::wrapped))]
     pub fn wrapping_neg(self) -> Self
         ensures value { result ≡ wrap T.SIGNED BITS (neg_ℤ self) }
         ensures exact { InRange T.SIGNED BITS (neg_ℤ self) → result ≡ neg_ℤ self }
@@ -221,7 +220,6 @@ where
     }
 
     /// The negated number, or the greatest number if that is out of range.
-    #[tactic(auto, using(arbitrary_base::proofs::storages::Clamp::clamped))]
     pub fn saturating_neg(self) -> Self
         ensures value { result ≡ clamp T.SIGNED BITS (neg_ℤ self) }
         ensures exact { InRange T.SIGNED BITS (neg_ℤ self) → result ≡ neg_ℤ self }
@@ -241,7 +239,6 @@ where
     }
 
     /// The negated number, wrapped, and whether the exact number is out of range.
-    #[tactic(auto, using(arbitrary_base::proofs::modular::ExactOrCongruent::wrapped))]
     pub fn overflowing_neg(self) -> (Self, bool)
         ensures operation { result.0 ≡ wrapped_difference T.SIGNED BITS (pos 0) self }
         ensures value { result.0 ≡ wrap T.SIGNED BITS (neg_ℤ self) }

@@ -190,7 +190,6 @@ impl<T: UnsignedStorage, const BITS: usize> UInt<T, BITS> {
     }
 
     /// The negated number, wrapped.
-    #[tactic(auto, using(arbitrary_base::proofs::modular::ExactOrCongruent::wrapped))]
     pub fn wrapping_neg(self) -> Self
         ensures value { result ≡ wrap T.SIGNED BITS (neg_ℤ self) }
         ensures exact { InRange T.SIGNED BITS (neg_ℤ self) → result ≡ neg_ℤ self }

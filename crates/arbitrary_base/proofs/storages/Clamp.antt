@@ -52,8 +52,6 @@ clamped-above s B x z h f e = e ∙ clamp-above s B x h f
 pub clamped-below : (s : Bool) (B : ℕ) (x z : ℤ) → x <ℤ lo s B → z ≡ clamp s B x → z ≡ lo s B
 clamped-below s B x z f e = e ∙ clamp-below s B x f
 
-pub ruleset clamped = (clamp-fits, clamp-below, clamp-above)
-
 -- a number clamped by two tests, where l and h are the ends
 pub clamped-low : (s : Bool) (B : ℕ) (x l : ℤ) (b : Bool) → l ≡ lo s B → b ≡ int_lt x l → b ≡ true → l ≡ clamp s B x
 clamped-low s B x l b e f t = let u : x <ℤ lo s B = grind (arith, ints) in e ∙ sym (clamp-below s B x u)

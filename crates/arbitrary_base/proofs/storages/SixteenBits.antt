@@ -57,10 +57,10 @@ within_test s B x l h e f =
 pub ruleset tests = (within_test)
 
 -- clamped, by the tests that the code makes
-pub end-low : (s : Bool) (B : ℕ) (x l : ℤ) → l ≡ lo s B → x <ℤ l → l ≡ clamp s B x
-end-low s B x l e f = e ∙ sym (clamp-below s B x (omega (arith, ints)))
-
 -- the code reads the numbers x, l and h as a, b and c
+pub end-low : (s : Bool) (B : ℕ) (x l a b : ℤ) → a ≡ x → b ≡ l → l ≡ lo s B → int_lt a b ≡ true → b ≡ clamp s B x
+end-low s B x l a b k m e p = m ∙ e ∙ sym (clamp-below s B x (let t : int_lt x l ≡ true = rw (← k, ← m) p in grind (arith, ints)))
+
 pub end-high : (s : Bool) (B : ℕ) (x l h a b c : ℤ) → 1 ≤ B → a ≡ x → b ≡ l → c ≡ h → l ≡ lo s B → h ≡ hi s B → int_lt a b ≡ false → int_lt c a ≡ true → c ≡ clamp s B x
 end-high s B x l h a b c one k m n e f p q = n ∙ f ∙ sym (clamp-above s B x one (let t : int_lt h x ≡ true = rw (← k, ← n) q in grind (arith, ints)))
 
@@ -69,5 +69,3 @@ between-ends s B x l h a b c k m n e f p q =
     let t : int_lt x l ≡ false = rw (← k, ← m) p in
     let u : int_lt h x ≡ false = rw (← k, ← n) q in
     clamp-in_range s B x a (record { low = grind (arith, ints); high = grind (arith, ints) }) k
-
-pub ruleset clamps = (end-low)

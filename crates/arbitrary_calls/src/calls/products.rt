@@ -43,7 +43,6 @@ pub trait ProductCalls: Stored {
     }
 
     /// The product, or the end of the range that is nearest to it.
-    #[tactic(auto, using(arbitrary_base::proofs::storages::Clamp::clamped))]
     final fn saturating_mul(self, rhs: Self) -> Self
         ensures value { let product = Self.number self *ℤ Self.number rhs in
             Self.number result ≡ clamp Self.IS_SIGNED Self.BITS product }
@@ -79,7 +78,6 @@ pub trait ProductCalls: Stored {
     }
 
     /// The product, wrapped, and whether the exact one is out of range.
-    #[tactic(auto, using(arbitrary_base::proofs::modular::ExactOrCongruent::wrapped))]
     final fn overflowing_mul(self, rhs: Self) -> (Self, bool)
         ensures operation { let number = Self.number in
             number result.0 ≡ wrapped_product Self.IS_SIGNED Self.BITS (number self) (number rhs) }
@@ -123,7 +121,6 @@ pub trait ProductCalls: Stored {
     }
 
     /// The quotient, or the end of the range that is nearest to it. The divisor is not zero.
-    #[tactic(auto, using(arbitrary_base::proofs::storages::Clamp::clamped))]
     final fn saturating_div(self, rhs: Self) -> Self
         requires { Self.number rhs ≢ pos 0 }
         ensures value { let quotient = int_div (Self.number self) (Self.number rhs) in
@@ -195,7 +192,6 @@ pub trait ProductCalls: Stored {
     }
 
     /// `self` to the power `exp`, or the end of the range that is nearest to it. 0 to the power 0 is 1.
-    #[tactic(auto, using(arbitrary_base::proofs::storages::Clamp::clamped))]
     final fn saturating_pow(self, exp: u32) -> Self
         ensures value { let power = int_pow (Self.number self) exp in
             Self.number result ≡ clamp Self.IS_SIGNED Self.BITS power }
@@ -219,7 +215,6 @@ pub trait ProductCalls: Stored {
 
     /// The same value, and how many multiplications in the storage it took: at most two for each binary
     /// digit of `exp`, so at most 64.
-    #[tactic(auto, using(arbitrary_base::proofs::storages::Clamp::clamped))]
     final fn saturating_pow_counted(self, exp: u32) -> (Self, u32)
         ensures value { let power = int_pow (Self.number self) exp in
             Self.number result.0 ≡ clamp Self.IS_SIGNED Self.BITS power }

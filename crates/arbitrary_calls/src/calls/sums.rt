@@ -41,7 +41,6 @@ pub trait SumCalls: Stored {
     }
 
     /// The sum, or the end of the range that is nearest to it.
-    #[tactic(auto, using(arbitrary_base::proofs::storages::Clamp::clamped))]
     final fn saturating_add(self, rhs: Self) -> Self
         ensures value { let sum = Self.number self +ℤ Self.number rhs in
             Self.number result ≡ clamp Self.IS_SIGNED Self.BITS sum }
@@ -79,7 +78,6 @@ pub trait SumCalls: Stored {
     }
 
     /// The sum, wrapped, and whether the exact one is out of range.
-    #[tactic(auto, using(arbitrary_base::proofs::modular::ExactOrCongruent::wrapped))]
     final fn overflowing_add(self, rhs: Self) -> (Self, bool)
         ensures operation { let number = Self.number in
             number result.0 ≡ wrapped_sum Self.IS_SIGNED Self.BITS (number self) (number rhs) }
@@ -121,7 +119,6 @@ pub trait SumCalls: Stored {
     }
 
     /// The difference, or the end of the range that is nearest to it.
-    #[tactic(auto, using(arbitrary_base::proofs::storages::Clamp::clamped))]
     final fn saturating_sub(self, rhs: Self) -> Self
         ensures value { let difference = Self.number self -ℤ Self.number rhs in
             Self.number result ≡ clamp Self.IS_SIGNED Self.BITS difference }
@@ -159,7 +156,6 @@ pub trait SumCalls: Stored {
     }
 
     /// The difference, wrapped, and whether the exact one is out of range.
-    #[tactic(auto, using(arbitrary_base::proofs::modular::ExactOrCongruent::wrapped))]
     final fn overflowing_sub(self, rhs: Self) -> (Self, bool)
         ensures operation { let number = Self.number in
             let wrapped = wrapped_difference Self.IS_SIGNED Self.BITS in

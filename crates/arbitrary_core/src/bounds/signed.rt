@@ -48,7 +48,6 @@ where
 {
     ghost saturating_add_gives = { λ a b r. r ≡ clamp T.SIGNED BITS (a +ℤ b) };
 
-    #[tactic(auto, using(arbitrary_base::proofs::storages::Clamp::clamped))]
     fn saturating_add(&self, v: &Int<T, BITS>) -> Int<T, BITS>
         ensures value { result ≡ clamp T.SIGNED BITS (self.now +ℤ v.now) }
         ensures exact { InRange T.SIGNED BITS (self.now +ℤ v.now) → result ≡ self.now +ℤ v.now }
@@ -71,7 +70,6 @@ where
 {
     ghost saturating_sub_gives = { λ a b r. r ≡ clamp T.SIGNED BITS (a -ℤ b) };
 
-    #[tactic(auto, using(arbitrary_base::proofs::storages::Clamp::clamped))]
     fn saturating_sub(&self, v: &Int<T, BITS>) -> Int<T, BITS>
         ensures value { result ≡ clamp T.SIGNED BITS (self.now -ℤ v.now) }
         ensures exact { InRange T.SIGNED BITS (self.now -ℤ v.now) → result ≡ self.now -ℤ v.now }

@@ -41,7 +41,6 @@ impl<T: UnsignedStorage + HasWidth<BITS>, const BITS: usize> Bounded for UInt<T,
 impl<T: UnsignedStorage + HasWidth<BITS>, const BITS: usize> SaturatingAdd for UInt<T, BITS> {
     ghost saturating_add_gives = { λ a b r. r ≡ clamp T.SIGNED BITS (a +ℤ b) };
 
-    #[tactic(auto, using(arbitrary_base::proofs::storages::Clamp::clamped))]
     fn saturating_add(&self, v: &UInt<T, BITS>) -> UInt<T, BITS>
         ensures value { result ≡ clamp T.SIGNED BITS (self.now +ℤ v.now) }
         ensures exact { InRange T.SIGNED BITS (self.now +ℤ v.now) → result ≡ self.now +ℤ v.now }
@@ -60,7 +59,6 @@ impl<T: UnsignedStorage + HasWidth<BITS>, const BITS: usize> SaturatingAdd for U
 impl<T: UnsignedStorage + HasWidth<BITS>, const BITS: usize> SaturatingSub for UInt<T, BITS> {
     ghost saturating_sub_gives = { λ a b r. r ≡ clamp T.SIGNED BITS (a -ℤ b) };
 
-    #[tactic(auto, using(arbitrary_base::proofs::storages::Clamp::clamped))]
     fn saturating_sub(&self, v: &UInt<T, BITS>) -> UInt<T, BITS>
         ensures value { result ≡ clamp T.SIGNED BITS (self.now -ℤ v.now) }
         ensures exact { InRange T.SIGNED BITS (self.now -ℤ v.now) → result ≡ self.now -ℤ v.now }

@@ -1,10 +1,21 @@
 use Rattle.std.proofs.Common.{sym, ◌∙◌}
+use Rattle.arbitrary_base.proofs.modular.ExactOrCongruent.{wrapped-congruent, wrapped-exact}
 use Rattle.arbitrary_base.proofs.modular.Inverse.{add-undoes}
 use Rattle.arbitrary_base.proofs.operations.Definition.{difference-is, sum-is}
 use Rattle.arbitrary_core.proofs.numeric.signed.IntWrappingSub.wrapping_sub.Goals as goal
 
+pub returns-clause-value : goal.returns-clause-value
+returns-clause-value g c = cc
+
 pub returns-clause-operation : goal.returns-clause-operation
-returns-clause-operation g c = (cc) ∙ sym (difference-is _ _ c.args.self.now c.args.v.now)
+returns-clause-operation g c = returns-clause-value g c ∙ sym (difference-is _ _ _ _)
+
+pub returns-clause-exact : goal.returns-clause-exact
+returns-clause-exact g c h = wrapped-exact _ _ _ _ c.value.ensures.width.0 h (returns-clause-value g c)
+
+pub returns-clause-congruent : goal.returns-clause-congruent
+returns-clause-congruent g c = wrapped-congruent _ _ _ _ (returns-clause-value g c)
 
 pub returns-clause-undo : goal.returns-clause-undo
-returns-clause-undo g c = add-undoes _ _ c.new.result c.args.v.now _ _ c.value.ensures.width.0 c.value.ensures.self_in_range (cc) (sum-is _ _ _ _)
+returns-clause-undo g c =
+    add-undoes _ _ c.new.result c.args.v.now _ _ c.value.ensures.width.0 c.value.ensures.self_in_range (returns-clause-value g c) (sum-is _ _ _ _)
