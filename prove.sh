@@ -44,8 +44,8 @@ minutes() {
     awk -v name="$1" '$1 == name { found = $2 } END { print found ? found : 1 }' tools/minutes.txt
 }
 
-# Where rattle may keep proofs, it first checks these two libraries in parts, and waits for the slowest part. That takes half as long again.
-# So their first check keeps none, because a file is in place of the folder. Only an edit of these libraries then repeats it.
+# If rattle may keep the proofs of these two libraries, it checks them in fixed parts, and waits for the slowest part. In their first check,
+# a file takes the place of the folder for kept proofs, and all jobs share the functions. So the first check after an edit starts anew.
 in_parts=" arbitrary_base arbitrary_core "
 
 log="$(mktemp)"
