@@ -59,7 +59,7 @@ end() {
     exit "$status"
 }
 trap end EXIT
-trap 'echo; echo "prove.sh: interrupted. What is proved is kept: run it again to go on." >&2; exit 130' INT TERM
+trap 'echo; echo "prove.sh: interrupted. Libraries that are proved stay proved: run it again to go on." >&2; exit 130' INT TERM
 
 crates=()
 for name in $(order "$crate"); do
