@@ -16,8 +16,8 @@ from zlib import crc32
 HERE = Path(__file__).resolve().parent
 CRATES = HERE.parent / 'crates'
 WANTED = HERE / 'twins.txt'
-# a signed type has one bound more
-BOUNDS = [(r'\bBuiltinInteger \+ ', ''), (r'\n *where\n( +.*: UnsignedOf<.*>,\n)+', '\n')]
+# a signed type has one parameter more, the storage of its bits
+BOUNDS = [(r', U: UnsignedOf<T>', ''), (r'(?<=<T, BITS), U>', '>'), (r'\b(BuiltinInteger \+ |[TU]: UnsignedOf<[TU]::Signed>,\n *)', ''), (r'\bU\b', 'T')]
 SIGNS = [
     (r'\bU?Int::<T, BITS>::', 'Number::'), (r'\bU?Int\b', 'Number'), (r'\b(?:Uns|S)igned(Storage|Of|Integer|Counterpart)\b', r'Sign\1'),
     (r'\bU?Int(?=[A-Z])', 'Number'), (r'\b(?:un)?signed\b', 'sign'), (r'\b(?:Uns|S)igned\b', 'Sign'), (r'\b[ui](?=(?:8|16|32|64|128|size)\b)', 'n'),

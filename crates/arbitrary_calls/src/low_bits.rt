@@ -5,7 +5,7 @@ ghost use Rattle.std.specs.Prelude.{◌≡◌, ◌≤◌, ◌<◌, ◌^◌};
 ghost use Rattle.arbitrary_base.specs.Range.{InRange};
 ghost use Rattle.arbitrary_base.specs.Residue.{residue};
 
-use arbitrary_base::storage::{BuiltinInteger, SignedStorage, UnsignedOf, UnsignedStorage};
+use arbitrary_base::storage::{SignedStorage, UnsignedOf, UnsignedStorage};
 use arbitrary_base::truncation::low_bits_in_range;
 use arbitrary_core::signed::Int;
 use arbitrary_core::unsigned::UInt;
@@ -29,10 +29,7 @@ impl<T: UnsignedStorage, const BITS: usize> LowBits for UInt<T, BITS> {
     }
 }
 
-impl<T: BuiltinInteger + SignedStorage, const BITS: usize> LowBits for Int<T, BITS>
-where
-    T::Unsigned: UnsignedOf<T>,
-{
+impl<T: SignedStorage, const BITS: usize, U: UnsignedOf<T>> LowBits for Int<T, BITS, U> {
     fn low_bits(self) -> u128 {
         low_bits_in_range(self.to_bits(), BITS)
     }

@@ -3,9 +3,7 @@
 ghost use Rattle.std.specs.Prelude.{refl, ◌≡◌, ◌≤◌};
 ghost use Rattle.arbitrary_base.specs.Range.{InRange};
 
-use arbitrary_base::storage::{
-    BuiltinInteger, SignedStorage, Storage, UnsignedOf, UnsignedStorage,
-};
+use arbitrary_base::storage::{SignedStorage, Storage, UnsignedOf, UnsignedStorage};
 use arbitrary_core::signed::Int;
 use arbitrary_core::unsigned::UInt;
 use arbitrary_traits::numbered::Numbered;
@@ -53,18 +51,15 @@ impl<T: UnsignedStorage, const BITS: usize> Stored for UInt<T, BITS> {
     ghost sign_law = { refl };
 }
 
-impl<T: BuiltinInteger + SignedStorage, const BITS: usize> Stored for Int<T, BITS>
-where
-    T::Unsigned: UnsignedOf<T>,
-{
+impl<T: SignedStorage, const BITS: usize, U: UnsignedOf<T>> Stored for Int<T, BITS, U> {
     type Representation = T;
 
     fn to_storage(self) -> T {
-        Int::<T, BITS>::value(self)
+        Int::<T, BITS, U>::value(self)
     }
 
-    fn from_storage(value: T) -> Int<T, BITS> {
-        Int::<T, BITS>::new(value)
+    fn from_storage(value: T) -> Int<T, BITS, U> {
+        Int::<T, BITS, U>::new(value)
     }
 
     ghost width_law = { λ h. h };

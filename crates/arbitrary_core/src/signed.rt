@@ -16,8 +16,8 @@ use std::alloc::AllocError;
 use std::marker::{Model, PhantomData};
 
 /// A signed integer of `BITS` bits: a number from `-2 ^ (BITS - 1)` to `2 ^ (BITS - 1) - 1`, which
-/// `value` returns in the primitive `T`. Write `Int<T, BITS>`: the last parameter is always the
-/// unsigned primitive of the same width as `T`, which stores the bits.
+/// `value` returns in the primitive `T`. Write `Int<T, BITS>`: `U` is always the unsigned primitive
+/// of the same width as `T`, which stores the bits. Only code for every storage names it.
 ///
 /// In contracts a value is its number. Every value has a valid width, from 1 to the width of `T`,
 /// and a number in range.
@@ -65,10 +65,7 @@ impl<T: SignedStorage, const BITS: usize, U: UnsignedOf<T>> Clone for Int<T, BIT
     }
 }
 
-impl<T: BuiltinInteger + SignedStorage, const BITS: usize> Int<T, BITS>
-where
-    T::Unsigned: UnsignedOf<T>,
-{
+impl<T: SignedStorage, const BITS: usize, U: UnsignedOf<T>> Int<T, BITS, U> {
     /// Whether the width is valid: from 1 to the width of the storage.
     pub fn is_valid_width() -> bool
         ensures { IsTrue result ↔ IsInRange 1 T.WIDTH BITS }
@@ -97,7 +94,7 @@ where
         requires value_in_range { InRange T.SIGNED BITS (T.number value) }
         ensures { result ≡ T.number value }
     {
-        Int::<T, BITS>::new(value)
+        Int::<T, BITS, U>::new(value)
     }
 
     /// The value with this number, or an error exactly if it is out of range. Requires a valid
@@ -109,7 +106,7 @@ where
             (λ _. ¬ (InRange T.SIGNED BITS (T.number value))) }
     {
         if is_in_range(value, BITS) {
-            Ok(Int::<T, BITS>::new(value))
+            Ok(Int::<T, BITS, U>::new(value))
         } else {
             Err(TryNewError)
         }
@@ -137,10 +134,10 @@ where
 
     /// The bits of the number: its residue modulo `2 ^ BITS`.
     #[tactic(auto, using(crate::proofs::StoredBits::stored))]
-    pub fn to_bits(self) -> T::Unsigned
-        ensures value { T.Unsigned.number result ≡ pos (residue BITS self) }
-        ensures congruent { Congruent BITS (T.Unsigned.number result) self }
-        ensures result_in_range { InRange T.Unsigned.SIGNED BITS (T.Unsigned.number result) }
+    pub fn to_bits(self) -> U
+        ensures value { U.number result ≡ pos (residue BITS self) }
+        ensures congruent { Congruent BITS (U.number result) self }
+        ensures result_in_range { InRange U.SIGNED BITS (U.number result) }
         ensures self_in_range { InRange T.SIGNED BITS self }
         ensures width { IsInRange 1 T.WIDTH BITS }
     {
@@ -150,12 +147,12 @@ where
     /// The value with these bits, which must be below `2 ^ BITS`: `try_from_bits` tests it.
     /// Requires a valid width.
     #[tactic(auto, using(crate::proofs::StoredBits::stored))]
-    pub const fn from_bits(bits: T::Unsigned) -> Self
+    pub const fn from_bits(bits: U) -> Self
         requires width { IsInRange 1 T.WIDTH BITS }
-        requires bits_in_range { InRange T.Unsigned.SIGNED BITS (T.Unsigned.number bits) }
-        ensures bits { pos (residue BITS result) ≡ T.Unsigned.number bits }
-        ensures number { result ≡ wrap T.SIGNED BITS (T.Unsigned.number bits) }
-        ensures congruent { Congruent BITS result (T.Unsigned.number bits) }
+        requires bits_in_range { InRange U.SIGNED BITS (U.number bits) }
+        ensures bits { pos (residue BITS result) ≡ U.number bits }
+        ensures number { result ≡ wrap T.SIGNED BITS (U.number bits) }
+        ensures congruent { Congruent BITS result (U.number bits) }
     {
         Int {
             bits,
@@ -165,29 +162,29 @@ where
 
     /// The same as `from_bits`. The call of this name in the Rust crate is unsafe; this one has the
     /// conditions of `from_bits`.
-    pub fn from_bits_unchecked(bits: T::Unsigned) -> Self
+    pub fn from_bits_unchecked(bits: U) -> Self
         requires width { IsInRange 1 T.WIDTH BITS }
-        requires bits_in_range { InRange T.Unsigned.SIGNED BITS (T.Unsigned.number bits) }
-        ensures bits { pos (residue BITS result) ≡ T.Unsigned.number bits }
-        ensures number { result ≡ wrap T.SIGNED BITS (T.Unsigned.number bits) }
-        ensures congruent { Congruent BITS result (T.Unsigned.number bits) }
+        requires bits_in_range { InRange U.SIGNED BITS (U.number bits) }
+        ensures bits { pos (residue BITS result) ≡ U.number bits }
+        ensures number { result ≡ wrap T.SIGNED BITS (U.number bits) }
+        ensures congruent { Congruent BITS result (U.number bits) }
     {
-        Int::<T, BITS>::from_bits(bits)
+        Int::<T, BITS, U>::from_bits(bits)
     }
 
     /// The value with these bits, or an error exactly if they are `2 ^ BITS` or more. Requires a
     /// valid width.
     #[tactic(auto, using(arbitrary_base::proofs::modular::Truncation::patterns))]
-    pub fn try_from_bits(bits: T::Unsigned) -> Result<Self, TryNewError>
+    pub fn try_from_bits(bits: U) -> Result<Self, TryNewError>
         requires width { IsInRange 1 T.WIDTH BITS }
-        ensures bits { let pattern = T.Unsigned.number bits in MatchResult result
-            (λ x. InRange T.Unsigned.SIGNED BITS pattern × (pos (residue BITS x) ≡ pattern))
-            (λ _. ¬ (InRange T.Unsigned.SIGNED BITS pattern)) }
-        ensures number { IfOk result (λ x. x ≡ wrap T.SIGNED BITS (T.Unsigned.number bits)) }
-        ensures congruent { IfOk result (λ x. Congruent BITS x (T.Unsigned.number bits)) }
+        ensures bits { let pattern = U.number bits in MatchResult result
+            (λ x. InRange U.SIGNED BITS pattern × (pos (residue BITS x) ≡ pattern))
+            (λ _. ¬ (InRange U.SIGNED BITS pattern)) }
+        ensures number { IfOk result (λ x. x ≡ wrap T.SIGNED BITS (U.number bits)) }
+        ensures congruent { IfOk result (λ x. Congruent BITS x (U.number bits)) }
     {
         if is_in_range(bits, BITS) {
-            Ok(Int::<T, BITS>::from_bits(bits))
+            Ok(Int::<T, BITS, U>::from_bits(bits))
         } else {
             Err(TryNewError)
         }
@@ -216,7 +213,7 @@ where
         ensures operation { result ≡ wrapped_difference T.SIGNED BITS (pos 0) self }
         ensures undo { wrapped_difference T.SIGNED BITS (pos 0) result ≡ self }
     {
-        Int::<T, BITS>::new(wrapping::neg(self.value(), BITS))
+        Int::<T, BITS, U>::new(wrapping::neg(self.value(), BITS))
     }
 
     /// The negated number, or the greatest number if that is out of range.
@@ -225,7 +222,7 @@ where
         ensures exact { InRange T.SIGNED BITS (neg_ℤ self) → result ≡ neg_ℤ self }
         ensures above { hi T.SIGNED BITS <ℤ neg_ℤ self → result ≡ hi T.SIGNED BITS }
     {
-        Int::<T, BITS>::new(saturating::neg(self.value(), BITS))
+        Int::<T, BITS, U>::new(saturating::neg(self.value(), BITS))
     }
 
     /// The negated number, or `None` exactly for the least number.
@@ -233,7 +230,7 @@ where
         ensures { SomeIff result (InRange T.SIGNED BITS (neg_ℤ self)) (neg_ℤ self) }
     {
         match checked::neg(self.value(), BITS) {
-            Some(negated) => Some(Int::<T, BITS>::new(negated)),
+            Some(negated) => Some(Int::<T, BITS, U>::new(negated)),
             None => None,
         }
     }
@@ -248,17 +245,17 @@ where
         ensures congruent { Congruent BITS result.0 (neg_ℤ self) }
     {
         let (negated, overflow) = overflowing::neg(self.value(), BITS);
-        (Int::<T, BITS>::new(negated), overflow)
+        (Int::<T, BITS, U>::new(negated), overflow)
     }
 
     /// The same number at more bits of the same storage. Requires that `R` is above `BITS` and at
     /// most the width of the storage.
-    pub fn widen<const R: usize>(self) -> Int<T, R>
+    pub fn widen<const R: usize>(self) -> Int<T, R, U>
         requires above { BITS < R }
         requires width { R ≤ T.WIDTH }
         ensures { result ≡ self }
     {
-        Int::<T, R>::new(self.value())
+        Int::<T, R, U>::new(self.value())
     }
 
     /// The value with the number of this `i8`, which must be in range. Requires a valid width.
@@ -267,7 +264,7 @@ where
         requires value_in_range { InRange T.SIGNED BITS value }
         ensures { result ≡ value }
     {
-        Int::<T, BITS>::new(cast(value, BITS))
+        Int::<T, BITS, U>::new(cast(value, BITS))
     }
 
     /// The value with the number of this `i16`, which must be in range. Requires a valid width.
@@ -276,7 +273,7 @@ where
         requires value_in_range { InRange T.SIGNED BITS value }
         ensures { result ≡ value }
     {
-        Int::<T, BITS>::new(cast(value, BITS))
+        Int::<T, BITS, U>::new(cast(value, BITS))
     }
 
     /// The value with the number of this `i32`, which must be in range. Requires a valid width.
@@ -285,7 +282,7 @@ where
         requires value_in_range { InRange T.SIGNED BITS value }
         ensures { result ≡ value }
     {
-        Int::<T, BITS>::new(cast(value, BITS))
+        Int::<T, BITS, U>::new(cast(value, BITS))
     }
 
     /// The value with the number of this `i64`, which must be in range. Requires a valid width.
@@ -294,7 +291,7 @@ where
         requires value_in_range { InRange T.SIGNED BITS value }
         ensures { result ≡ value }
     {
-        Int::<T, BITS>::new(cast(value, BITS))
+        Int::<T, BITS, U>::new(cast(value, BITS))
     }
 
     /// The value with the number of this `i128`, which must be in range. Requires a valid width.
@@ -303,6 +300,6 @@ where
         requires value_in_range { InRange T.SIGNED BITS value }
         ensures { result ≡ value }
     {
-        Int::<T, BITS>::new(cast(value, BITS))
+        Int::<T, BITS, U>::new(cast(value, BITS))
     }
 }

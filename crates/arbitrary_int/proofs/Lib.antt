@@ -10,6 +10,7 @@ pub mod ByteLaws
 pub mod StreamBytes
 pub mod RangeNumbers
 pub mod RangeRuns
+pub mod EndBits
 pub use Rattle.arbitrary_base.proofs.integers.Ring
 pub use Rattle.arbitrary_base.proofs.modular.Truncation
 pub use Rattle.arbitrary_base.proofs.modular.Residue

@@ -219,8 +219,8 @@ impl Number for u128 {
 
 impl<T: BuiltinInteger + UnsignedStorage, const BITS: usize> Number for UInt<T, BITS>
 where
-    T::Signed: BuiltinInteger + SignedOf<T>,
-    <T::Signed as BuiltinInteger>::Unsigned: UnsignedOf<T::Signed>,
+    T: UnsignedOf<T::Signed>,
+    T::Signed: SignedOf<T>,
 {
     type UnderlyingType = T;
 

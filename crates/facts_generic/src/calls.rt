@@ -26,8 +26,8 @@ pub fn in_order<V: Integer>(a: V, b: V) -> (V, V)
 
 pub fn is_zero<T: BuiltinInteger + UnsignedStorage, const BITS: usize>(x: UInt<T, BITS>) -> bool
 where
-    T::Signed: BuiltinInteger + SignedOf<T>,
-    <T::Signed as BuiltinInteger>::Unsigned: UnsignedOf<T::Signed>,
+    T: UnsignedOf<T::Signed>,
+    T::Signed: SignedOf<T>,
     ensures { IsTrue result ↔ (x ≡ pos 0) }
 {
     x == UInt::<T, BITS>::zero()

@@ -9,11 +9,8 @@ pub fn stored<T: UnsignedStorage, const BITS: usize>(number: UInt<T, BITS>) -> T
 }
 
 /// Whether the number is below 0, of an `Int` of any storage and width.
-pub fn is_below_zero<T: BuiltinInteger + SignedStorage, const BITS: usize>(
-    number: Int<T, BITS>,
-) -> bool
-where
-    T::Unsigned: UnsignedOf<T>,
-{
+pub fn is_below_zero<T: SignedStorage, U: UnsignedOf<T>, const BITS: usize>(
+    number: Int<T, BITS, U>,
+) -> bool {
     number.is_negative()
 }

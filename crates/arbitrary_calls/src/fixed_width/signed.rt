@@ -4,13 +4,10 @@ ghost use Rattle.arbitrary_core.proofs.UnsignedQuotient.{quotient-in_range};
 ghost use Rattle.arbitrary_core.proofs.GenericLawsHold.{bit-hold, bit_count-hold, bit_sums-hold, bitwise-hold, complements-hold, counts-hold, moved_bits-hold, movement-hold, operations, orders-hold, products-hold, sums-hold, value-hold, wrapping-hold};
 
 use crate::fixed_width::FixedWidth;
-use arbitrary_base::storage::{BuiltinInteger, SignedStorage, UnsignedOf};
+use arbitrary_base::storage::{SignedStorage, UnsignedOf};
 use arbitrary_core::signed::Int;
 
-impl<T: BuiltinInteger + SignedStorage, const BITS: usize> FixedWidth for Int<T, BITS>
-where
-    T::Unsigned: UnsignedOf<T>,
-{
+impl<T: SignedStorage, const BITS: usize, U: UnsignedOf<T>> FixedWidth for Int<T, BITS, U> {
     ghost may_add = { λ a b h. h };
 
     ghost exact_sum = { λ a b r h. h };

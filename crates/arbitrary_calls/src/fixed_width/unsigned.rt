@@ -9,8 +9,8 @@ use arbitrary_core::unsigned::UInt;
 
 impl<T: BuiltinInteger + UnsignedStorage, const BITS: usize> FixedWidth for UInt<T, BITS>
 where
-    T::Signed: BuiltinInteger + SignedOf<T>,
-    <T::Signed as BuiltinInteger>::Unsigned: UnsignedOf<T::Signed>,
+    T: UnsignedOf<T::Signed>,
+    T::Signed: SignedOf<T>,
 {
     ghost may_add = { λ a b h. h };
 

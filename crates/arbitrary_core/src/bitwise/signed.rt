@@ -8,19 +8,17 @@ ghost use Rattle.arbitrary_base.specs.BitList.{bits, val, bits_and, bits_or, bit
 
 use crate::signed::Int;
 use arbitrary_base::bitwise;
-use arbitrary_base::storage::{BuiltinInteger, SignedStorage, UnsignedOf};
+use arbitrary_base::storage::{SignedStorage, UnsignedOf};
 use std::ops::{BitAnd, BitAndAssign, BitOr, BitOrAssign, BitXor, BitXorAssign, Not};
 
-impl<T: BuiltinInteger + SignedStorage, const BITS: usize> BitAnd<Int<T, BITS>> for Int<T, BITS>
-where
-    T::Unsigned: UnsignedOf<T>,
-{
-    type Output = Int<T, BITS>;
+impl<T: SignedStorage, const BITS: usize, U: UnsignedOf<T>> BitAnd<Int<T, BITS, U>>
+    for Int<T, BITS, U> {
+    type Output = Int<T, BITS, U>;
 
     ghost bitand_gives = { λ a b r. (r ≡ val T.SIGNED (bits_and (bits BITS a) (bits BITS b)))
         × (val T.SIGNED (bits BITS a) ≡ a) × (val T.SIGNED (bits BITS b) ≡ b) };
 
-    fn bitand(self, rhs: Int<T, BITS>) -> Int<T, BITS>
+    fn bitand(self, rhs: Int<T, BITS, U>) -> Int<T, BITS, U>
         ensures operation { result ≡ bitwise_and T.SIGNED BITS self rhs }
         ensures bits { result ≡ val T.SIGNED (bits_and (bits BITS self) (bits BITS rhs)) }
         ensures operands_from_bits { (val T.SIGNED (bits BITS self) ≡ self)
@@ -30,19 +28,16 @@ where
         ensures at_most_rhs { (k : ℕ) → rhs ≡ pos k → (n : ℕ) × ((result ≡ pos n) × (n ≤ k)) }
         ensures lowest { rhs ≡ pos 1 → result ≡ pos (unsigned_abs self % 2) }
     {
-        Int::<T, BITS>::from_bits(bitwise::and(self.to_bits(), rhs.to_bits(), BITS))
+        Int::<T, BITS, U>::from_bits(bitwise::and(self.to_bits(), rhs.to_bits(), BITS))
     }
 }
 
-impl<T: BuiltinInteger + SignedStorage, const BITS: usize> BitAndAssign<Int<T, BITS>>
-    for Int<T, BITS>
-where
-    T::Unsigned: UnsignedOf<T>,
-{
+impl<T: SignedStorage, const BITS: usize, U: UnsignedOf<T>> BitAndAssign<Int<T, BITS, U>>
+    for Int<T, BITS, U> {
     ghost bitand_assign_gives = { λ a b r. (r ≡ val T.SIGNED (bits_and (bits BITS a) (bits BITS b)))
         × (val T.SIGNED (bits BITS a) ≡ a) × (val T.SIGNED (bits BITS b) ≡ b) };
 
-    fn bitand_assign(&mut self, rhs: Int<T, BITS>)
+    fn bitand_assign(&mut self, rhs: Int<T, BITS, U>)
         ensures operation { self.new ≡ bitwise_and T.SIGNED BITS self.old rhs }
         ensures bits { self.new ≡ val T.SIGNED (bits_and (bits BITS self.old) (bits BITS rhs)) }
         ensures operands_from_bits { (val T.SIGNED (bits BITS self.old) ≡ self.old)
@@ -59,35 +54,30 @@ where
     }
 }
 
-impl<T: BuiltinInteger + SignedStorage, const BITS: usize> BitOr<Int<T, BITS>> for Int<T, BITS>
-where
-    T::Unsigned: UnsignedOf<T>,
-{
-    type Output = Int<T, BITS>;
+impl<T: SignedStorage, const BITS: usize, U: UnsignedOf<T>> BitOr<Int<T, BITS, U>>
+    for Int<T, BITS, U> {
+    type Output = Int<T, BITS, U>;
 
     ghost bitor_gives = { λ a b r. (r ≡ val T.SIGNED (bits_or (bits BITS a) (bits BITS b)))
         × (val T.SIGNED (bits BITS a) ≡ a) × (val T.SIGNED (bits BITS b) ≡ b) };
 
-    fn bitor(self, rhs: Int<T, BITS>) -> Int<T, BITS>
+    fn bitor(self, rhs: Int<T, BITS, U>) -> Int<T, BITS, U>
         ensures operation { result ≡ bitwise_or T.SIGNED BITS self rhs }
         ensures bits { result ≡ val T.SIGNED (bits_or (bits BITS self) (bits BITS rhs)) }
         ensures operands_from_bits { (val T.SIGNED (bits BITS self) ≡ self)
             × (val T.SIGNED (bits BITS rhs) ≡ rhs) }
         ensures plain { (m n : ℕ) → self ≡ pos m → rhs ≡ pos n → result ≡ pos (bit_or m n) }
     {
-        Int::<T, BITS>::from_bits(bitwise::or(self.to_bits(), rhs.to_bits(), BITS))
+        Int::<T, BITS, U>::from_bits(bitwise::or(self.to_bits(), rhs.to_bits(), BITS))
     }
 }
 
-impl<T: BuiltinInteger + SignedStorage, const BITS: usize> BitOrAssign<Int<T, BITS>>
-    for Int<T, BITS>
-where
-    T::Unsigned: UnsignedOf<T>,
-{
+impl<T: SignedStorage, const BITS: usize, U: UnsignedOf<T>> BitOrAssign<Int<T, BITS, U>>
+    for Int<T, BITS, U> {
     ghost bitor_assign_gives = { λ a b r. (r ≡ val T.SIGNED (bits_or (bits BITS a) (bits BITS b)))
         × (val T.SIGNED (bits BITS a) ≡ a) × (val T.SIGNED (bits BITS b) ≡ b) };
 
-    fn bitor_assign(&mut self, rhs: Int<T, BITS>)
+    fn bitor_assign(&mut self, rhs: Int<T, BITS, U>)
         ensures operation { self.new ≡ bitwise_or T.SIGNED BITS self.old rhs }
         ensures bits { self.new ≡ val T.SIGNED (bits_or (bits BITS self.old) (bits BITS rhs)) }
         ensures operands_from_bits { (val T.SIGNED (bits BITS self.old) ≡ self.old)
@@ -100,16 +90,14 @@ where
     }
 }
 
-impl<T: BuiltinInteger + SignedStorage, const BITS: usize> BitXor<Int<T, BITS>> for Int<T, BITS>
-where
-    T::Unsigned: UnsignedOf<T>,
-{
-    type Output = Int<T, BITS>;
+impl<T: SignedStorage, const BITS: usize, U: UnsignedOf<T>> BitXor<Int<T, BITS, U>>
+    for Int<T, BITS, U> {
+    type Output = Int<T, BITS, U>;
 
     ghost bitxor_gives = { λ a b r. (r ≡ val T.SIGNED (bits_xor (bits BITS a) (bits BITS b)))
         × (val T.SIGNED (bits BITS a) ≡ a) × (val T.SIGNED (bits BITS b) ≡ b) };
 
-    fn bitxor(self, rhs: Int<T, BITS>) -> Int<T, BITS>
+    fn bitxor(self, rhs: Int<T, BITS, U>) -> Int<T, BITS, U>
         ensures operation { result ≡ bitwise_xor T.SIGNED BITS self rhs }
         ensures bits { result ≡ val T.SIGNED (bits_xor (bits BITS self) (bits BITS rhs)) }
         ensures operands_from_bits { (val T.SIGNED (bits BITS self) ≡ self)
@@ -118,19 +106,16 @@ where
         ensures same { self ≡ rhs → result ≡ pos 0 }
         ensures undo { bitwise_xor T.SIGNED BITS result rhs ≡ self }
     {
-        Int::<T, BITS>::from_bits(bitwise::xor(self.to_bits(), rhs.to_bits(), BITS))
+        Int::<T, BITS, U>::from_bits(bitwise::xor(self.to_bits(), rhs.to_bits(), BITS))
     }
 }
 
-impl<T: BuiltinInteger + SignedStorage, const BITS: usize> BitXorAssign<Int<T, BITS>>
-    for Int<T, BITS>
-where
-    T::Unsigned: UnsignedOf<T>,
-{
+impl<T: SignedStorage, const BITS: usize, U: UnsignedOf<T>> BitXorAssign<Int<T, BITS, U>>
+    for Int<T, BITS, U> {
     ghost bitxor_assign_gives = { λ a b r. (r ≡ val T.SIGNED (bits_xor (bits BITS a) (bits BITS b)))
         × (val T.SIGNED (bits BITS a) ≡ a) × (val T.SIGNED (bits BITS b) ≡ b) };
 
-    fn bitxor_assign(&mut self, rhs: Int<T, BITS>)
+    fn bitxor_assign(&mut self, rhs: Int<T, BITS, U>)
         ensures operation { self.new ≡ bitwise_xor T.SIGNED BITS self.old rhs }
         ensures bits { self.new ≡ val T.SIGNED (bits_xor (bits BITS self.old) (bits BITS rhs)) }
         ensures operands_from_bits { (val T.SIGNED (bits BITS self.old) ≡ self.old)
@@ -145,21 +130,18 @@ where
     }
 }
 
-impl<T: BuiltinInteger + SignedStorage, const BITS: usize> Not for Int<T, BITS>
-where
-    T::Unsigned: UnsignedOf<T>,
-{
-    type Output = Int<T, BITS>;
+impl<T: SignedStorage, const BITS: usize, U: UnsignedOf<T>> Not for Int<T, BITS, U> {
+    type Output = Int<T, BITS, U>;
 
     ghost not_gives = { λ a r. let list = bits BITS a in
         (r ≡ val T.SIGNED (map not list)) × (val T.SIGNED list ≡ a) };
 
-    fn not(self) -> Int<T, BITS>
+    fn not(self) -> Int<T, BITS, U>
         ensures operation { result ≡ bitwise_not T.SIGNED BITS self }
         ensures bits { result ≡ val T.SIGNED (map not (bits BITS self)) }
         ensures self_from_bits { val T.SIGNED (bits BITS self) ≡ self }
         ensures number { result ≡ neg_ℤ self -ℤ pos 1 }
     {
-        Int::<T, BITS>::from_bits(bitwise::not(self.to_bits(), BITS))
+        Int::<T, BITS, U>::from_bits(bitwise::not(self.to_bits(), BITS))
     }
 }

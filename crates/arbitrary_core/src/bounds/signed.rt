@@ -9,15 +9,13 @@ ghost use Rattle.arbitrary_base.proofs.storages.RangeEnds.{bounds, low_fits, hig
 use crate::signed::Int;
 use arbitrary_base::ends::{highest, is_zero, lowest};
 use arbitrary_base::saturating;
-use arbitrary_base::storage::{BuiltinInteger, SignedStorage, UnsignedOf};
+use arbitrary_base::storage::{SignedStorage, UnsignedOf};
 use arbitrary_base::truncation::from_low_bits;
 use arbitrary_widths::HasWidth;
 use num_traits::{Bounded, SaturatingAdd, SaturatingSub, Zero};
 
-impl<T: BuiltinInteger + SignedStorage + HasWidth<BITS>, const BITS: usize> Bounded for Int<T, BITS>
-where
-    T::Unsigned: UnsignedOf<T>,
-{
+impl<T: SignedStorage + HasWidth<BITS>, const BITS: usize, U: UnsignedOf<T>> Bounded
+    for Int<T, BITS, U> {
     ghost low = { lo T.SIGNED BITS };
 
     ghost high = { hi T.SIGNED BITS };
@@ -26,12 +24,12 @@ where
 
     ghost highest = { hi T.SIGNED BITS };
 
-    fn min_value() -> Int<T, BITS> {
-        Int::<T, BITS>::new(lowest(BITS))
+    fn min_value() -> Int<T, BITS, U> {
+        Int::<T, BITS, U>::new(lowest(BITS))
     }
 
-    fn max_value() -> Int<T, BITS> {
-        Int::<T, BITS>::new(highest(BITS))
+    fn max_value() -> Int<T, BITS, U> {
+        Int::<T, BITS, U>::new(highest(BITS))
     }
 
     ghost bounds_law = { λ x _. bounds T.SIGNED BITS T.WIDTH x T.valid_law };
@@ -41,14 +39,11 @@ where
     ghost high_fits_law = { λ _. high_fits T.SIGNED BITS T.WIDTH T.valid_law };
 }
 
-impl<T: BuiltinInteger + SignedStorage + HasWidth<BITS>, const BITS: usize> SaturatingAdd
-    for Int<T, BITS>
-where
-    T::Unsigned: UnsignedOf<T>,
-{
+impl<T: SignedStorage + HasWidth<BITS>, const BITS: usize, U: UnsignedOf<T>> SaturatingAdd
+    for Int<T, BITS, U> {
     ghost saturating_add_gives = { λ a b r. r ≡ clamp T.SIGNED BITS (a +ℤ b) };
 
-    fn saturating_add(&self, v: &Int<T, BITS>) -> Int<T, BITS>
+    fn saturating_add(&self, v: &Int<T, BITS, U>) -> Int<T, BITS, U>
         ensures value { result ≡ clamp T.SIGNED BITS (self.now +ℤ v.now) }
         ensures exact { InRange T.SIGNED BITS (self.now +ℤ v.now) → result ≡ self.now +ℤ v.now }
         ensures above { hi T.SIGNED BITS <ℤ (self.now +ℤ v.now) → result ≡ hi T.SIGNED BITS }
@@ -57,20 +52,17 @@ where
         ensures self_in_range { InRange T.SIGNED BITS self.now }
         ensures v_in_range { InRange T.SIGNED BITS v.now }
     {
-        Int::<T, BITS>::new(saturating::add(self.value(), v.value(), BITS))
+        Int::<T, BITS, U>::new(saturating::add(self.value(), v.value(), BITS))
     }
 
     ghost saturating_add_law = { λ a b r. saturates T.SIGNED BITS T.WIDTH (a +ℤ b) r T.valid_law };
 }
 
-impl<T: BuiltinInteger + SignedStorage + HasWidth<BITS>, const BITS: usize> SaturatingSub
-    for Int<T, BITS>
-where
-    T::Unsigned: UnsignedOf<T>,
-{
+impl<T: SignedStorage + HasWidth<BITS>, const BITS: usize, U: UnsignedOf<T>> SaturatingSub
+    for Int<T, BITS, U> {
     ghost saturating_sub_gives = { λ a b r. r ≡ clamp T.SIGNED BITS (a -ℤ b) };
 
-    fn saturating_sub(&self, v: &Int<T, BITS>) -> Int<T, BITS>
+    fn saturating_sub(&self, v: &Int<T, BITS, U>) -> Int<T, BITS, U>
         ensures value { result ≡ clamp T.SIGNED BITS (self.now -ℤ v.now) }
         ensures exact { InRange T.SIGNED BITS (self.now -ℤ v.now) → result ≡ self.now -ℤ v.now }
         ensures above { hi T.SIGNED BITS <ℤ (self.now -ℤ v.now) → result ≡ hi T.SIGNED BITS }
@@ -79,32 +71,28 @@ where
         ensures self_in_range { InRange T.SIGNED BITS self.now }
         ensures v_in_range { InRange T.SIGNED BITS v.now }
     {
-        Int::<T, BITS>::new(saturating::sub(self.value(), v.value(), BITS))
+        Int::<T, BITS, U>::new(saturating::sub(self.value(), v.value(), BITS))
     }
 
     ghost saturating_sub_law = { λ a b r. saturates T.SIGNED BITS T.WIDTH (a -ℤ b) r T.valid_law };
 }
 
-impl<T: BuiltinInteger + SignedStorage + HasWidth<BITS>, const BITS: usize> Default for Int<T, BITS>
-where
-    T::Unsigned: UnsignedOf<T>,
-{
+impl<T: SignedStorage + HasWidth<BITS>, const BITS: usize, U: UnsignedOf<T>> Default
+    for Int<T, BITS, U> {
     ghost is_default = { λ x. x ≡ pos 0 };
 
     #[tactic(auto, using(arbitrary_base::proofs::storages::CheckedSum::zeros))]
-    fn default() -> Int<T, BITS> {
-        Int::<T, BITS>::new(from_low_bits(0, BITS))
+    fn default() -> Int<T, BITS, U> {
+        Int::<T, BITS, U>::new(from_low_bits(0, BITS))
     }
 }
 
-impl<T: BuiltinInteger + SignedStorage + HasWidth<BITS>, const BITS: usize> Zero for Int<T, BITS>
-where
-    T::Unsigned: UnsignedOf<T>,
-{
+impl<T: SignedStorage + HasWidth<BITS>, const BITS: usize, U: UnsignedOf<T>> Zero
+    for Int<T, BITS, U> {
     ghost zero = { pos 0 };
 
-    fn zero() -> Int<T, BITS> {
-        Int::<T, BITS>::default()
+    fn zero() -> Int<T, BITS, U> {
+        Int::<T, BITS, U>::default()
     }
 
     fn is_zero(&self) -> bool {

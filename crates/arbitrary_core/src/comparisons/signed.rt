@@ -10,31 +10,26 @@ ghost use Rattle.std.proofs.Common.{rules};
 
 use crate::signed::Int;
 use arbitrary_base::ends::lowest;
-use arbitrary_base::storage::{BuiltinInteger, SignedStorage, Storage, UnsignedOf};
+use arbitrary_base::storage::{SignedStorage, Storage, UnsignedOf};
 use std::cmp::Ordering;
 
 /// The place of the number in the order: its bits minus those of the least number, in the unsigned
 /// storage.
 // Negative numbers get the lower half of the places of the width, and the others places at the top of the storage. So no sign is
 // extended.
-fn place<T: BuiltinInteger + SignedStorage, const BITS: usize>(x: Int<T, BITS>) -> T::Unsigned
-where
-    T::Unsigned: UnsignedOf<T>,
+fn place<T: SignedStorage, const BITS: usize, U: UnsignedOf<T>>(x: Int<T, BITS, U>) -> U
     ensures above { let half = pos (2 ^ (BITS - 1)) in
-        pos 0 ≤ℤ x → T.Unsigned.number result ≡ x +ℤ pos (2 ^ T.WIDTH) -ℤ half }
+        pos 0 ≤ℤ x → U.number result ≡ x +ℤ pos (2 ^ T.WIDTH) -ℤ half }
     ensures below { let half = pos (2 ^ (BITS - 1)) in
-        x <ℤ pos 0 → T.Unsigned.number result ≡ x +ℤ half }
+        x <ℤ pos 0 → U.number result ≡ x +ℤ half }
     ensures width { IsInRange 1 T.WIDTH BITS }
 {
     let bits = x.to_bits();
-    let least = Int::<T, BITS>::new(lowest(BITS));
+    let least = Int::<T, BITS, U>::new(lowest(BITS));
     bits.wrapping_sub(least.to_bits())
 }
 
-impl<T: BuiltinInteger + SignedStorage, const BITS: usize> PartialEq for Int<T, BITS>
-where
-    T::Unsigned: UnsignedOf<T>,
-{
+impl<T: SignedStorage, const BITS: usize, U: UnsignedOf<T>> PartialEq for Int<T, BITS, U> {
     ghost eq = { int_eq };
 
     ghost laws = { Prim.search (comparing, rules) };
@@ -44,17 +39,11 @@ where
     }
 }
 
-impl<T: BuiltinInteger + SignedStorage, const BITS: usize> Eq for Int<T, BITS>
-where
-    T::Unsigned: UnsignedOf<T>,
-{
+impl<T: SignedStorage, const BITS: usize, U: UnsignedOf<T>> Eq for Int<T, BITS, U> {
     ghost laws = { Prim.search (comparing, rules) };
 }
 
-impl<T: BuiltinInteger + SignedStorage, const BITS: usize> PartialOrd for Int<T, BITS>
-where
-    T::Unsigned: UnsignedOf<T>,
-{
+impl<T: SignedStorage, const BITS: usize, U: UnsignedOf<T>> PartialOrd for Int<T, BITS, U> {
     ghost partial_cmp = { as_partial_cmp int_cmp };
 
     ghost laws = { partial_order_from_own_ties (Prim.search (comparing, rules))
@@ -65,10 +54,7 @@ where
     }
 }
 
-impl<T: BuiltinInteger + SignedStorage, const BITS: usize> Ord for Int<T, BITS>
-where
-    T::Unsigned: UnsignedOf<T>,
-{
+impl<T: SignedStorage, const BITS: usize, U: UnsignedOf<T>> Ord for Int<T, BITS, U> {
     ghost cmp = { int_cmp };
 
     ghost total = { Prim.search (comparing, rules) };
@@ -84,10 +70,7 @@ where
 
 // `Ord` has these calls too. Here their contracts have bounds. With those of `Ord`, the search splits by the sign of each number, and
 // does not prove facts about three numbers. `UInt` has no sign, and needs none of these.
-impl<T: BuiltinInteger + SignedStorage, const BITS: usize> Int<T, BITS>
-where
-    T::Unsigned: UnsignedOf<T>,
-{
+impl<T: SignedStorage, const BITS: usize, U: UnsignedOf<T>> Int<T, BITS, U> {
     /// The greater of two numbers.
     pub fn max(self, other: Self) -> Self
         ensures at_least_self { self ≤ℤ result }

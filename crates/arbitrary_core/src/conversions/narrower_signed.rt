@@ -6,22 +6,21 @@ ghost use Rattle.arbitrary_base.specs.Range.{InRange};
 
 use crate::conversions::signed::stored;
 use crate::signed::Int;
-use arbitrary_base::storage::{BuiltinInteger, SignedStorage, UnsignedOf};
+use arbitrary_base::storage::{SignedStorage, UnsignedOf};
 use arbitrary_widths::HasWidth;
 
 /// The number, in another storage that has room for its width.
 fn stored_in<
-    S: BuiltinInteger + SignedStorage,
-    T: BuiltinInteger + SignedStorage + HasWidth<BITS>,
+    S: SignedStorage,
+    P: UnsignedOf<S>,
+    T: SignedStorage + HasWidth<BITS>,
+    U: UnsignedOf<T>,
     const BITS: usize,
->(value: Int<S, BITS>) -> Int<T, BITS>
-where
-    S::Unsigned: UnsignedOf<S>,
-    T::Unsigned: UnsignedOf<T>,
+>(value: Int<S, BITS, P>) -> Int<T, BITS, U>
     ensures value { result ≡ value }
     ensures value_in_range { InRange true BITS value }
 {
-    Int::<T, BITS>::new(stored(value))
+    Int::<T, BITS, U>::new(stored(value))
 }
 
 impl<const BITS: usize> From<Int<i16, BITS>> for Int<i8, BITS>

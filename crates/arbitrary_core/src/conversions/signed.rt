@@ -5,18 +5,17 @@ ghost use Rattle.std.specs.Prelude.{◌≡◌, true};
 ghost use Rattle.arbitrary_base.specs.Range.{InRange};
 
 use crate::signed::Int;
-use arbitrary_base::storage::{BuiltinInteger, SignedStorage, UnsignedOf};
+use arbitrary_base::storage::{SignedStorage, UnsignedOf};
 use arbitrary_base::truncation::cast;
 use arbitrary_widths::{FitsIn, HasWidth};
 
 /// The number, in a storage that has room for it.
 pub(super) fn stored<
-    S: BuiltinInteger + SignedStorage,
+    S: SignedStorage,
+    P: UnsignedOf<S>,
     T: SignedStorage + HasWidth<BITS>,
     const BITS: usize,
->(value: Int<S, BITS>) -> T
-where
-    S::Unsigned: UnsignedOf<S>,
+>(value: Int<S, BITS, P>) -> T
     ensures value { T.number result ≡ value }
     ensures value_in_range { InRange true BITS value }
 {
@@ -26,41 +25,38 @@ where
 /// The number of a storage, at a width that contains each number of the storage.
 fn fitted<
     S: SignedStorage + FitsIn<BITS>,
-    T: BuiltinInteger + SignedStorage + HasWidth<BITS>,
+    T: SignedStorage + HasWidth<BITS>,
+    U: UnsignedOf<T>,
     const BITS: usize,
->(value: S) -> Int<T, BITS>
-where
-    T::Unsigned: UnsignedOf<T>,
+>(value: S) -> Int<T, BITS, U>
     requires { InRange S.SIGNED S.WIDTH (S.number value) }
     ensures { result ≡ S.number value }
 {
-    Int::<T, BITS>::new(cast(value, BITS))
+    Int::<T, BITS, U>::new(cast(value, BITS))
 }
 
 /// The number, at a width that contains each number of its storage.
 fn widened<
-    S: BuiltinInteger + SignedStorage + FitsIn<BITS>,
-    T: BuiltinInteger + SignedStorage + HasWidth<BITS>,
+    S: SignedStorage + FitsIn<BITS>,
+    P: UnsignedOf<S>,
+    T: SignedStorage + HasWidth<BITS>,
+    U: UnsignedOf<T>,
     const FROM: usize,
     const BITS: usize,
->(value: Int<S, FROM>) -> Int<T, BITS>
-where
-    S::Unsigned: UnsignedOf<S>,
-    T::Unsigned: UnsignedOf<T>,
+>(value: Int<S, FROM, P>) -> Int<T, BITS, U>
     ensures value { result ≡ value }
     ensures value_in_range { InRange true FROM value }
 {
-    Int::<T, BITS>::new(cast(value.value(), BITS))
+    Int::<T, BITS, U>::new(cast(value.value(), BITS))
 }
 
-impl<T: BuiltinInteger + SignedStorage, const BITS: usize> From<Int<T, BITS>> for i8
+impl<T: SignedStorage, const BITS: usize, U: UnsignedOf<T>> From<Int<T, BITS, U>> for i8
 where
-    T::Unsigned: UnsignedOf<T>,
     i8: HasWidth<BITS>,
 {
     ghost from_gives = { λ x r. r ≡ x };
 
-    fn from(value: Int<T, BITS>) -> i8
+    fn from(value: Int<T, BITS, U>) -> i8
         ensures value { result ≡ value }
         ensures value_in_range { InRange true BITS value }
     {
@@ -68,14 +64,13 @@ where
     }
 }
 
-impl<T: BuiltinInteger + SignedStorage, const BITS: usize> From<Int<T, BITS>> for i16
+impl<T: SignedStorage, const BITS: usize, U: UnsignedOf<T>> From<Int<T, BITS, U>> for i16
 where
-    T::Unsigned: UnsignedOf<T>,
     i16: HasWidth<BITS>,
 {
     ghost from_gives = { λ x r. r ≡ x };
 
-    fn from(value: Int<T, BITS>) -> i16
+    fn from(value: Int<T, BITS, U>) -> i16
         ensures value { result ≡ value }
         ensures value_in_range { InRange true BITS value }
     {
@@ -83,14 +78,13 @@ where
     }
 }
 
-impl<T: BuiltinInteger + SignedStorage, const BITS: usize> From<Int<T, BITS>> for i32
+impl<T: SignedStorage, const BITS: usize, U: UnsignedOf<T>> From<Int<T, BITS, U>> for i32
 where
-    T::Unsigned: UnsignedOf<T>,
     i32: HasWidth<BITS>,
 {
     ghost from_gives = { λ x r. r ≡ x };
 
-    fn from(value: Int<T, BITS>) -> i32
+    fn from(value: Int<T, BITS, U>) -> i32
         ensures value { result ≡ value }
         ensures value_in_range { InRange true BITS value }
     {
@@ -98,14 +92,13 @@ where
     }
 }
 
-impl<T: BuiltinInteger + SignedStorage, const BITS: usize> From<Int<T, BITS>> for i64
+impl<T: SignedStorage, const BITS: usize, U: UnsignedOf<T>> From<Int<T, BITS, U>> for i64
 where
-    T::Unsigned: UnsignedOf<T>,
     i64: HasWidth<BITS>,
 {
     ghost from_gives = { λ x r. r ≡ x };
 
-    fn from(value: Int<T, BITS>) -> i64
+    fn from(value: Int<T, BITS, U>) -> i64
         ensures value { result ≡ value }
         ensures value_in_range { InRange true BITS value }
     {
@@ -113,14 +106,13 @@ where
     }
 }
 
-impl<T: BuiltinInteger + SignedStorage, const BITS: usize> From<Int<T, BITS>> for i128
+impl<T: SignedStorage, const BITS: usize, U: UnsignedOf<T>> From<Int<T, BITS, U>> for i128
 where
-    T::Unsigned: UnsignedOf<T>,
     i128: HasWidth<BITS>,
 {
     ghost from_gives = { λ x r. r ≡ x };
 
-    fn from(value: Int<T, BITS>) -> i128
+    fn from(value: Int<T, BITS, U>) -> i128
         ensures value { result ≡ value }
         ensures value_in_range { InRange true BITS value }
     {
@@ -128,72 +120,67 @@ where
     }
 }
 
-impl<T: BuiltinInteger + SignedStorage + HasWidth<BITS>, const BITS: usize> From<i8>
-    for Int<T, BITS>
+impl<T: SignedStorage + HasWidth<BITS>, const BITS: usize, U: UnsignedOf<T>> From<i8>
+    for Int<T, BITS, U>
 where
-    T::Unsigned: UnsignedOf<T>,
     i8: FitsIn<BITS>,
 {
     ghost from_gives = { λ x r. r ≡ x };
 
     #[tactic(auto, using(arbitrary_base::proofs::storages::Primitive::signed_laws))]
-    fn from(value: i8) -> Int<T, BITS> {
+    fn from(value: i8) -> Int<T, BITS, U> {
         fitted(value)
     }
 }
 
-impl<T: BuiltinInteger + SignedStorage + HasWidth<BITS>, const BITS: usize> From<i16>
-    for Int<T, BITS>
+impl<T: SignedStorage + HasWidth<BITS>, const BITS: usize, U: UnsignedOf<T>> From<i16>
+    for Int<T, BITS, U>
 where
-    T::Unsigned: UnsignedOf<T>,
     i16: FitsIn<BITS>,
 {
     ghost from_gives = { λ x r. r ≡ x };
 
     #[tactic(auto, using(arbitrary_base::proofs::storages::Primitive::signed_laws))]
-    fn from(value: i16) -> Int<T, BITS> {
+    fn from(value: i16) -> Int<T, BITS, U> {
         fitted(value)
     }
 }
 
-impl<T: BuiltinInteger + SignedStorage + HasWidth<BITS>, const BITS: usize> From<i32>
-    for Int<T, BITS>
+impl<T: SignedStorage + HasWidth<BITS>, const BITS: usize, U: UnsignedOf<T>> From<i32>
+    for Int<T, BITS, U>
 where
-    T::Unsigned: UnsignedOf<T>,
     i32: FitsIn<BITS>,
 {
     ghost from_gives = { λ x r. r ≡ x };
 
     #[tactic(auto, using(arbitrary_base::proofs::storages::Primitive::signed_laws))]
-    fn from(value: i32) -> Int<T, BITS> {
+    fn from(value: i32) -> Int<T, BITS, U> {
         fitted(value)
     }
 }
 
-impl<T: BuiltinInteger + SignedStorage + HasWidth<BITS>, const BITS: usize> From<i64>
-    for Int<T, BITS>
+impl<T: SignedStorage + HasWidth<BITS>, const BITS: usize, U: UnsignedOf<T>> From<i64>
+    for Int<T, BITS, U>
 where
-    T::Unsigned: UnsignedOf<T>,
     i64: FitsIn<BITS>,
 {
     ghost from_gives = { λ x r. r ≡ x };
 
     #[tactic(auto, using(arbitrary_base::proofs::storages::Primitive::signed_laws))]
-    fn from(value: i64) -> Int<T, BITS> {
+    fn from(value: i64) -> Int<T, BITS, U> {
         fitted(value)
     }
 }
 
-impl<T: BuiltinInteger + SignedStorage + HasWidth<BITS>, const BITS: usize> From<i128>
-    for Int<T, BITS>
+impl<T: SignedStorage + HasWidth<BITS>, const BITS: usize, U: UnsignedOf<T>> From<i128>
+    for Int<T, BITS, U>
 where
-    T::Unsigned: UnsignedOf<T>,
     i128: FitsIn<BITS>,
 {
     ghost from_gives = { λ x r. r ≡ x };
 
     #[tactic(auto, using(arbitrary_base::proofs::storages::Primitive::signed_laws))]
-    fn from(value: i128) -> Int<T, BITS> {
+    fn from(value: i128) -> Int<T, BITS, U> {
         fitted(value)
     }
 }

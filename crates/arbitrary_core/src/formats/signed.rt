@@ -4,14 +4,11 @@ ghost use Rattle.std.specs.Prelude.{Some};
 ghost use Rattle.std.specs.Fmt.{signed_decimal};
 
 use crate::signed::Int;
-use arbitrary_base::storage::{BuiltinInteger, SignedStorage, UnsignedOf};
+use arbitrary_base::storage::{SignedStorage, UnsignedOf};
 use arbitrary_traits::numbered::Numbered;
 use std::fmt;
 
-impl<T: BuiltinInteger + SignedStorage, const BITS: usize> fmt::Display for Int<T, BITS>
-where
-    T::Unsigned: UnsignedOf<T>,
-{
+impl<T: SignedStorage, const BITS: usize, U: UnsignedOf<T>> fmt::Display for Int<T, BITS, U> {
     ghost output = { λ x. Some (signed_decimal x) };
 
     fn fmt<W: fmt::Write>(&self, f: &mut fmt::Formatter<W>) -> fmt::Result {
@@ -19,10 +16,7 @@ where
     }
 }
 
-impl<T: BuiltinInteger + SignedStorage, const BITS: usize> fmt::Debug for Int<T, BITS>
-where
-    T::Unsigned: UnsignedOf<T>,
-{
+impl<T: SignedStorage, const BITS: usize, U: UnsignedOf<T>> fmt::Debug for Int<T, BITS, U> {
     ghost debug_output = { λ x. Some (signed_decimal x) };
 
     fn fmt<W: fmt::Write>(&self, f: &mut fmt::Formatter<W>) -> fmt::Result {

@@ -18,15 +18,9 @@ use arbitrary_traits::counterparts::{SignedCounterpart, UnsignedCounterpart};
 use arbitrary_traits::integer::{Integer, SignedInteger};
 use arbitrary_traits::numbered::Numbered;
 
-impl<T: BuiltinInteger + SignedStorage, const BITS: usize> Sealed for Int<T, BITS>
-where
-    T::Unsigned: UnsignedOf<T>,
-{}
+impl<T: SignedStorage, const BITS: usize, U: UnsignedOf<T>> Sealed for Int<T, BITS, U> {}
 
-impl<T: BuiltinInteger + SignedStorage, const BITS: usize> Numbered for Int<T, BITS>
-where
-    T::Unsigned: UnsignedOf<T>,
-{
+impl<T: SignedStorage, const BITS: usize, U: UnsignedOf<T>> Numbered for Int<T, BITS, U> {
     const BITS: usize = BITS;
 
     const IS_SIGNED: bool = T::SIGNED;
@@ -41,61 +35,58 @@ where
 
     #[tactic(auto, using(arbitrary_traits::proofs::Conversion::patterns))]
     fn to_u128_bits(self) -> u128 {
-        to_u128_bits(Int::<T, BITS>::value(self))
+        to_u128_bits(Int::<T, BITS, U>::value(self))
     }
 
-    fn from_u128_bits(pattern: u128) -> Int<T, BITS> {
-        Int::<T, BITS>::from_bits(from_low_bits(pattern, BITS))
+    fn from_u128_bits(pattern: u128) -> Int<T, BITS, U> {
+        Int::<T, BITS, U>::from_bits(from_low_bits(pattern, BITS))
     }
 
     ghost width_law = { λ h. (h.0, le_trans h.1 (T.width_law.1)) };
 }
 
-impl<T: BuiltinInteger + SignedStorage, const BITS: usize> Integer for Int<T, BITS>
-where
-    T::Unsigned: UnsignedOf<T>,
-{
+impl<T: SignedStorage, const BITS: usize, U: UnsignedOf<T>> Integer for Int<T, BITS, U> {
     type UnderlyingType = T;
 
-    type UnsignedInteger = UInt<T::Unsigned, BITS>;
+    type UnsignedInteger = UInt<U, BITS>;
 
-    type SignedInteger = Int<T, BITS>;
+    type SignedInteger = Int<T, BITS, U>;
 
     ghost underlying = { T.number };
 
     ghost unsigned_number = { λ x. x };
 
-    fn min_value() -> Int<T, BITS> {
-        Int::<T, BITS>::new(lowest(BITS))
+    fn min_value() -> Int<T, BITS, U> {
+        Int::<T, BITS, U>::new(lowest(BITS))
     }
 
-    fn max_value() -> Int<T, BITS> {
-        Int::<T, BITS>::new(highest(BITS))
+    fn max_value() -> Int<T, BITS, U> {
+        Int::<T, BITS, U>::new(highest(BITS))
     }
 
     #[tactic(auto, using(arbitrary_base::proofs::storages::CheckedSum::zeros))]
-    fn zero() -> Int<T, BITS> {
-        Int::<T, BITS>::new(from_low_bits(0, BITS))
+    fn zero() -> Int<T, BITS, U> {
+        Int::<T, BITS, U>::new(from_low_bits(0, BITS))
     }
 
-    fn new(value: T) -> Int<T, BITS> {
-        Int::<T, BITS>::new(value)
+    fn new(value: T) -> Int<T, BITS, U> {
+        Int::<T, BITS, U>::new(value)
     }
 
-    fn try_new(value: T) -> Result<Int<T, BITS>, TryNewError> {
-        Int::<T, BITS>::try_new(value)
+    fn try_new(value: T) -> Result<Int<T, BITS, U>, TryNewError> {
+        Int::<T, BITS, U>::try_new(value)
     }
 
     fn value(self) -> T {
-        Int::<T, BITS>::value(self)
+        Int::<T, BITS, U>::value(self)
     }
 
-    fn to_unsigned(self) -> UInt<T::Unsigned, BITS> {
-        UInt::<T::Unsigned, BITS>::new(self.to_bits())
+    fn to_unsigned(self) -> UInt<U, BITS> {
+        UInt::<U, BITS>::new(self.to_bits())
     }
 
-    fn from_unsigned(value: UInt<T::Unsigned, BITS>) -> Int<T, BITS> {
-        Int::<T, BITS>::from_bits(UInt::<T::Unsigned, BITS>::value(value))
+    fn from_unsigned(value: UInt<U, BITS>) -> Int<T, BITS, U> {
+        Int::<T, BITS, U>::from_bits(UInt::<U, BITS>::value(value))
     }
 
     ghost clone_law = { λ a b h. h };
@@ -145,10 +136,7 @@ where
     ghost assign_law = { all_assigned };
 }
 
-impl<T: BuiltinInteger + SignedStorage, const BITS: usize> SignedInteger for Int<T, BITS>
-where
-    T::Unsigned: UnsignedOf<T>,
-{
+impl<T: SignedStorage, const BITS: usize, U: UnsignedOf<T>> SignedInteger for Int<T, BITS, U> {
     ghost signed_law = { T.signed_law };
 
     ghost can_neg_law = { λ a h. h };
@@ -156,22 +144,17 @@ where
     ghost neg_law = { λ a r h. h };
 }
 
-impl<T: BuiltinInteger + SignedStorage, const BITS: usize> SignedCounterpart<Int<T, BITS>>
-    for Int<T, BITS>
-where
-    T::Unsigned: UnsignedOf<T>,
-{
+impl<T: SignedStorage, const BITS: usize, U: UnsignedOf<T>> SignedCounterpart<Int<T, BITS, U>>
+    for Int<T, BITS, U> {
     ghost width_law = { refl };
 }
 
-impl<T: BuiltinInteger + SignedStorage, const BITS: usize> UnsignedCounterpart<Int<T, BITS>>
-    for UInt<T::Unsigned, BITS>
+impl<T: SignedStorage, const BITS: usize, U: BuiltinInteger + UnsignedOf<T>> UnsignedCounterpart<
+    Int<T, BITS, U>,
+> for UInt<U, BITS>
 where
-    T::Unsigned: BuiltinInteger + UnsignedOf<T>,
-    <T::Unsigned as BuiltinInteger>::Signed: BuiltinInteger + SignedOf<T::Unsigned>,
-    <<T::Unsigned as BuiltinInteger>::Signed as BuiltinInteger>::Unsigned: UnsignedOf<
-        <T::Unsigned as BuiltinInteger>::Signed,
-    >,
+    U: UnsignedOf<U::Signed>,
+    U::Signed: SignedOf<U>,
 {
     ghost width_law = { refl };
 

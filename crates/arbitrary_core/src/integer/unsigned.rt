@@ -48,14 +48,14 @@ impl<T: UnsignedStorage, const BITS: usize> Numbered for UInt<T, BITS> {
 
 impl<T: BuiltinInteger + UnsignedStorage, const BITS: usize> Integer for UInt<T, BITS>
 where
-    T::Signed: BuiltinInteger + SignedOf<T>,
-    <T::Signed as BuiltinInteger>::Unsigned: UnsignedOf<T::Signed>,
+    T: UnsignedOf<T::Signed>,
+    T::Signed: SignedOf<T>,
 {
     type UnderlyingType = T;
 
     type UnsignedInteger = UInt<T, BITS>;
 
-    type SignedInteger = Int<T::Signed, BITS>;
+    type SignedInteger = Int<T::Signed, BITS, T>;
 
     ghost underlying = { T.number };
 
@@ -143,8 +143,8 @@ where
 
 impl<T: BuiltinInteger + UnsignedStorage, const BITS: usize> UnsignedInteger for UInt<T, BITS>
 where
-    T::Signed: BuiltinInteger + SignedOf<T>,
-    <T::Signed as BuiltinInteger>::Unsigned: UnsignedOf<T::Signed>,
+    T: UnsignedOf<T::Signed>,
+    T::Signed: SignedOf<T>,
 {
     ghost unsigned_law = { T.unsigned_law };
 
@@ -154,8 +154,8 @@ where
 impl<T: BuiltinInteger + UnsignedStorage, const BITS: usize> UnsignedCounterpart<UInt<T, BITS>>
     for UInt<T, BITS>
 where
-    T::Signed: BuiltinInteger + SignedOf<T>,
-    <T::Signed as BuiltinInteger>::Unsigned: UnsignedOf<T::Signed>,
+    T: UnsignedOf<T::Signed>,
+    T::Signed: SignedOf<T>,
 {
     ghost width_law = { refl };
 
@@ -163,10 +163,10 @@ where
 }
 
 impl<T: BuiltinInteger + UnsignedStorage, const BITS: usize> SignedCounterpart<UInt<T, BITS>>
-    for Int<T::Signed, BITS>
+    for Int<T::Signed, BITS, T>
 where
-    T::Signed: BuiltinInteger + SignedOf<T>,
-    <T::Signed as BuiltinInteger>::Unsigned: UnsignedOf<T::Signed>,
+    T: UnsignedOf<T::Signed>,
+    T::Signed: SignedOf<T>,
 {
     ghost width_law = { refl };
 }

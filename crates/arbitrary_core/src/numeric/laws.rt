@@ -6,7 +6,7 @@ ghost use Rattle.arbitrary_base.specs.Range.{InRange};
 
 use crate::signed::Int;
 use crate::unsigned::UInt;
-use arbitrary_base::storage::{BuiltinInteger, SignedStorage, UnsignedOf, UnsignedStorage};
+use arbitrary_base::storage::{SignedStorage, UnsignedOf, UnsignedStorage};
 use num_traits::Number;
 
 /// An integer fits `UInt`, as `num_traits` means it, exactly if it is in range.
@@ -17,8 +17,6 @@ pub fn unsigned_range_law<T: UnsignedStorage, const BITS: usize>()
 
 /// An integer fits `Int`, as `num_traits` means it, exactly if it is in range.
 #[tactic(auto, using(arbitrary_base::proofs::modular::Representable::ranges))]
-pub fn signed_range_law<T: BuiltinInteger + SignedStorage, const BITS: usize>()
-where
-    T::Unsigned: UnsignedOf<T>,
-    ensures { (x : ℤ) → 1 ≤ BITS → ⟦<Int<T, BITS> as Number>⟧.fits x ↔ InRange T.SIGNED BITS x }
+pub fn signed_range_law<T: SignedStorage, const BITS: usize, U: UnsignedOf<T>>()
+    ensures { (x : ℤ) → 1 ≤ BITS → ⟦<Int<T, BITS, U> as Number>⟧.fits x ↔ InRange T.SIGNED BITS x }
 {}

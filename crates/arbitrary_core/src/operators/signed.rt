@@ -6,15 +6,13 @@ ghost use Rattle.std.specs.Prelude.{◌≡◌, ◌≢◌, ◌+ℤ◌, ◌-ℤ◌
 ghost use Rattle.arbitrary_base.specs.Range.{InRange};
 
 use crate::signed::Int;
-use arbitrary_base::storage::{BuiltinInteger, SignedStorage, UnsignedOf};
+use arbitrary_base::storage::{SignedStorage, UnsignedOf};
 use arbitrary_base::wrapping;
 use std::ops::{Add, AddAssign, Div, DivAssign, Mul, MulAssign, Neg, Sub, SubAssign};
 
-impl<T: BuiltinInteger + SignedStorage, const BITS: usize> Add<Int<T, BITS>> for Int<T, BITS>
-where
-    T::Unsigned: UnsignedOf<T>,
-{
-    type Output = Int<T, BITS>;
+impl<T: SignedStorage, const BITS: usize, U: UnsignedOf<T>> Add<Int<T, BITS, U>>
+    for Int<T, BITS, U> {
+    type Output = Int<T, BITS, U>;
 
     ghost can_add = { λ a b. let sum = a +ℤ b in
         InRange T.SIGNED BITS a → InRange T.SIGNED BITS b → InRange T.SIGNED BITS sum };
@@ -23,31 +21,27 @@ where
         × InRange T.SIGNED BITS a × InRange T.SIGNED BITS b };
 
     #[tactic(auto, using(arbitrary_base::proofs::storages::CheckedSum::fitting))]
-    fn add(self, rhs: Int<T, BITS>) -> Int<T, BITS> {
-        Int::<T, BITS>::new(wrapping::add(self.value(), rhs.value(), BITS))
+    fn add(self, rhs: Int<T, BITS, U>) -> Int<T, BITS, U> {
+        Int::<T, BITS, U>::new(wrapping::add(self.value(), rhs.value(), BITS))
     }
 }
 
-impl<T: BuiltinInteger + SignedStorage, const BITS: usize> AddAssign<Int<T, BITS>> for Int<T, BITS>
-where
-    T::Unsigned: UnsignedOf<T>,
-{
+impl<T: SignedStorage, const BITS: usize, U: UnsignedOf<T>> AddAssign<Int<T, BITS, U>>
+    for Int<T, BITS, U> {
     ghost can_add_assign = { λ a b. let sum = a +ℤ b in
         InRange T.SIGNED BITS a → InRange T.SIGNED BITS b → InRange T.SIGNED BITS sum };
 
     ghost add_assign_gives = { λ a b r. (r ≡ a +ℤ b)
         × InRange T.SIGNED BITS a × InRange T.SIGNED BITS b };
 
-    fn add_assign(&mut self, rhs: Int<T, BITS>) {
+    fn add_assign(&mut self, rhs: Int<T, BITS, U>) {
         *self = *self + rhs;
     }
 }
 
-impl<T: BuiltinInteger + SignedStorage, const BITS: usize> Sub<Int<T, BITS>> for Int<T, BITS>
-where
-    T::Unsigned: UnsignedOf<T>,
-{
-    type Output = Int<T, BITS>;
+impl<T: SignedStorage, const BITS: usize, U: UnsignedOf<T>> Sub<Int<T, BITS, U>>
+    for Int<T, BITS, U> {
+    type Output = Int<T, BITS, U>;
 
     ghost can_sub = { λ a b. let difference = a -ℤ b in
         InRange T.SIGNED BITS a → InRange T.SIGNED BITS b → InRange T.SIGNED BITS difference };
@@ -56,31 +50,27 @@ where
         × InRange T.SIGNED BITS a × InRange T.SIGNED BITS b };
 
     #[tactic(auto, using(arbitrary_base::proofs::storages::CheckedSum::fitting))]
-    fn sub(self, rhs: Int<T, BITS>) -> Int<T, BITS> {
-        Int::<T, BITS>::new(wrapping::sub(self.value(), rhs.value(), BITS))
+    fn sub(self, rhs: Int<T, BITS, U>) -> Int<T, BITS, U> {
+        Int::<T, BITS, U>::new(wrapping::sub(self.value(), rhs.value(), BITS))
     }
 }
 
-impl<T: BuiltinInteger + SignedStorage, const BITS: usize> SubAssign<Int<T, BITS>> for Int<T, BITS>
-where
-    T::Unsigned: UnsignedOf<T>,
-{
+impl<T: SignedStorage, const BITS: usize, U: UnsignedOf<T>> SubAssign<Int<T, BITS, U>>
+    for Int<T, BITS, U> {
     ghost can_sub_assign = { λ a b. let difference = a -ℤ b in
         InRange T.SIGNED BITS a → InRange T.SIGNED BITS b → InRange T.SIGNED BITS difference };
 
     ghost sub_assign_gives = { λ a b r. (r ≡ a -ℤ b)
         × InRange T.SIGNED BITS a × InRange T.SIGNED BITS b };
 
-    fn sub_assign(&mut self, rhs: Int<T, BITS>) {
+    fn sub_assign(&mut self, rhs: Int<T, BITS, U>) {
         *self = *self - rhs;
     }
 }
 
-impl<T: BuiltinInteger + SignedStorage, const BITS: usize> Mul<Int<T, BITS>> for Int<T, BITS>
-where
-    T::Unsigned: UnsignedOf<T>,
-{
-    type Output = Int<T, BITS>;
+impl<T: SignedStorage, const BITS: usize, U: UnsignedOf<T>> Mul<Int<T, BITS, U>>
+    for Int<T, BITS, U> {
+    type Output = Int<T, BITS, U>;
 
     ghost can_mul = { λ a b. let product = a *ℤ b in
         let bound = unsigned_abs a * unsigned_abs b in
@@ -91,15 +81,13 @@ where
         (r ≡ a *ℤ b) × (unsigned_abs r ≤ bound) };
 
     #[tactic(auto, using(crate::proofs::Magnitude::fitting_product))]
-    fn mul(self, rhs: Int<T, BITS>) -> Int<T, BITS> {
-        Int::<T, BITS>::new(wrapping::mul(self.value(), rhs.value(), BITS))
+    fn mul(self, rhs: Int<T, BITS, U>) -> Int<T, BITS, U> {
+        Int::<T, BITS, U>::new(wrapping::mul(self.value(), rhs.value(), BITS))
     }
 }
 
-impl<T: BuiltinInteger + SignedStorage, const BITS: usize> MulAssign<Int<T, BITS>> for Int<T, BITS>
-where
-    T::Unsigned: UnsignedOf<T>,
-{
+impl<T: SignedStorage, const BITS: usize, U: UnsignedOf<T>> MulAssign<Int<T, BITS, U>>
+    for Int<T, BITS, U> {
     ghost can_mul_assign = { λ a b. let product = a *ℤ b in
         let bound = unsigned_abs a * unsigned_abs b in
         InRange T.SIGNED BITS a → InRange T.SIGNED BITS b → unsigned_abs product ≤ bound
@@ -108,16 +96,14 @@ where
     ghost mul_assign_gives = { λ a b r. let bound = unsigned_abs a * unsigned_abs b in
         (r ≡ a *ℤ b) × (unsigned_abs r ≤ bound) };
 
-    fn mul_assign(&mut self, rhs: Int<T, BITS>) {
+    fn mul_assign(&mut self, rhs: Int<T, BITS, U>) {
         *self = *self * rhs;
     }
 }
 
-impl<T: BuiltinInteger + SignedStorage, const BITS: usize> Div<Int<T, BITS>> for Int<T, BITS>
-where
-    T::Unsigned: UnsignedOf<T>,
-{
-    type Output = Int<T, BITS>;
+impl<T: SignedStorage, const BITS: usize, U: UnsignedOf<T>> Div<Int<T, BITS, U>>
+    for Int<T, BITS, U> {
+    type Output = Int<T, BITS, U>;
 
     ghost can_div = { λ a b. let quotient = int_div a b in (b ≢ pos 0)
         × (InRange T.SIGNED BITS a → InRange T.SIGNED BITS b → InRange T.SIGNED BITS quotient) };
@@ -125,37 +111,32 @@ where
     ghost div_gives = { λ a b r. r ≡ int_div a b };
 
     #[tactic(auto, using(arbitrary_base::proofs::storages::CheckedSum::fitting))]
-    fn div(self, rhs: Int<T, BITS>) -> Int<T, BITS> {
-        Int::<T, BITS>::new(wrapping::div(self.value(), rhs.value(), BITS))
+    fn div(self, rhs: Int<T, BITS, U>) -> Int<T, BITS, U> {
+        Int::<T, BITS, U>::new(wrapping::div(self.value(), rhs.value(), BITS))
     }
 }
 
-impl<T: BuiltinInteger + SignedStorage, const BITS: usize> DivAssign<Int<T, BITS>> for Int<T, BITS>
-where
-    T::Unsigned: UnsignedOf<T>,
-{
+impl<T: SignedStorage, const BITS: usize, U: UnsignedOf<T>> DivAssign<Int<T, BITS, U>>
+    for Int<T, BITS, U> {
     ghost can_div_assign = { λ a b. let quotient = int_div a b in (b ≢ pos 0)
         × (InRange T.SIGNED BITS a → InRange T.SIGNED BITS b → InRange T.SIGNED BITS quotient) };
 
     ghost div_assign_gives = { λ a b r. r ≡ int_div a b };
 
-    fn div_assign(&mut self, rhs: Int<T, BITS>) {
+    fn div_assign(&mut self, rhs: Int<T, BITS, U>) {
         *self = *self / rhs;
     }
 }
 
-impl<T: BuiltinInteger + SignedStorage, const BITS: usize> Neg for Int<T, BITS>
-where
-    T::Unsigned: UnsignedOf<T>,
-{
-    type Output = Int<T, BITS>;
+impl<T: SignedStorage, const BITS: usize, U: UnsignedOf<T>> Neg for Int<T, BITS, U> {
+    type Output = Int<T, BITS, U>;
 
     ghost can_neg = { λ a. InRange T.SIGNED BITS (neg_ℤ a) };
 
     ghost neg_gives = { λ a r. r ≡ neg_ℤ a };
 
     #[tactic(auto, using(arbitrary_base::proofs::storages::CheckedSum::fitting))]
-    fn neg(self) -> Int<T, BITS> {
-        Int::<T, BITS>::new(wrapping::neg(self.value(), BITS))
+    fn neg(self) -> Int<T, BITS, U> {
+        Int::<T, BITS, U>::new(wrapping::neg(self.value(), BITS))
     }
 }

@@ -7,13 +7,10 @@ ghost use Rattle.arbitrary_base.specs.Residue.{residue};
 
 use crate::radix;
 use crate::signed::Int;
-use arbitrary_base::storage::{BuiltinInteger, SignedStorage, UnsignedOf};
+use arbitrary_base::storage::{SignedStorage, UnsignedOf};
 use std::fmt;
 
-impl<T: BuiltinInteger + SignedStorage, const BITS: usize> fmt::LowerHex for Int<T, BITS>
-where
-    T::Unsigned: UnsignedOf<T>,
-{
+impl<T: SignedStorage, const BITS: usize, U: UnsignedOf<T>> fmt::LowerHex for Int<T, BITS, U> {
     fn fmt<W: fmt::Write>(&self, f: &mut fmt::Formatter<W>) -> fmt::Result
         ensures pattern { let text = digits 16 false (residue T.WIDTH self.now) in
             T.WIDTH ≤ 64 → WritesOnOk W.write_str_gives f.old result text f.new }
@@ -25,10 +22,7 @@ where
     }
 }
 
-impl<T: BuiltinInteger + SignedStorage, const BITS: usize> fmt::UpperHex for Int<T, BITS>
-where
-    T::Unsigned: UnsignedOf<T>,
-{
+impl<T: SignedStorage, const BITS: usize, U: UnsignedOf<T>> fmt::UpperHex for Int<T, BITS, U> {
     fn fmt<W: fmt::Write>(&self, f: &mut fmt::Formatter<W>) -> fmt::Result
         ensures pattern { let text = digits 16 true (residue T.WIDTH self.now) in
             T.WIDTH ≤ 64 → WritesOnOk W.write_str_gives f.old result text f.new }
@@ -40,10 +34,7 @@ where
     }
 }
 
-impl<T: BuiltinInteger + SignedStorage, const BITS: usize> fmt::Octal for Int<T, BITS>
-where
-    T::Unsigned: UnsignedOf<T>,
-{
+impl<T: SignedStorage, const BITS: usize, U: UnsignedOf<T>> fmt::Octal for Int<T, BITS, U> {
     fn fmt<W: fmt::Write>(&self, f: &mut fmt::Formatter<W>) -> fmt::Result
         ensures pattern { let text = digits 8 false (residue T.WIDTH self.now) in
             T.WIDTH ≤ 64 → WritesOnOk W.write_str_gives f.old result text f.new }
@@ -55,10 +46,7 @@ where
     }
 }
 
-impl<T: BuiltinInteger + SignedStorage, const BITS: usize> fmt::Binary for Int<T, BITS>
-where
-    T::Unsigned: UnsignedOf<T>,
-{
+impl<T: SignedStorage, const BITS: usize, U: UnsignedOf<T>> fmt::Binary for Int<T, BITS, U> {
     fn fmt<W: fmt::Write>(&self, f: &mut fmt::Formatter<W>) -> fmt::Result
         ensures pattern { let text = digits 2 false (residue T.WIDTH self.now) in
             T.WIDTH ≤ 64 → WritesOnOk W.write_str_gives f.old result text f.new }
@@ -71,10 +59,7 @@ where
 }
 
 // Format strings use this for `{:x}`, `{:X}`, `{:o}` and `{:b}`.
-impl<T: BuiltinInteger + SignedStorage, const BITS: usize> fmt::HasDigits for Int<T, BITS>
-where
-    T::Unsigned: UnsignedOf<T>,
-{
+impl<T: SignedStorage, const BITS: usize, U: UnsignedOf<T>> fmt::HasDigits for Int<T, BITS, U> {
     ghost word = { λ x. cond (nat_le T.WIDTH 64) (Some (residue T.WIDTH x)) None };
 
     fn bits(self) -> (u64, u64) {

@@ -8,22 +8,20 @@ ghost use Rattle.arbitrary_base.specs.BitList.{bits, val, fill, shl as moved_lef
 
 use crate::signed::Int;
 use arbitrary_base::shifts;
-use arbitrary_base::storage::{BuiltinInteger, SignedStorage, UnsignedOf};
+use arbitrary_base::storage::{SignedStorage, UnsignedOf};
 use arbitrary_traits::shift_amount::ShiftAmount;
 use std::ops::{Shl, ShlAssign, Shr, ShrAssign};
 
-impl<T: BuiltinInteger + SignedStorage, const BITS: usize, S: ShiftAmount> Shl<S> for Int<T, BITS>
-where
-    T::Unsigned: UnsignedOf<T>,
-{
-    type Output = Int<T, BITS>;
+impl<T: SignedStorage, const BITS: usize, U: UnsignedOf<T>, S: ShiftAmount> Shl<S>
+    for Int<T, BITS, U> {
+    type Output = Int<T, BITS, U>;
 
     ghost can_shl = { λ a k. (pos 0 ≤ℤ S.amount k) × (S.amount k <ℤ pos BITS) };
 
     ghost shl_gives = { λ a k r. let places = unsigned_abs (S.amount k) in
         r ≡ val T.SIGNED (moved_left (bits BITS a) places) };
 
-    fn shl(self, amount: S) -> Int<T, BITS>
+    fn shl(self, amount: S) -> Int<T, BITS, U>
         requires { (pos 0 ≤ℤ S.amount amount) × (S.amount amount <ℤ pos BITS) }
         ensures operation { let places = unsigned_abs (S.amount amount) in
             result ≡ shifted_left T.SIGNED BITS self places }
@@ -34,15 +32,12 @@ where
         ensures none { unsigned_abs (S.amount amount) ≡ 0 → result ≡ self }
         ensures self_in_range { InRange T.SIGNED BITS self }
     {
-        Int::<T, BITS>::from_bits(shifts::shl(self.to_bits(), amount.to_amount(), BITS))
+        Int::<T, BITS, U>::from_bits(shifts::shl(self.to_bits(), amount.to_amount(), BITS))
     }
 }
 
-impl<T: BuiltinInteger + SignedStorage, const BITS: usize, S: ShiftAmount> ShlAssign<S>
-    for Int<T, BITS>
-where
-    T::Unsigned: UnsignedOf<T>,
-{
+impl<T: SignedStorage, const BITS: usize, U: UnsignedOf<T>, S: ShiftAmount> ShlAssign<S>
+    for Int<T, BITS, U> {
     ghost can_shl_assign = { λ a k. (pos 0 ≤ℤ S.amount k) × (S.amount k <ℤ pos BITS) };
 
     ghost shl_assign_gives = { λ a k r. let places = unsigned_abs (S.amount k) in
@@ -64,11 +59,9 @@ where
     }
 }
 
-impl<T: BuiltinInteger + SignedStorage, const BITS: usize, S: ShiftAmount> Shr<S> for Int<T, BITS>
-where
-    T::Unsigned: UnsignedOf<T>,
-{
-    type Output = Int<T, BITS>;
+impl<T: SignedStorage, const BITS: usize, U: UnsignedOf<T>, S: ShiftAmount> Shr<S>
+    for Int<T, BITS, U> {
+    type Output = Int<T, BITS, U>;
 
     ghost can_shr = { λ a k. (pos 0 ≤ℤ S.amount k) × (S.amount k <ℤ pos BITS) };
 
@@ -76,7 +69,7 @@ where
         let list = bits BITS a in
         r ≡ val T.SIGNED (moved_right list places (fill T.SIGNED list)) };
 
-    fn shr(self, amount: S) -> Int<T, BITS>
+    fn shr(self, amount: S) -> Int<T, BITS, U>
         requires { (pos 0 ≤ℤ S.amount amount) × (S.amount amount <ℤ pos BITS) }
         ensures operation { let places = unsigned_abs (S.amount amount) in
             result ≡ shifted_right T.SIGNED BITS self places }
@@ -90,15 +83,12 @@ where
         ensures result_in_range { InRange T.SIGNED (BITS - unsigned_abs (S.amount amount)) result }
         ensures self_in_range { InRange T.SIGNED BITS self }
     {
-        Int::<T, BITS>::new(shifts::shr(self.value(), amount.to_amount(), BITS))
+        Int::<T, BITS, U>::new(shifts::shr(self.value(), amount.to_amount(), BITS))
     }
 }
 
-impl<T: BuiltinInteger + SignedStorage, const BITS: usize, S: ShiftAmount> ShrAssign<S>
-    for Int<T, BITS>
-where
-    T::Unsigned: UnsignedOf<T>,
-{
+impl<T: SignedStorage, const BITS: usize, U: UnsignedOf<T>, S: ShiftAmount> ShrAssign<S>
+    for Int<T, BITS, U> {
     ghost can_shr_assign = { λ a k. (pos 0 ≤ℤ S.amount k) × (S.amount k <ℤ pos BITS) };
 
     ghost shr_assign_gives = { λ a k r. let places = unsigned_abs (S.amount k) in

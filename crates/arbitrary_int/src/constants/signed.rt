@@ -1,53 +1,27 @@
 //! The constants of `Int`, in each storage. `unsigned` has those of `UInt`.
 
-ghost use Rattle.std.specs.Prelude.{◌≡◌, ◌+ℤ◌, ◌-ℤ◌, ◌-◌, ◌^◌, neg_ℤ, nat_eq, if◌then◌else◌, pos, true, refl};
+ghost use Rattle.std.specs.Prelude.{◌≡◌, ◌+ℤ◌, ◌-ℤ◌, ◌≤ℤ◌, ◌-◌, ◌^◌, neg_ℤ, nat_eq, if◌then◌else◌, pos, true, refl};
 ghost use Rattle.std.proofs.Common.{true≢false};
 ghost use Rattle.std.specs.Int.{IsInRange};
 ghost use Rattle.arbitrary_base.specs.Range.{lo, hi};
 
 use crate::constants::Constants;
-use arbitrary_base::storage::{BuiltinInteger, SignedStorage, UnsignedOf};
+use arbitrary_base::storage::{SignedStorage, UnsignedOf};
 use arbitrary_base::truncation::low_mask;
 use arbitrary_core::signed::Int;
 use arbitrary_widths::HasWidth;
 
-/// The number 0, whose bits are all zero.
-const fn zero<T: BuiltinInteger + SignedStorage, const BITS: usize>(
-    bits: T::Unsigned,
-) -> Int<T, BITS>
-where
-    T::Unsigned: UnsignedOf<T>,
+/// The number with these bits, of which at most the highest is one if they are not those of the greatest number: 0, or an
+/// end of the range.
+const fn of_bits<T: SignedStorage, const BITS: usize, U: UnsignedOf<T>>(bits: U) -> Int<T, BITS, U>
     requires width { IsInRange 1 T.WIDTH BITS }
-    requires bits { T.Unsigned.number bits ≡ pos 0 }
-    ensures { result ≡ pos 0 }
+    requires low { pos 0 ≤ℤ U.number bits }
+    requires high { U.number bits ≤ℤ pos (2 ^ (BITS - 1)) }
+    ensures zero { U.number bits ≡ pos 0 → result ≡ pos 0 }
+    ensures least { U.number bits ≡ pos (2 ^ (BITS - 1)) → result ≡ lo true BITS }
+    ensures greatest { U.number bits +ℤ pos 1 ≡ pos (2 ^ (BITS - 1)) → result ≡ hi true BITS }
 {
-    Int::<T, BITS>::from_bits(bits)
-}
-
-/// The least number, of whose bits only the highest is one.
-const fn least<T: BuiltinInteger + SignedStorage, const BITS: usize>(
-    bits: T::Unsigned,
-) -> Int<T, BITS>
-where
-    T::Unsigned: UnsignedOf<T>,
-    requires width { IsInRange 1 T.WIDTH BITS }
-    requires bits { T.Unsigned.number bits ≡ pos (2 ^ (BITS - 1)) }
-    ensures { result ≡ lo true BITS }
-{
-    Int::<T, BITS>::from_bits(bits)
-}
-
-/// The greatest number, of whose bits only the highest is zero.
-const fn greatest<T: BuiltinInteger + SignedStorage, const BITS: usize>(
-    bits: T::Unsigned,
-) -> Int<T, BITS>
-where
-    T::Unsigned: UnsignedOf<T>,
-    requires width { IsInRange 1 T.WIDTH BITS }
-    requires bits { T.Unsigned.number bits +ℤ pos 1 ≡ pos (2 ^ (BITS - 1)) }
-    ensures { result ≡ hi true BITS }
-{
-    Int::<T, BITS>::from_bits(bits)
+    Int::<T, BITS, U>::from_bits(bits)
 }
 
 impl<const BITS: usize> Constants for Int<i8, BITS>
@@ -62,11 +36,11 @@ where
 
     ghost MASK = { if nat_eq BITS 8 then neg_ℤ (pos 1) else pos (2 ^ BITS) -ℤ pos 1 };
 
-    const ZERO: Int<i8, BITS> = zero::<i8, BITS>(0);
+    const ZERO: Int<i8, BITS> = of_bits::<i8, BITS, u8>(0);
 
-    const MIN: Int<i8, BITS> = least::<i8, BITS>(low_mask(BITS - 1) as u8 + 1);
+    const MIN: Int<i8, BITS> = of_bits::<i8, BITS, u8>(low_mask(BITS - 1) as u8 + 1);
 
-    const MAX: Int<i8, BITS> = greatest::<i8, BITS>(low_mask(BITS - 1) as u8);
+    const MAX: Int<i8, BITS> = of_bits::<i8, BITS, u8>(low_mask(BITS - 1) as u8);
 
     const MASK: i8 = if BITS == 8 { -1 } else { low_mask(BITS) as i8 };
 
@@ -91,11 +65,11 @@ where
 
     ghost MASK = { if nat_eq BITS 16 then neg_ℤ (pos 1) else pos (2 ^ BITS) -ℤ pos 1 };
 
-    const ZERO: Int<i16, BITS> = zero::<i16, BITS>(0);
+    const ZERO: Int<i16, BITS> = of_bits::<i16, BITS, u16>(0);
 
-    const MIN: Int<i16, BITS> = least::<i16, BITS>(low_mask(BITS - 1) as u16 + 1);
+    const MIN: Int<i16, BITS> = of_bits::<i16, BITS, u16>(low_mask(BITS - 1) as u16 + 1);
 
-    const MAX: Int<i16, BITS> = greatest::<i16, BITS>(low_mask(BITS - 1) as u16);
+    const MAX: Int<i16, BITS> = of_bits::<i16, BITS, u16>(low_mask(BITS - 1) as u16);
 
     const MASK: i16 = if BITS == 16 {
         -1
@@ -124,11 +98,11 @@ where
 
     ghost MASK = { if nat_eq BITS 32 then neg_ℤ (pos 1) else pos (2 ^ BITS) -ℤ pos 1 };
 
-    const ZERO: Int<i32, BITS> = zero::<i32, BITS>(0);
+    const ZERO: Int<i32, BITS> = of_bits::<i32, BITS, u32>(0);
 
-    const MIN: Int<i32, BITS> = least::<i32, BITS>(low_mask(BITS - 1) as u32 + 1);
+    const MIN: Int<i32, BITS> = of_bits::<i32, BITS, u32>(low_mask(BITS - 1) as u32 + 1);
 
-    const MAX: Int<i32, BITS> = greatest::<i32, BITS>(low_mask(BITS - 1) as u32);
+    const MAX: Int<i32, BITS> = of_bits::<i32, BITS, u32>(low_mask(BITS - 1) as u32);
 
     const MASK: i32 = if BITS == 32 {
         -1
@@ -157,11 +131,11 @@ where
 
     ghost MASK = { if nat_eq BITS 64 then neg_ℤ (pos 1) else pos (2 ^ BITS) -ℤ pos 1 };
 
-    const ZERO: Int<i64, BITS> = zero::<i64, BITS>(0);
+    const ZERO: Int<i64, BITS> = of_bits::<i64, BITS, u64>(0);
 
-    const MIN: Int<i64, BITS> = least::<i64, BITS>(low_mask(BITS - 1) as u64 + 1);
+    const MIN: Int<i64, BITS> = of_bits::<i64, BITS, u64>(low_mask(BITS - 1) as u64 + 1);
 
-    const MAX: Int<i64, BITS> = greatest::<i64, BITS>(low_mask(BITS - 1) as u64);
+    const MAX: Int<i64, BITS> = of_bits::<i64, BITS, u64>(low_mask(BITS - 1) as u64);
 
     const MASK: i64 = if BITS == 64 {
         -1
@@ -190,11 +164,11 @@ where
 
     ghost MASK = { if nat_eq BITS 128 then neg_ℤ (pos 1) else pos (2 ^ BITS) -ℤ pos 1 };
 
-    const ZERO: Int<i128, BITS> = zero::<i128, BITS>(0);
+    const ZERO: Int<i128, BITS> = of_bits::<i128, BITS, u128>(0);
 
-    const MIN: Int<i128, BITS> = least::<i128, BITS>(1 << (BITS - 1));
+    const MIN: Int<i128, BITS> = of_bits::<i128, BITS, u128>(1 << (BITS - 1));
 
-    const MAX: Int<i128, BITS> = greatest::<i128, BITS>(low_mask(BITS - 1));
+    const MAX: Int<i128, BITS> = of_bits::<i128, BITS, u128>(low_mask(BITS - 1));
 
     const MASK: i128 = if BITS == 128 {
         -1

@@ -29,19 +29,16 @@ pub trait ValidWidth: Integer {
 impl<T: BuiltinInteger + UnsignedStorage + HasWidth<BITS>, const BITS: usize> ValidWidth
     for UInt<T, BITS>
 where
-    T::Signed: BuiltinInteger + SignedOf<T>,
-    <T::Signed as BuiltinInteger>::Unsigned: UnsignedOf<T::Signed>,
+    T: UnsignedOf<T::Signed>,
+    T::Signed: SignedOf<T>,
 {
     ghost valid_law = { T.valid_law };
 
     ghost ends_law = { ends-in_order T.SIGNED BITS (T.valid_law.0) };
 }
 
-impl<T: BuiltinInteger + SignedStorage + HasWidth<BITS>, const BITS: usize> ValidWidth
-    for Int<T, BITS>
-where
-    T::Unsigned: UnsignedOf<T>,
-{
+impl<T: SignedStorage + HasWidth<BITS>, const BITS: usize, U: UnsignedOf<T>> ValidWidth
+    for Int<T, BITS, U> {
     ghost valid_law = { T.valid_law };
 
     ghost ends_law = { ends-in_order T.SIGNED BITS (T.valid_law.0) };

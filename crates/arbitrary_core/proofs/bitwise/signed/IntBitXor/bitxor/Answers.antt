@@ -17,7 +17,7 @@ returns g c =
     let p = bits-stays g.row.BITS c.args.self _ c.to_bits.ensures.value in
     let q = bits-stays g.row.BITS c.args.rhs _ c.to_bits-2.ensures.value in
     let n = length-xor _ _ (same_length g.row.BITS c.args.self c.args.rhs) ∙ length-bits g.row.BITS c.args.self in
-    let e = number-of_list g.T.Storage.SIGNED g.T.Unsigned.Storage.SIGNED g.row.BITS _ _ _ _ w n (λ i. bits_xor (p i) (q i)) c.xor.ensures.value c.from_bits.ensures.number in
+    let e = number-of_list g.T.Storage.SIGNED g.U.Storage.SIGNED g.row.BITS _ _ _ _ w n (λ i. bits_xor (p i) (q i)) c.xor.ensures.value c.from_bits.ensures.number in
     record {
       operation = e ∙ sym (xor-is _ _ _ _);
       bits = e;

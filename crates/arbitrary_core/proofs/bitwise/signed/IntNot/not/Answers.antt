@@ -12,7 +12,7 @@ returns g c =
     let w = c.to_bits.ensures.width.0 in
     let p = bits-stays g.row.BITS c.args.self _ c.to_bits.ensures.value in
     let n = length-not (bits g.row.BITS c.args.self) ∙ length-bits g.row.BITS c.args.self in
-    let e = number-of_list g.T.Storage.SIGNED g.T.Unsigned.Storage.SIGNED g.row.BITS _ _ _ _ w n (ap (map not) p) c.not.ensures.value c.from_bits.ensures.number in
+    let e = number-of_list g.T.Storage.SIGNED g.U.Storage.SIGNED g.row.BITS _ _ _ _ w n (ap (map not) p) c.not.ensures.value c.from_bits.ensures.number in
     record {
       operation = e ∙ sym (not-is _ _ _);
       bits = e;

@@ -22,7 +22,7 @@ returns g c =
     let t : a ≤ length (bits g.row.BITS c.args.self) = omega (arith, length-bits g.row.BITS c.args.self) in
     let n = length-shl (bits g.row.BITS c.args.self) a t ∙ length-bits g.row.BITS c.args.self in
     let p = bits-stays g.row.BITS c.args.self _ c.to_bits.ensures.value in
-    let e = number-of_list g.T.Storage.SIGNED g.T.Unsigned.Storage.SIGNED g.row.BITS _ _ _ _ w n (λ i. shl (p i) (k i)) c.shl.ensures.value c.from_bits.ensures.number in
+    let e = number-of_list g.T.Storage.SIGNED g.U.Storage.SIGNED g.row.BITS _ _ _ _ w n (λ i. shl (p i) (k i)) c.shl.ensures.value c.from_bits.ensures.number in
     record {
       operation = e ∙ sym (left-is _ _ _ _);
       bits = e;

@@ -1,5 +1,5 @@
 use Rattle.std.proofs.Common.{rules}
-use Rattle.arbitrary_core.proofs.EndBits.{below_sign}
+use Rattle.arbitrary_int.proofs.EndBits.{below_sign}
 use Rattle.arbitrary_int.proofs.constants.signed.IntI128Constants.MASK.Goals as goal
 
 pub overflow_cast-result : goal.overflow_cast-result

@@ -1,6 +1,6 @@
 use Rattle.std.proofs.Common.{rules, ◌∙◌}
 use Rattle.arbitrary_base.proofs.modular.ExactOrCongruent.{wrapped-exact}
-use Rattle.arbitrary_core.proofs.signed.Int+T+BITS.from_i128.Goals as goal
+use Rattle.arbitrary_core.proofs.signed.Int.from_i32.Goals as goal
 
 pub returns : goal.returns
 returns g c =

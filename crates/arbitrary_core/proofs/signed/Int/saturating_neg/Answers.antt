@@ -1,5 +1,5 @@
 use Rattle.arbitrary_base.proofs.storages.Clamp.{clamped-above, clamped-exact}
-use Rattle.arbitrary_core.proofs.signed.Int+T+BITS.saturating_neg.Goals as goal
+use Rattle.arbitrary_core.proofs.signed.Int.saturating_neg.Goals as goal
 
 pub returns-clause-value : goal.returns-clause-value
 returns-clause-value g c = cc

@@ -1,5 +1,5 @@
 -- Why the constants of `Int` have the bits of 0, of the least and of the greatest number.
-use Rattle.std.specs.Prelude.{◌≡◌, ◌≢◌, ℕ, ℤ, Bool, true, false, pos, neg_ℤ, ◌+ℤ◌, ◌-ℤ◌, ◌-◌, ◌+◌, ◌^◌, ◌≤◌, ◌<◌}
+use Rattle.std.specs.Prelude.{◌≡◌, ◌≢◌, ℕ, ℤ, Bool, true, false, pos, neg_ℤ, ◌+ℤ◌, ◌-ℤ◌, ◌-◌, ◌+◌, ◌^◌, ◌≤◌, ◌≤ℤ◌, ◌<◌}
 use Rattle.std.proofs.Common.{arith, sym, subst, ◌∙◌}
 use Rattle.std.proofs.lemmas.Int.{ints}
 use Rattle.std.proofs.lemmas.Nat.{pow_pos}
@@ -8,21 +8,12 @@ use Rattle.arbitrary_base.specs.Residue.{wrap, Congruent}
 use Rattle.arbitrary_base.proofs.modular.Congruence.{pow_half, pow_le, Congruent-from_apart}
 use Rattle.arbitrary_base.proofs.modular.Residue.{wrap-unique, wrap-of_in_range}
 
-at_false : (u : Bool) (B : ℕ) (p : ℤ) → u ≡ false → InRange false B p → InRange u B p
-at_false u B p e f = subst (λ (v : Bool). InRange v B p) (sym e) f
-
--- bits below the modulus are the bits of a number
-pub zero-fits : (u : Bool) (B : ℕ) (p : ℤ) → u ≡ false → 1 ≤ B → p ≡ pos 0 → InRange u B p
-zero-fits u B p e h d = let q = pow_pos B in
-    at_false u B p e (record { low = omega (arith, ints); high = omega (arith, ints) })
-
-pub least-fits : (u : Bool) (B : ℕ) (p : ℤ) → u ≡ false → 1 ≤ B → p ≡ pos (2 ^ (B - 1)) → InRange u B p
-least-fits u B p e h d = let q = pow_half B h in let r = pow_pos (B - 1) in
-    at_false u B p e (record { low = omega (arith, ints); high = omega (arith, ints) })
-
-pub greatest-fits : (u : Bool) (B : ℕ) (p : ℤ) → u ≡ false → 1 ≤ B → p +ℤ pos 1 ≡ pos (2 ^ (B - 1)) → InRange u B p
-greatest-fits u B p e h d = let q = pow_half B h in let r = pow_pos (B - 1) in
-    at_false u B p e (record { low = omega (arith, ints); high = omega (arith, ints) })
+-- bits up to the highest alone are the bits of a number
+pub bits-fit : (u : Bool) (B : ℕ) (p : ℤ) → u ≡ false → 1 ≤ B → pos 0 ≤ℤ p → p ≤ℤ pos (2 ^ (B - 1)) → InRange u B p
+bits-fit u B p e h l k =
+    let q = pow_half B h in
+    let r = pow_pos (B - 1) in
+    subst (λ (v : Bool). InRange v B p) (sym e) (record { low = omega (arith, ints); high = omega (arith, ints) })
 
 at_true : (s : Bool) (B : ℕ) (p x : ℤ) → s ≡ true → wrap true B p ≡ x → wrap s B p ≡ x
 at_true s B p x e f = subst (λ (v : Bool). wrap v B p ≡ x) (sym e) f

@@ -1,7 +1,7 @@
 use Rattle.arbitrary_base.proofs.LawProof.{out-of_range_tested}
 use Rattle.arbitrary_base.proofs.modular.ExactOrCongruent.{wrapped-congruent, wrapped-exact}
 use Rattle.arbitrary_base.proofs.operations.WrappedRing.{negated-is}
-use Rattle.arbitrary_core.proofs.signed.Int+T+BITS.overflowing_neg.Goals as goal
+use Rattle.arbitrary_core.proofs.signed.Int.overflowing_neg.Goals as goal
 
 pub returns-clause-value : goal.returns-clause-value
 returns-clause-value g c = cc

@@ -1,10 +1,10 @@
 use Rattle.arbitrary_base.proofs.modular.RoundTrip.{pattern-stays}
 use Rattle.arbitrary_base.proofs.modular.Residue.{wrap-in_range}
-use Rattle.arbitrary_core.proofs.signed.Int+T+BITS.from_bits.Goals as goal
+use Rattle.arbitrary_core.proofs.signed.Int.from_bits.Goals as goal
 
 pub invariant_of-result : goal.invariant_of-result
 invariant_of-result g c = (
   c.requires.width,
   wrap-in_range g.T.Storage.SIGNED g.row.BITS _ (c.requires.width.0),
-  pattern-stays g.T.Storage.SIGNED g.T.Unsigned.Storage.SIGNED g.row.BITS _ g.met.T.Unsigned.UnsignedStorage.unsigned_law (c.requires.width.0) c.requires.bits_in_range,
+  pattern-stays g.T.Storage.SIGNED g.U.Storage.SIGNED g.row.BITS _ g.met.U.UnsignedStorage.unsigned_law (c.requires.width.0) c.requires.bits_in_range,
 )

@@ -1,6 +1,6 @@
 use Rattle.std.proofs.Common.{rules, ◌≤◌, arith}
 use Rattle.arbitrary_base.proofs.modular.Truncation.{widened}
-use Rattle.arbitrary_core.proofs.signed.Int+T+BITS.widen.Goals as goal
+use Rattle.arbitrary_core.proofs.signed.Int.widen.Goals as goal
 
 pub new-requires : goal.new-requires
 new-requires g c =

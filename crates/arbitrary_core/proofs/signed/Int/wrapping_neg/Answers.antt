@@ -1,6 +1,6 @@
 use Rattle.arbitrary_base.proofs.modular.ExactOrCongruent.{wrapped-congruent, wrapped-exact}
 use Rattle.arbitrary_base.proofs.operations.WrappedRing.{negated-is, negated-undone}
-use Rattle.arbitrary_core.proofs.signed.Int+T+BITS.wrapping_neg.Goals as goal
+use Rattle.arbitrary_core.proofs.signed.Int.wrapping_neg.Goals as goal
 
 pub returns-clause-value : goal.returns-clause-value
 returns-clause-value g c = cc
