@@ -2,6 +2,7 @@
 //! `Int`; and lists of steps on registers of one such type.
 #![tactic(auto)]
 
+mod bitwise;
 pub mod borsh;
 pub mod byte_laws;
 pub mod byte_orders;

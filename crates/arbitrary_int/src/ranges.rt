@@ -5,21 +5,20 @@ ghost use Rattle.std.specs.Iterator.{YieldsFirstBy, YieldsLastBy, at_most};
 ghost use Rattle.std.specs.Iterator.Runs.{EachRunFrom};
 ghost use Rattle.arbitrary_int.specs.Ranges.{values_left, numbers, CountsUp};
 
-use crate::stepping::{after, before};
+use crate::stepping::{after, before, order};
 use arbitrary_calls::calls::sums::SumCalls;
-use arbitrary_traits::integer::Integer;
 use std::cmp::Ordering;
 
 /// An iterator over the values of a range that are left.
 #[derive(Clone, Drop)]
-pub struct ValueRange<V: Integer + SumCalls> {
+pub struct ValueRange<V: SumCalls> {
     start: V,
     end: V,
     done: bool,
 }
 
 /// An iterator over the values from `start` to `end`. It is empty if `start` is greater.
-pub fn range_inclusive<V: Integer + SumCalls>(start: V, end: V) -> ValueRange<V>
+pub fn range_inclusive<V: SumCalls>(start: V, end: V) -> ValueRange<V>
     ensures values { let number = V.number in
         values_left result.done (number result.start) (number result.end)
         ≡ numbers (number start) (number end) }
@@ -38,7 +37,7 @@ pub fn range_inclusive<V: Integer + SumCalls>(start: V, end: V) -> ValueRange<V>
     }
 }
 
-impl<V: Integer + SumCalls> Iterator for ValueRange<V> {
+impl<V: SumCalls> Iterator for ValueRange<V> {
     type Item = V;
 
     ghost can_next = { λ _. ⊤ };
@@ -55,7 +54,7 @@ impl<V: Integer + SumCalls> Iterator for ValueRange<V> {
             return None;
         }
         let item = self.start;
-        match item.cmp(&self.end) {
+        match order(item, self.end) {
             Ordering::Less => {
                 self.start = after(item, self.end);
                 Some(item)
@@ -69,7 +68,7 @@ impl<V: Integer + SumCalls> Iterator for ValueRange<V> {
     }
 }
 
-impl<V: Integer + SumCalls> DoubleEndedIterator for ValueRange<V> {
+impl<V: SumCalls> DoubleEndedIterator for ValueRange<V> {
     ghost can_next_back = { λ _. ⊤ };
 
     ghost next_back_gives = { let number = V.number in
@@ -81,7 +80,7 @@ impl<V: Integer + SumCalls> DoubleEndedIterator for ValueRange<V> {
             return None;
         }
         let item = self.end;
-        match self.start.cmp(&item) {
+        match order(self.start, item) {
             Ordering::Less => {
                 self.end = before(item, self.start);
                 Some(item)

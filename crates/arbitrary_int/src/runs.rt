@@ -7,9 +7,15 @@ ghost use Rattle.arbitrary_int.specs.Steps.{StepWithin, result_of, by_meaning, m
 ghost use Rattle.arbitrary_int.specs.Runs.{RunOf};
 ghost use Rattle.arbitrary_int.specs.Widths.{RangeWithin, carried_out, IsCheckedArithmetic};
 
+use crate::bitwise::{and, not, or, xor};
 use crate::steps::{ByOp, OneOp, Step, Stop, TwoOp, Why};
-use arbitrary_calls::fixed_width::FixedWidth;
-use arbitrary_traits::integer::Integer;
+use arbitrary_base::wrapping;
+use arbitrary_calls::calls::FixedWidthCalls;
+use arbitrary_calls::calls::products::ProductCalls;
+use arbitrary_calls::calls::shifts::ShiftCalls;
+use arbitrary_calls::calls::sums::SumCalls;
+use arbitrary_calls::stored::Stored;
+use arbitrary_traits::numbered::Numbered;
 
 /// Whether each register number of the steps is below `n`.
 pub fn well_formed(steps: &[Step], n: usize) -> bool
@@ -36,14 +42,14 @@ fn is_within(step: &Step, n: usize) -> bool
 
 /// Whether the number is zero.
 // Only the number 0 has no bit that is one.
-fn is_zero<R: Integer>(x: R) -> bool
+fn is_zero<R: Numbered>(x: R) -> bool
     ensures { result ≡ int_eq (R.number x) (pos 0) }
 {
     x.to_u128_bits() == 0
 }
 
 /// The quotient, wrapped, or a stop if the divisor is zero.
-fn wrapping_quotient<R: FixedWidth>(x: R, y: R) -> Result<R, Why>
+fn wrapping_quotient<R: ProductCalls>(x: R, y: R) -> Result<R, Why>
     ensures { let meant = two_meaning R.IS_SIGNED R.BITS TwoOp.WrappingDiv in MatchResult result
         (λ v. meant (R.number x) (R.number y) ≡ Ok (R.number v))
         (λ why. meant (R.number x) (R.number y) ≡ Err why) }
@@ -56,7 +62,7 @@ fn wrapping_quotient<R: FixedWidth>(x: R, y: R) -> Result<R, Why>
 }
 
 /// The quotient, clamped, or a stop if the divisor is zero.
-fn saturating_quotient<R: FixedWidth>(x: R, y: R) -> Result<R, Why>
+fn saturating_quotient<R: ProductCalls>(x: R, y: R) -> Result<R, Why>
     ensures { let meant = two_meaning R.IS_SIGNED R.BITS TwoOp.SaturatingDiv in MatchResult result
         (λ v. meant (R.number x) (R.number y) ≡ Ok (R.number v))
         (λ why. meant (R.number x) (R.number y) ≡ Err why) }
@@ -70,7 +76,7 @@ fn saturating_quotient<R: FixedWidth>(x: R, y: R) -> Result<R, Why>
 
 /// The result of an operation on two values.
 #[tactic(auto, using(crate::proofs::StepLemmas::results))]
-fn two<R: FixedWidth>(op: TwoOp, x: R, y: R) -> Result<R, Why>
+fn two<R: SumCalls + ProductCalls>(op: TwoOp, x: R, y: R) -> Result<R, Why>
     ensures { MatchResult result
         (λ v. two_meaning R.IS_SIGNED R.BITS op (R.number x) (R.number y) ≡ Ok (R.number v))
         (λ why. two_meaning R.IS_SIGNED R.BITS op (R.number x) (R.number y) ≡ Err why) }
@@ -88,28 +94,26 @@ fn two<R: FixedWidth>(op: TwoOp, x: R, y: R) -> Result<R, Why>
         TwoOp::CheckedSub => x.checked_sub(y).ok_or(Why::Refused),
         TwoOp::CheckedMul => x.checked_mul(y).ok_or(Why::Refused),
         TwoOp::CheckedDiv => x.checked_div(y).ok_or(Why::Refused),
-        TwoOp::And => Ok(x & y),
-        TwoOp::Or => Ok(x | y),
-        TwoOp::Xor => Ok(x ^ y),
+        TwoOp::And => Ok(and(x, y)),
+        TwoOp::Or => Ok(or(x, y)),
+        TwoOp::Xor => Ok(xor(x, y)),
     }
 }
 
 /// The negated number, wrapped.
-fn negated<R: FixedWidth>(x: R) -> R
+fn negated<R: Stored>(x: R) -> R
     ensures { R.number result ≡ wrap R.IS_SIGNED R.BITS (pos 0 -ℤ R.number x) }
 {
-    // ensures that the width is valid
-    let _pattern = x.to_u128_bits();
-    R::zero().wrapping_sub(x)
+    R::from_storage(wrapping::neg(x.to_storage(), R::BITS))
 }
 
 /// The result of an operation on one value.
 #[tactic(auto, using(crate::proofs::StepLemmas::results))]
-fn one<R: FixedWidth>(op: OneOp, x: R) -> R
+fn one<R: ShiftCalls>(op: OneOp, x: R) -> R
     ensures { one_meaning R.IS_SIGNED R.BITS op (R.number x) ≡ Ok (R.number result) }
 {
     match op {
-        OneOp::Not => !x,
+        OneOp::Not => not(x),
         OneOp::ReverseBits => x.reverse_bits(),
         OneOp::WrappingNeg => negated(x),
     }
@@ -117,7 +121,7 @@ fn one<R: FixedWidth>(op: OneOp, x: R) -> R
 
 /// The result of an operation on one value and an amount.
 #[tactic(auto, using(crate::proofs::StepLemmas::results))]
-fn by<R: FixedWidth>(op: ByOp, x: R, amount: u32) -> Result<R, Why>
+fn by<R: ShiftCalls + ProductCalls>(op: ByOp, x: R, amount: u32) -> Result<R, Why>
     ensures { MatchResult result
         (λ v. by_meaning R.IS_SIGNED R.BITS op (R.number x) amount ≡ Ok (R.number v))
         (λ why. by_meaning R.IS_SIGNED R.BITS op (R.number x) amount ≡ Err why) }
@@ -135,7 +139,7 @@ fn by<R: FixedWidth>(op: ByOp, x: R, amount: u32) -> Result<R, Why>
 
 /// The result of the step's operation on its sources.
 #[tactic(auto, using(crate::proofs::StepLemmas::sources))]
-fn step_result<R: FixedWidth>(step: &Step, registers: &[R]) -> Result<R, Why>
+fn step_result<R: FixedWidthCalls>(step: &Step, registers: &[R]) -> Result<R, Why>
     requires { StepWithin (length registers.now) step.now }
     ensures { MatchResult result
         (λ v. result_of R.IS_SIGNED R.BITS step.now (map R.number registers.now) ≡ Ok (R.number v))
@@ -171,7 +175,7 @@ fn target(step: &Step) -> usize
 
 /// Carries out one step. If it stops, nothing is written.
 #[tactic(auto, using(crate::proofs::StepLemmas::writes))]
-fn apply<R: FixedWidth>(step: &Step, registers: &mut [R]) -> Result<(), Why>
+fn apply<R: FixedWidthCalls>(step: &Step, registers: &mut [R]) -> Result<(), Why>
     requires { StepWithin (length registers.old) step.now }
     ensures { let meant = meaning R.IS_SIGNED R.BITS step.now in MatchResult result
         (λ _. meant (map R.number registers.old) ≡ Ok (map R.number registers.new))
@@ -191,7 +195,7 @@ fn apply<R: FixedWidth>(step: &Step, registers: &mut [R]) -> Result<(), Why>
 /// products and quotients, the steps that were carried out leave the same numbers, with no stop, at
 /// every type whose range contains that of `R`.
 #[tactic(auto, using(crate::proofs::RunLemmas::runs))]
-pub fn run<R: FixedWidth>(steps: &[Step], registers: &mut [R]) -> Result<(), Stop>
+pub fn run<R: FixedWidthCalls>(steps: &[Step], registers: &mut [R]) -> Result<(), Stop>
     requires { All (StepWithin (length registers.old)) steps.now }
     ensures registers { let before = map R.number registers.old in
         map R.number registers.new ≡ (RunOf R.IS_SIGNED R.BITS steps.now before).0 }

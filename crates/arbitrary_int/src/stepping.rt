@@ -5,12 +5,23 @@
 //! the check knows no range of a value before a call reads it, and the proof needs that range.
 
 ghost use Rattle.std.specs.Prelude.{◌≡◌, ◌+ℤ◌, ◌-ℤ◌, ◌≤ℤ◌, ◌<ℤ◌, pos, SomeIff, option_map};
+ghost use Rattle.std.specs.Ordering.{int_cmp};
 ghost use Rattle.arbitrary_base.specs.Range.{InRange};
 ghost use Rattle.arbitrary_int.specs.Ranges.{StepsBetween};
 
+use arbitrary_base::ends::{highest, lowest};
 use arbitrary_base::storage::Storage;
 use arbitrary_calls::calls::sums::SumCalls;
-use arbitrary_traits::integer::Integer;
+use arbitrary_calls::stored::Stored;
+use std::cmp::Ordering;
+
+/// How the numbers of two values are ordered.
+// `Ord` belongs to `Integer`, whose many parents would make each function here slow to check.
+pub(crate) fn order<V: Stored>(x: V, y: V) -> Ordering
+    ensures { result ≡ int_cmp (V.number x) (V.number y) }
+{
+    x.to_storage().compare(&y.to_storage())
+}
 
 /// The next value. Requires a greater one, `limit`.
 #[tactic(auto, using(crate::proofs::SteppingLemmas::in_up))]
@@ -66,13 +77,13 @@ fn distance<V: SumCalls>(start: V, end: V) -> u128
 }
 
 /// Values that are some steps above or below another. `UInt` and `Int` implement it at every width.
-pub trait Stepping: Integer + SumCalls {
+pub trait Stepping: SumCalls {
     /// The number of steps from `start` up to `end`, twice: `(usize::MAX, None)` if it does not fit
     /// in a `usize`, and `(0, None)` if `start` is greater.
     final fn steps_between(start: &Self, end: &Self) -> (usize, Option<usize>)
         ensures { StepsBetween (Self.number end.now -ℤ Self.number start.now) result }
     {
-        if end < start {
+        if order(*end, *start) == Ordering::Less {
             return (0, None);
         }
         let steps = distance(*start, *end);
@@ -90,8 +101,8 @@ pub trait Stepping: Integer + SumCalls {
             (InRange Self.IS_SIGNED Self.BITS (Self.number start +ℤ pos count))
             (Self.number start +ℤ pos count) }
     {
-        let _known = start.to_u128_bits();
-        if count as u128 <= distance(start, Self::max_value()) {
+        let _known = start.to_storage();
+        if count as u128 <= distance(start, Self::from_storage(highest(Self::BITS))) {
             Some(forward(start, count as u128))
         } else {
             None
@@ -105,8 +116,8 @@ pub trait Stepping: Integer + SumCalls {
             (InRange Self.IS_SIGNED Self.BITS (Self.number start -ℤ pos count))
             (Self.number start -ℤ pos count) }
     {
-        let _known = start.to_u128_bits();
-        if count as u128 <= distance(Self::min_value(), start) {
+        let _known = start.to_storage();
+        if count as u128 <= distance(Self::from_storage(lowest(Self::BITS)), start) {
             Some(backward(start, count as u128))
         } else {
             None
@@ -114,4 +125,4 @@ pub trait Stepping: Integer + SumCalls {
     }
 }
 
-impl<V: Integer + SumCalls> Stepping for V {}
+impl<V: SumCalls> Stepping for V {}

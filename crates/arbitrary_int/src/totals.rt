@@ -9,20 +9,19 @@ ghost use Rattle.arbitrary_int.specs.Totals.{TotalOrNone};
 
 use arbitrary_calls::calls::products::ProductCalls;
 use arbitrary_calls::calls::sums::SumCalls;
-use arbitrary_traits::integer::Integer;
 use arbitrary_traits::numbered::Numbered;
 
 /// The sum of the items, from 0 and from the left, or `None` exactly if a partial sum is out of
 /// range, even if later items would bring it back. Requires a valid width, and an iterator that
 /// ends.
-pub fn try_sum<V: Integer + SumCalls, I: Iterator<Item = V> + Drop>(iter: I) -> Option<V>
+pub fn try_sum<V: SumCalls, I: Iterator<Item = V> + Drop>(iter: I) -> Option<V>
     requires width { V.valid }
     requires can { I.can_next iter }
     requires ends { IsFinite (I.remaining iter) }
     ensures { let number = V.number in
         TotalOrNone V.IS_SIGNED V.BITS (λ a b. a +ℤ b) (pos 0) I.next_gives number iter result }
 {
-    let mut total = V::zero();
+    let mut total = V::masked_new(0u8);
     for item in iter {
         match total.checked_add(item) {
             Some(sum) => total = sum,

@@ -9,7 +9,7 @@ ghost use Rattle.arbitrary_int.specs.Runs.{RunOf};
 
 use crate::runs::run;
 use crate::steps::{Step, Stop};
-use arbitrary_calls::fixed_width::FixedWidth;
+use arbitrary_calls::calls::FixedWidthCalls;
 use arbitrary_traits::numbered::Numbered;
 
 /// The low bits of `wide`, at the type of `narrow`.
@@ -41,7 +41,7 @@ fn narrow_all<W: Numbered, N: Numbered>(wide: &[W], narrow: &mut [N])
 /// If each step is a low-bit step of the narrow width (`IsLowBit` lists them), and that width is at
 /// most the wide one, there is no stop. The narrow registers are then those of truncating first and
 /// running narrow. The signs and storages may differ.
-pub fn run_wide<W: FixedWidth, N: Numbered>(
+pub fn run_wide<W: FixedWidthCalls, N: Numbered>(
     steps: &[Step],
     wide: &mut [W],
     narrow: &mut [N],

@@ -66,7 +66,7 @@ fn many(alloc: Global, count: u32) -> io::Result<Vec<Step>> {
 }
 
 /// Runs the list `passes` times, and returns whether no run stopped.
-fn repeated<R: FixedWidth>(steps: &[Step], registers: &mut [R; 16], passes: u32) -> bool
+fn repeated<R: FixedWidthCalls>(steps: &[Step], registers: &mut [R; 16], passes: u32) -> bool
     requires { All (StepWithin 16) steps.now }
 {
     for _ in 0..passes {
@@ -78,7 +78,7 @@ fn repeated<R: FixedWidth>(steps: &[Step], registers: &mut [R; 16], passes: u32)
 }
 
 /// Sixteen numbers of all sizes. The width is valid.
-fn initial<R: FixedWidth>() -> [R; 16]
+fn initial<R: Numbered>() -> [R; 16]
     requires { R.valid }
 {
     let mut registers = [R::from_u128_bits(0); 16];

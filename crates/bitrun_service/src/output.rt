@@ -13,7 +13,7 @@ ghost use Rattle.bitrun_service.specs.Output.{output_text, wide_output_text, tex
 use crate::running::{run_text, wide_run_text};
 use crate::types;
 use arbitrary_int::Step;
-use arbitrary_int::traits::{FixedWidth, Integer, Numbered};
+use arbitrary_int::traits::{FixedWidthCalls, Numbered};
 use bitrun_text::fault::Fault;
 use bitrun_text::kind::{Kind, RegisterType, WidePair, kind_named};
 use bitrun_text::parsing::{registers, steps};
@@ -70,7 +70,7 @@ fn output_with<'a, A: Allocator>(
 }
 
 /// The output of the lines from the second on, with registers of the type `R`.
-pub fn output_at<'a, R: FixedWidth, A: Allocator>(
+pub fn output_at<'a, R: FixedWidthCalls, A: Allocator>(
     alloc: &'a A,
     lines: &mut Cursor,
 ) -> Result<Vec<u8, &'a A>, Fault>
@@ -87,7 +87,7 @@ pub fn output_at<'a, R: FixedWidth, A: Allocator>(
 }
 
 /// The output of the lines from the second on, with registers of the type `W`, and their low bits at the type `N`.
-pub fn wide_output_at<'a, W: FixedWidth, N: Integer, A: Allocator>(
+pub fn wide_output_at<'a, W: FixedWidthCalls, N: Numbered, A: Allocator>(
     alloc: &'a A,
     lines: &mut Cursor,
 ) -> Result<Vec<u8, &'a A>, Fault>

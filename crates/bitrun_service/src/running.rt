@@ -6,12 +6,12 @@ ghost use Rattle.arbitrary_int.specs.Runs.{RunOf};
 ghost use Rattle.bitrun_service.specs.Output.{output_text, wide_output_text};
 
 use crate::printing::{push_output, push_wide_output};
-use arbitrary_int::traits::{FixedWidth, Integer, Numbered};
+use arbitrary_int::traits::{FixedWidthCalls, Numbered};
 use arbitrary_int::{Step, run, run_wide};
 use std::alloc::{AllocError, Allocator};
 
 /// Runs the steps, and returns the text of the registers and of how the run ended.
-pub(crate) fn run_text<'a, R: FixedWidth, A: Allocator>(
+pub(crate) fn run_text<'a, R: FixedWidthCalls, A: Allocator>(
     alloc: &'a A,
     steps: &[Step],
     registers: &mut [R],
@@ -30,7 +30,7 @@ pub(crate) fn run_text<'a, R: FixedWidth, A: Allocator>(
 
 /// Runs the steps on the wide registers, and returns the text of these, of their low bits, and of
 /// how the run ended.
-pub(crate) fn wide_run_text<'a, W: FixedWidth, N: Integer, A: Allocator>(
+pub(crate) fn wide_run_text<'a, W: FixedWidthCalls, N: Numbered, A: Allocator>(
     alloc: &'a A,
     steps: &[Step],
     wide: &mut [W],
@@ -43,7 +43,7 @@ pub(crate) fn wide_run_text<'a, W: FixedWidth, N: Integer, A: Allocator>(
         (λ text. text.items ≡ wide_output_text N.IS_SIGNED N.BITS
         (RunOf W.IS_SIGNED W.BITS steps.now (map W.number wide.old))) }
 {
-    let mut narrow = vec![in alloc; N::zero(); wide.len()]?;
+    let mut narrow = vec![in alloc; N::masked_new(0u8); wide.len()]?;
     let ending = run_wide(steps, wide, narrow.as_mut_slice());
     let mut text = Vec::new(alloc);
     push_wide_output(&mut text, wide, narrow.as_slice(), ending)?;

@@ -9,7 +9,10 @@ use arbitrary_int::{Step, Stop, run, well_formed};
 
 /// Runs the steps and returns how the run ended. If a step names a register that does not exist, nothing runs, and the result is
 /// `None`.
-pub fn run_tested<R: FixedWidth>(steps: &[Step], registers: &mut [R]) -> Option<Result<(), Stop>>
+pub fn run_tested<R: FixedWidthCalls>(
+    steps: &[Step],
+    registers: &mut [R],
+) -> Option<Result<(), Stop>>
     ensures none { IsNone result ↔ ¬ (All (StepWithin (length registers.old)) steps.now) }
     ensures ending { IfSome result
         (λ ending. ending ≡ (RunOf R.IS_SIGNED R.BITS steps.now (map R.number registers.old)).1) }
@@ -26,7 +29,7 @@ pub fn run_tested<R: FixedWidth>(steps: &[Step], registers: &mut [R]) -> Option<
 
 /// Runs the steps on registers of two types of one sign and one width, which have the same numbers. Both runs
 /// leave the same numbers and end alike, whatever primitives keep them.
-pub fn run_in_both<A: FixedWidth, B: FixedWidth>(
+pub fn run_in_both<A: FixedWidthCalls, B: FixedWidthCalls>(
     steps: &[Step],
     left: &mut [A],
     right: &mut [B],

@@ -29,7 +29,7 @@ pub fn low_product(a: u14, b: u14) -> i7
 /// Runs sums, differences, products and quotients on registers of one type, and again on the same numbers at
 /// a wider type. The first run ends as the steps say. Where it has no stop, the second has none either, and
 /// leaves the same numbers.
-pub fn moved<A: FixedWidth, B: FixedWidth>(
+pub fn moved<A: FixedWidthCalls, B: FixedWidthCalls>(
     steps: &[Step],
     registers: &mut [A],
     wider: &mut [B],

@@ -31,7 +31,7 @@ fn product_and_complement() -> [Step; 2] {
 }
 
 /// Runs the steps at both widths, and then on registers that are truncated first. No run stops.
-fn runs<W: FixedWidth, N: FixedWidth>(
+fn runs<W: FixedWidthCalls, N: FixedWidthCalls>(
     rt: &impl Abort,
     steps: &[Step],
     wide: &mut [W],

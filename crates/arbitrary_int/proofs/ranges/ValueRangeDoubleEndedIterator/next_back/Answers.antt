@@ -3,10 +3,10 @@ use Rattle.arbitrary_int.proofs.RangeSteps.{below-of_cmp, last-of_more, fewer-la
 use Rattle.arbitrary_int.proofs.ranges.ValueRangeDoubleEndedIterator.next_back.Goals as goal
 
 pub before-self-requires : goal.before-self-requires
-before-self-requires g c = below-of_cmp _ _ c.cmp.result (c.cmp.ensures ∙ g.met.V.Integer.cmp_law _ _) c.in-Less.is
+before-self-requires g c = below-of_cmp _ _ c.order.result c.order.ensures c.in-Less.is
 
 steps : goal.returns-in-Less-clause-steps
-steps g c = last-of_more c.args.self.now.done _ _ _ c.cmp.result (c.cmp.ensures ∙ g.met.V.Integer.cmp_law _ _) c.in-Less.is c.if-self.false c.before-self.ensures
+steps g c = last-of_more c.args.self.now.done _ _ _ c.order.result c.order.ensures c.in-Less.is c.if-self.false c.before-self.ensures
 
 pub returns-in-Less-clause-steps : goal.returns-in-Less-clause-steps
 returns-in-Less-clause-steps g c = steps g c

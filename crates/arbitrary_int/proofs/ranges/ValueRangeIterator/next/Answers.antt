@@ -3,10 +3,10 @@ use Rattle.arbitrary_int.proofs.RangeSteps.{below-of_cmp, first-of_more, fewer-f
 use Rattle.arbitrary_int.proofs.ranges.ValueRangeIterator.next.Goals as goal
 
 pub after-self-requires : goal.after-self-requires
-after-self-requires g c = below-of_cmp _ _ c.cmp.result (c.cmp.ensures ∙ g.met.V.Integer.cmp_law _ _) c.in-Less.is
+after-self-requires g c = below-of_cmp _ _ c.order.result c.order.ensures c.in-Less.is
 
 steps : goal.returns-in-Less-clause-steps
-steps g c = first-of_more c.args.self.now.done _ _ _ c.cmp.result (c.cmp.ensures ∙ g.met.V.Integer.cmp_law _ _) c.in-Less.is c.if-self.false c.after-self.ensures
+steps g c = first-of_more c.args.self.now.done _ _ _ c.order.result c.order.ensures c.in-Less.is c.if-self.false c.after-self.ensures
 
 pub returns-in-Less-clause-steps : goal.returns-in-Less-clause-steps
 returns-in-Less-clause-steps g c = steps g c
