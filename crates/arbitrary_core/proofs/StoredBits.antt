@@ -7,9 +7,9 @@ use Rattle.std.proofs.lemmas.Int.{ints}
 use Rattle.arbitrary_base.specs.Range.{InRange, lo}
 use Rattle.arbitrary_base.specs.Residue.{residue, wrap}
 use Rattle.arbitrary_base.specs.BitList.{bits, num, val}
-use Rattle.arbitrary_base.proofs.modular.Residue.{residue-lt, congruent-wrap, wrap-congruent, wrap-in_range, wrap-same}
+use Rattle.arbitrary_base.proofs.modular.Residue.{residue-lt, wrap-congruent, wrap-in_range, wrap-same}
 use Rattle.arbitrary_base.proofs.storages.Primitive.{unsigned-in_range}
-use Rattle.arbitrary_base.proofs.modular.RoundTrip.{pattern-stays, number-stays, number-of_residue}
+use Rattle.arbitrary_base.proofs.modular.RoundTrip.{number-of_residue}
 use Rattle.arbitrary_base.proofs.bit_lists.TwosComplement.{bits-residue, val-bits, val-num}
 use Rattle.arbitrary_base.proofs.bit_lists.UnsignedNumber.{length-bits}
 
@@ -17,8 +17,6 @@ use Rattle.arbitrary_base.proofs.bit_lists.UnsignedNumber.{length-bits}
 pub pattern-range : (t : Bool) (B : ℕ) (x p : ℤ) → t ≡ false → pos (residue B x) ≡ p → InRange t B p
 pattern-range t B x p e f =
     subst (λ (z : ℤ). InRange t B z) f (subst (λ (u : Bool). InRange u B (pos (residue B x))) (sym e) (unsigned-in_range B _ (residue-lt B x)))
-
-pub ruleset stored = (pattern-stays, number-stays, pattern-range, congruent-wrap, wrap-congruent, wrap-in_range)
 
 -- the truncation of p, which is that of x at the other sign, is that of x
 pub wrapped-twice : (s t : Bool) (B : ℕ) (x p r : ℤ) → 1 ≤ B → p ≡ wrap t B x → r ≡ wrap s B p → r ≡ wrap s B x

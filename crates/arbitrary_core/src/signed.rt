@@ -75,7 +75,6 @@ impl<T: SignedStorage, const BITS: usize, U: UnsignedOf<T>> Int<T, BITS, U> {
 
     /// The value with this number, which must be in range: `try_new` tests it. Requires a valid
     /// width, which `is_valid_width` tests.
-    #[tactic(auto, using(crate::proofs::StoredBits::stored))]
     pub fn new(value: T) -> Self
         requires width { IsInRange 1 T.WIDTH BITS }
         requires value_in_range { InRange T.SIGNED BITS (T.number value) }
@@ -123,7 +122,6 @@ impl<T: SignedStorage, const BITS: usize, U: UnsignedOf<T>> Int<T, BITS, U> {
     }
 
     /// The number, in the storage.
-    #[tactic(auto, using(crate::proofs::StoredBits::stored))]
     pub fn value(self) -> T
         ensures number { T.number result ≡ self }
         ensures width { IsInRange 1 T.WIDTH BITS }
@@ -133,7 +131,6 @@ impl<T: SignedStorage, const BITS: usize, U: UnsignedOf<T>> Int<T, BITS, U> {
     }
 
     /// The bits of the number: its residue modulo `2 ^ BITS`.
-    #[tactic(auto, using(crate::proofs::StoredBits::stored))]
     pub fn to_bits(self) -> U
         ensures value { U.number result ≡ pos (residue BITS self) }
         ensures congruent { Congruent BITS (U.number result) self }
@@ -146,7 +143,6 @@ impl<T: SignedStorage, const BITS: usize, U: UnsignedOf<T>> Int<T, BITS, U> {
 
     /// The value with these bits, which must be below `2 ^ BITS`: `try_from_bits` tests it.
     /// Requires a valid width.
-    #[tactic(auto, using(crate::proofs::StoredBits::stored))]
     pub const fn from_bits(bits: U) -> Self
         requires width { IsInRange 1 T.WIDTH BITS }
         requires bits_in_range { InRange U.SIGNED BITS (U.number bits) }
@@ -255,7 +251,10 @@ impl<T: SignedStorage, const BITS: usize, U: UnsignedOf<T>> Int<T, BITS, U> {
         requires width { R ≤ T.WIDTH }
         ensures { result ≡ self }
     {
-        Int::<T, R, U>::new(self.value())
+        Int {
+            bits: cast(self.value(), R),
+            of: PhantomData,
+        }
     }
 
     /// The value with the number of this `i8`, which must be in range. Requires a valid width.

@@ -121,7 +121,9 @@ impl<T: UnsignedStorage, const BITS: usize> UInt<T, BITS> {
         requires width { R ≤ T.WIDTH }
         ensures { result ≡ self }
     {
-        UInt::new(self.value())
+        UInt {
+            value: self.value(),
+        }
     }
 
     /// The value of the `BITS` bits of `value` from bit `start_bit` on. Requires a valid width, and
@@ -140,7 +142,6 @@ impl<T: UnsignedStorage, const BITS: usize> UInt<T, BITS> {
     }
 
     /// The value with the number of this `u8`, which must be in range. Requires a valid width.
-    #[tactic(auto, using(arbitrary_base::proofs::storages::CheckedSum::fitting))]
     pub fn from_u8(value: u8) -> Self
         requires width { IsInRange 1 T.WIDTH BITS }
         requires value_in_range { InRange T.SIGNED BITS (pos value) }
@@ -150,7 +151,6 @@ impl<T: UnsignedStorage, const BITS: usize> UInt<T, BITS> {
     }
 
     /// The value with the number of this `u16`, which must be in range. Requires a valid width.
-    #[tactic(auto, using(arbitrary_base::proofs::storages::CheckedSum::fitting))]
     pub fn from_u16(value: u16) -> Self
         requires width { IsInRange 1 T.WIDTH BITS }
         requires value_in_range { InRange T.SIGNED BITS (pos value) }
@@ -160,7 +160,6 @@ impl<T: UnsignedStorage, const BITS: usize> UInt<T, BITS> {
     }
 
     /// The value with the number of this `u32`, which must be in range. Requires a valid width.
-    #[tactic(auto, using(arbitrary_base::proofs::storages::CheckedSum::fitting))]
     pub fn from_u32(value: u32) -> Self
         requires width { IsInRange 1 T.WIDTH BITS }
         requires value_in_range { InRange T.SIGNED BITS (pos value) }
@@ -170,7 +169,6 @@ impl<T: UnsignedStorage, const BITS: usize> UInt<T, BITS> {
     }
 
     /// The value with the number of this `u64`, which must be in range. Requires a valid width.
-    #[tactic(auto, using(arbitrary_base::proofs::storages::CheckedSum::fitting))]
     pub fn from_u64(value: u64) -> Self
         requires width { IsInRange 1 T.WIDTH BITS }
         requires value_in_range { InRange T.SIGNED BITS (pos value) }
@@ -180,7 +178,6 @@ impl<T: UnsignedStorage, const BITS: usize> UInt<T, BITS> {
     }
 
     /// The value with the number of this `u128`, which must be in range. Requires a valid width.
-    #[tactic(auto, using(arbitrary_base::proofs::storages::CheckedSum::fitting))]
     pub fn from_u128(value: u128) -> Self
         requires width { IsInRange 1 T.WIDTH BITS }
         requires value_in_range { InRange T.SIGNED BITS (pos value) }

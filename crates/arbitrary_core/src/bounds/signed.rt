@@ -81,7 +81,6 @@ impl<T: SignedStorage + HasWidth<BITS>, const BITS: usize, U: UnsignedOf<T>> Def
     for Int<T, BITS, U> {
     ghost is_default = { λ x. x ≡ pos 0 };
 
-    #[tactic(auto, using(arbitrary_base::proofs::storages::CheckedSum::zeros))]
     fn default() -> Int<T, BITS, U> {
         Int::<T, BITS, U>::new(from_low_bits(0, BITS))
     }

@@ -77,7 +77,6 @@ impl<T: UnsignedStorage + HasWidth<BITS>, const BITS: usize> SaturatingSub for U
 impl<T: UnsignedStorage + HasWidth<BITS>, const BITS: usize> Default for UInt<T, BITS> {
     ghost is_default = { λ x. x ≡ pos 0 };
 
-    #[tactic(auto, using(arbitrary_base::proofs::storages::CheckedSum::zeros))]
     fn default() -> UInt<T, BITS> {
         UInt::<T, BITS>::new(from_low_bits(0, BITS))
     }

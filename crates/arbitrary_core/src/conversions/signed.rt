@@ -18,6 +18,7 @@ pub(super) fn stored<
 >(value: Int<S, BITS, P>) -> T
     ensures value { T.number result ≡ value }
     ensures value_in_range { InRange true BITS value }
+    ensures result_in_range { InRange T.SIGNED BITS (T.number result) }
 {
     cast(value.value(), T::WIDTH)
 }

@@ -15,6 +15,7 @@ pub(super) fn stored<S: UnsignedStorage, T: UnsignedStorage + HasWidth<BITS>, co
 ) -> T
     ensures value { T.number result ≡ value }
     ensures value_in_range { InRange false BITS value }
+    ensures result_in_range { InRange T.SIGNED BITS (T.number result) }
 {
     cast(value.value(), T::WIDTH)
 }

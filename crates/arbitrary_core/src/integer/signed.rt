@@ -33,7 +33,6 @@ impl<T: SignedStorage, const BITS: usize, U: UnsignedOf<T>> Numbered for Int<T, 
 
     ghost number = { λ x. x };
 
-    #[tactic(auto, using(arbitrary_traits::proofs::Conversion::patterns))]
     fn to_u128_bits(self) -> u128 {
         to_u128_bits(Int::<T, BITS, U>::value(self))
     }
@@ -64,7 +63,6 @@ impl<T: SignedStorage, const BITS: usize, U: UnsignedOf<T>> Integer for Int<T, B
         Int::<T, BITS, U>::new(highest(BITS))
     }
 
-    #[tactic(auto, using(arbitrary_base::proofs::storages::CheckedSum::zeros))]
     fn zero() -> Int<T, BITS, U> {
         Int::<T, BITS, U>::new(from_low_bits(0, BITS))
     }

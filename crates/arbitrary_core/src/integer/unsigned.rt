@@ -34,7 +34,6 @@ impl<T: UnsignedStorage, const BITS: usize> Numbered for UInt<T, BITS> {
 
     ghost number = { λ x. x };
 
-    #[tactic(auto, using(arbitrary_traits::proofs::Conversion::patterns))]
     fn to_u128_bits(self) -> u128 {
         to_u128_bits(UInt::<T, BITS>::value(self))
     }
@@ -69,7 +68,6 @@ where
         UInt::<T, BITS>::new(highest(BITS))
     }
 
-    #[tactic(auto, using(arbitrary_base::proofs::storages::CheckedSum::zeros))]
     fn zero() -> UInt<T, BITS> {
         UInt::<T, BITS>::new(from_low_bits(0, BITS))
     }

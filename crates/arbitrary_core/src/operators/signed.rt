@@ -20,7 +20,6 @@ impl<T: SignedStorage, const BITS: usize, U: UnsignedOf<T>> Add<Int<T, BITS, U>>
     ghost add_gives = { λ a b r. (r ≡ a +ℤ b)
         × InRange T.SIGNED BITS a × InRange T.SIGNED BITS b };
 
-    #[tactic(auto, using(arbitrary_base::proofs::storages::CheckedSum::fitting))]
     fn add(self, rhs: Int<T, BITS, U>) -> Int<T, BITS, U> {
         Int::<T, BITS, U>::new(wrapping::add(self.value(), rhs.value(), BITS))
     }
@@ -49,7 +48,6 @@ impl<T: SignedStorage, const BITS: usize, U: UnsignedOf<T>> Sub<Int<T, BITS, U>>
     ghost sub_gives = { λ a b r. (r ≡ a -ℤ b)
         × InRange T.SIGNED BITS a × InRange T.SIGNED BITS b };
 
-    #[tactic(auto, using(arbitrary_base::proofs::storages::CheckedSum::fitting))]
     fn sub(self, rhs: Int<T, BITS, U>) -> Int<T, BITS, U> {
         Int::<T, BITS, U>::new(wrapping::sub(self.value(), rhs.value(), BITS))
     }
@@ -80,7 +78,6 @@ impl<T: SignedStorage, const BITS: usize, U: UnsignedOf<T>> Mul<Int<T, BITS, U>>
     ghost mul_gives = { λ a b r. let bound = unsigned_abs a * unsigned_abs b in
         (r ≡ a *ℤ b) × (unsigned_abs r ≤ bound) };
 
-    #[tactic(auto, using(crate::proofs::Magnitude::fitting_product))]
     fn mul(self, rhs: Int<T, BITS, U>) -> Int<T, BITS, U> {
         Int::<T, BITS, U>::new(wrapping::mul(self.value(), rhs.value(), BITS))
     }
@@ -110,7 +107,6 @@ impl<T: SignedStorage, const BITS: usize, U: UnsignedOf<T>> Div<Int<T, BITS, U>>
 
     ghost div_gives = { λ a b r. r ≡ int_div a b };
 
-    #[tactic(auto, using(arbitrary_base::proofs::storages::CheckedSum::fitting))]
     fn div(self, rhs: Int<T, BITS, U>) -> Int<T, BITS, U> {
         Int::<T, BITS, U>::new(wrapping::div(self.value(), rhs.value(), BITS))
     }
@@ -135,7 +131,6 @@ impl<T: SignedStorage, const BITS: usize, U: UnsignedOf<T>> Neg for Int<T, BITS,
 
     ghost neg_gives = { λ a r. r ≡ neg_ℤ a };
 
-    #[tactic(auto, using(arbitrary_base::proofs::storages::CheckedSum::fitting))]
     fn neg(self) -> Int<T, BITS, U> {
         Int::<T, BITS, U>::new(wrapping::neg(self.value(), BITS))
     }

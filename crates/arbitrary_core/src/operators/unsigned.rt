@@ -18,7 +18,6 @@ impl<T: UnsignedStorage, const BITS: usize> Add<UInt<T, BITS>> for UInt<T, BITS>
     ghost add_gives = { λ a b r. (r ≡ a +ℤ b)
         × InRange T.SIGNED BITS a × InRange T.SIGNED BITS b };
 
-    #[tactic(auto, using(arbitrary_base::proofs::storages::CheckedSum::fitting))]
     fn add(self, rhs: UInt<T, BITS>) -> UInt<T, BITS> {
         UInt::new(wrapping::add(self.value(), rhs.value(), BITS))
     }
@@ -45,7 +44,6 @@ impl<T: UnsignedStorage, const BITS: usize> Sub<UInt<T, BITS>> for UInt<T, BITS>
     ghost sub_gives = { λ a b r. (r ≡ a -ℤ b)
         × InRange T.SIGNED BITS a × InRange T.SIGNED BITS b };
 
-    #[tactic(auto, using(arbitrary_base::proofs::storages::CheckedSum::fitting))]
     fn sub(self, rhs: UInt<T, BITS>) -> UInt<T, BITS> {
         UInt::new(wrapping::sub(self.value(), rhs.value(), BITS))
     }
@@ -71,7 +69,6 @@ impl<T: UnsignedStorage, const BITS: usize> Mul<UInt<T, BITS>> for UInt<T, BITS>
 
     ghost mul_gives = { λ a b r. r ≡ a *ℤ b };
 
-    #[tactic(auto, using(arbitrary_base::proofs::storages::CheckedSum::fitting))]
     fn mul(self, rhs: UInt<T, BITS>) -> UInt<T, BITS> {
         UInt::new(wrapping::mul(self.value(), rhs.value(), BITS))
     }
@@ -96,7 +93,6 @@ impl<T: UnsignedStorage, const BITS: usize> Div<UInt<T, BITS>> for UInt<T, BITS>
 
     ghost div_gives = { λ a b r. r ≡ int_div a b };
 
-    #[tactic(auto, using(arbitrary_base::proofs::storages::CheckedSum::fitting))]
     fn div(self, rhs: UInt<T, BITS>) -> UInt<T, BITS>
         requires { let quotient = int_div self rhs in let in_range = InRange T.SIGNED BITS in
             (rhs ≢ pos 0) × (in_range self → in_range rhs → in_range quotient) }

@@ -10,7 +10,6 @@ use arbitrary_base::storage::UnsignedStorage;
 use std::fmt;
 
 impl<T: UnsignedStorage, const BITS: usize> fmt::LowerHex for UInt<T, BITS> {
-    #[tactic(auto, using(crate::proofs::Word::naturals))]
     fn fmt<W: fmt::Write>(&self, f: &mut fmt::Formatter<W>) -> fmt::Result
         ensures pattern { let text = digits 16 false (residue T.WIDTH self.now) in
             T.WIDTH ≤ 64 → WritesOnOk W.write_str_gives f.old result text f.new }
@@ -22,7 +21,6 @@ impl<T: UnsignedStorage, const BITS: usize> fmt::LowerHex for UInt<T, BITS> {
 }
 
 impl<T: UnsignedStorage, const BITS: usize> fmt::UpperHex for UInt<T, BITS> {
-    #[tactic(auto, using(crate::proofs::Word::naturals))]
     fn fmt<W: fmt::Write>(&self, f: &mut fmt::Formatter<W>) -> fmt::Result
         ensures pattern { let text = digits 16 true (residue T.WIDTH self.now) in
             T.WIDTH ≤ 64 → WritesOnOk W.write_str_gives f.old result text f.new }
@@ -34,7 +32,6 @@ impl<T: UnsignedStorage, const BITS: usize> fmt::UpperHex for UInt<T, BITS> {
 }
 
 impl<T: UnsignedStorage, const BITS: usize> fmt::Octal for UInt<T, BITS> {
-    #[tactic(auto, using(crate::proofs::Word::naturals))]
     fn fmt<W: fmt::Write>(&self, f: &mut fmt::Formatter<W>) -> fmt::Result
         ensures pattern { let text = digits 8 false (residue T.WIDTH self.now) in
             T.WIDTH ≤ 64 → WritesOnOk W.write_str_gives f.old result text f.new }
@@ -46,7 +43,6 @@ impl<T: UnsignedStorage, const BITS: usize> fmt::Octal for UInt<T, BITS> {
 }
 
 impl<T: UnsignedStorage, const BITS: usize> fmt::Binary for UInt<T, BITS> {
-    #[tactic(auto, using(crate::proofs::Word::naturals))]
     fn fmt<W: fmt::Write>(&self, f: &mut fmt::Formatter<W>) -> fmt::Result
         ensures pattern { let text = digits 2 false (residue T.WIDTH self.now) in
             T.WIDTH ≤ 64 → WritesOnOk W.write_str_gives f.old result text f.new }

@@ -3,6 +3,7 @@
 ghost use Rattle.std.specs.Prelude.{◌≡◌, ◌+ℤ◌, ◌*ℤ◌, pos};
 ghost use Rattle.std.specs.List.{fold};
 ghost use Rattle.arbitrary_base.specs.Range.{InRange};
+ghost use Rattle.arbitrary_base.specs.Residue.{wrap};
 
 use crate::signed::Int;
 use crate::totals::{Total, product_from, sum_from};
@@ -27,10 +28,9 @@ impl<T: SignedStorage, const BITS: usize, U: UnsignedOf<T>> Total for Int<T, BIT
     }
 }
 
-/// The number 1, with which a product begins. The type of one bit has no 1.
+/// The number 1, truncated, with which a product begins. The type of one bit has no 1.
 fn one<T: SignedStorage + HasWidth<BITS>, const BITS: usize, U: UnsignedOf<T>>() -> Int<T, BITS, U>
-    requires { InRange T.SIGNED BITS (pos 1) }
-    ensures { result ≡ pos 1 }
+    ensures { result ≡ wrap T.SIGNED BITS (pos 1) }
 {
     Int::<T, BITS, U>::new(from_low_bits(1, BITS))
 }

@@ -1,9 +1,9 @@
-use Rattle.std.proofs.Common.{rules, ◌≤◌, arith}
+use Rattle.std.proofs.Common.{◌≤◌, arith}
 use Rattle.arbitrary_base.proofs.modular.Truncation.{widened}
 use Rattle.arbitrary_core.proofs.unsigned.UInt.widen.Goals as goal
 
-pub new-requires : goal.new-requires
-new-requires g c =
+pub invariant_of-result : goal.invariant_of-result
+invariant_of-result g c =
     let above = c.requires.above in
     let some : 1 ≤ g.row.R = omega arith in
-    (search rules, ((some, c.requires.width), widened g.T.Storage.SIGNED g.row.BITS g.row.R _ _ (c.value.ensures.width.0) c.requires.above c.value.ensures.self_in_range c.value.ensures.number))
+    ((some, c.requires.width), widened g.T.Storage.SIGNED g.row.BITS g.row.R _ _ (c.value.ensures.width.0) c.requires.above c.value.ensures.self_in_range c.value.ensures.number)

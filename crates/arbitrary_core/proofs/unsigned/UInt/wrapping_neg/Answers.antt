@@ -1,18 +1,18 @@
+use Rattle.std.specs.Prelude.{neg_ℤ}
+use Rattle.arbitrary_base.specs.Residue.{wrap}
 use Rattle.arbitrary_base.proofs.modular.ExactOrCongruent.{wrapped-congruent, wrapped-exact}
 use Rattle.arbitrary_base.proofs.operations.WrappedRing.{negated-is, negated-undone}
+use Rattle.arbitrary_core.proofs.Results.{of_number}
 use Rattle.arbitrary_core.proofs.unsigned.UInt.wrapping_neg.Goals as goal
 
-pub returns-clause-value : goal.returns-clause-value
-returns-clause-value g c = cc
-
-pub returns-clause-exact : goal.returns-clause-exact
-returns-clause-exact g c h = wrapped-exact _ _ _ _ c.value.ensures.width.0 h (returns-clause-value g c)
-
-pub returns-clause-congruent : goal.returns-clause-congruent
-returns-clause-congruent g c = wrapped-congruent _ _ _ _ (returns-clause-value g c)
-
-pub returns-clause-operation : goal.returns-clause-operation
-returns-clause-operation g c = negated-is _ _ _ _ (returns-clause-value g c)
-
-pub returns-clause-undo : goal.returns-clause-undo
-returns-clause-undo g c = negated-undone _ _ _ _ c.value.ensures.width.0 c.value.ensures.self_in_range (returns-clause-value g c)
+pub returns : goal.returns
+returns g c =
+    let w = c.value.ensures.width.0 in
+    let e = of_number (λ x. wrap g.T.Storage.SIGNED g.row.BITS (neg_ℤ x)) c.value.ensures.number c.neg.ensures.value c.new.ensures in
+    record {
+      value = e;
+      exact = λ h. wrapped-exact _ _ _ _ w h e;
+      congruent = wrapped-congruent _ _ _ _ e;
+      operation = negated-is _ _ _ _ e;
+      undo = negated-undone _ _ _ _ w c.value.ensures.self_in_range e;
+    }

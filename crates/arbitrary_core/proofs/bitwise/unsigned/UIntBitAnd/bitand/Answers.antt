@@ -1,8 +1,8 @@
-use Rattle.std.specs.Prelude.{◌≡◌}
 use Rattle.std.proofs.Common.{sym, ◌∙◌}
 use Rattle.arbitrary_base.specs.BitList.{bits, val, bits_and}
 use Rattle.arbitrary_base.proofs.bit_lists.StdBitwise.{and-plain, and-left, and-right, not_below_zero}
 use Rattle.arbitrary_base.proofs.operations.Definition.{and-is, of-bits}
+use Rattle.arbitrary_core.proofs.Results.{of_numbers}
 use Rattle.arbitrary_core.proofs.bitwise.unsigned.UIntBitAnd.bitand.Goals as goal
 
 pub returns : goal.returns
@@ -13,7 +13,7 @@ returns g c =
     let y = c.value-2.ensures.self_in_range in
     let a = not_below_zero _ _ _ u x in
     let b = not_below_zero _ _ _ u y in
-    let e : c.new.result ≡ val g.T.Storage.SIGNED (bits_and (bits g.row.BITS c.args.self) (bits g.row.BITS c.args.rhs)) = cc in
+    let e = of_numbers (λ x y. val g.T.Storage.SIGNED (bits_and (bits g.row.BITS x) (bits g.row.BITS y))) c.value.ensures.number c.value-2.ensures.number c.and.ensures.value c.new.ensures in
     record {
       operation = e ∙ sym (and-is _ _ _ _);
       bits = e;

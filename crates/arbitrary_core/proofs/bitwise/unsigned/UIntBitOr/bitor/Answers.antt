@@ -1,10 +1,10 @@
-use Rattle.std.specs.Prelude.{◌≡◌}
 use Rattle.std.proofs.Common.{sym, ◌∙◌}
 use Rattle.arbitrary_base.specs.BitList.{bits, val, bits_or}
 use Rattle.arbitrary_base.proofs.bit_lists.StdBitwise.{or-plain, not_below_zero}
 use Rattle.arbitrary_base.proofs.operations.BitsAndSums.{or-keeps}
 use Rattle.arbitrary_base.proofs.operations.Bitwise.{bitwise_or-commutes}
 use Rattle.arbitrary_base.proofs.operations.Definition.{or-is, of-bits}
+use Rattle.arbitrary_core.proofs.Results.{of_numbers}
 use Rattle.arbitrary_core.proofs.bitwise.unsigned.UIntBitOr.bitor.Goals as goal
 
 pub returns : goal.returns
@@ -15,7 +15,7 @@ returns g c =
     let y = c.value-2.ensures.self_in_range in
     let a = not_below_zero _ _ _ u x in
     let b = not_below_zero _ _ _ u y in
-    let e : c.new.result ≡ val g.T.Storage.SIGNED (bits_or (bits g.row.BITS c.args.self) (bits g.row.BITS c.args.rhs)) = cc in
+    let e = of_numbers (λ x y. val g.T.Storage.SIGNED (bits_or (bits g.row.BITS x) (bits g.row.BITS y))) c.value.ensures.number c.value-2.ensures.number c.or.ensures.value c.new.ensures in
     record {
       operation = e ∙ sym (or-is _ _ _ _);
       bits = e;

@@ -1,21 +1,22 @@
+use Rattle.std.specs.Prelude.{◌-ℤ◌}
 use Rattle.std.proofs.Common.{sym, ◌∙◌}
+use Rattle.arbitrary_base.specs.Residue.{wrap}
 use Rattle.arbitrary_base.proofs.modular.ExactOrCongruent.{wrapped-congruent, wrapped-exact}
 use Rattle.arbitrary_base.proofs.modular.Inverse.{add-undoes}
 use Rattle.arbitrary_base.proofs.operations.Definition.{difference-is, sum-is}
+use Rattle.arbitrary_core.proofs.Results.{of_numbers}
 use Rattle.arbitrary_core.proofs.numeric.signed.IntWrappingSub.wrapping_sub.Goals as goal
 
-pub returns-clause-value : goal.returns-clause-value
-returns-clause-value g c = cc
-
-pub returns-clause-operation : goal.returns-clause-operation
-returns-clause-operation g c = returns-clause-value g c ∙ sym (difference-is _ _ _ _)
-
-pub returns-clause-exact : goal.returns-clause-exact
-returns-clause-exact g c h = wrapped-exact _ _ _ _ c.value.ensures.width.0 h (returns-clause-value g c)
-
-pub returns-clause-congruent : goal.returns-clause-congruent
-returns-clause-congruent g c = wrapped-congruent _ _ _ _ (returns-clause-value g c)
-
-pub returns-clause-undo : goal.returns-clause-undo
-returns-clause-undo g c =
-    add-undoes _ _ c.new.result c.args.v.now _ _ c.value.ensures.width.0 c.value.ensures.self_in_range (returns-clause-value g c) (sum-is _ _ _ _)
+pub returns : goal.returns
+returns g c =
+    let w = c.value.ensures.width.0 in
+    let e = of_numbers (λ x y. wrap g.T.Storage.SIGNED g.row.BITS (x -ℤ y)) c.value.ensures.number c.value-2.ensures.number c.sub.ensures.value c.new.ensures in
+    record {
+      operation = e ∙ sym (difference-is _ _ _ _);
+      value = e;
+      exact = λ h. wrapped-exact _ _ _ _ w h e;
+      congruent = wrapped-congruent _ _ _ _ e;
+      undo = add-undoes _ _ c.new.result c.args.v.now _ _ w c.value.ensures.self_in_range e (sum-is _ _ _ _);
+      self_in_range = c.value.ensures.self_in_range;
+      v_in_range = c.value-2.ensures.self_in_range;
+    }

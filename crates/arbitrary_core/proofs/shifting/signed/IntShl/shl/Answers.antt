@@ -13,6 +13,16 @@ use Rattle.arbitrary_base.proofs.operations.Definition.{left-is}
 use Rattle.arbitrary_base.proofs.operations.Shift.{shifted_left-none}
 use Rattle.arbitrary_core.proofs.shifting.signed.IntShl.shl.Goals as goal
 
+pub to_amount-requires-clause-high : goal.to_amount-requires-clause-high
+to_amount-requires-clause-high g c =
+    let high = c.requires.1 in
+    let fits = c.to_bits.ensures.width.1 in
+    let width = g.met.T.Storage.width_law.1 in
+    omega (arith, ints)
+
+pub shl-requires-clause-within : goal.shl-requires-clause-within
+shl-requires-clause-within g c = let high = c.requires.1 in let same = c.to_amount.ensures in omega (arith, ints)
+
 pub returns : goal.returns
 returns g c =
     let w = c.to_bits.ensures.width.0 in

@@ -4,7 +4,18 @@ use Rattle.std.proofs.lemmas.Int.{ints}
 use Rattle.arbitrary_base.specs.BitList.{bits, val, shl}
 use Rattle.arbitrary_base.proofs.operations.ShiftAsProduct.{shl-plain, shl-congruent}
 use Rattle.arbitrary_base.proofs.operations.Definition.{left-is}
+use Rattle.arbitrary_core.proofs.Results.{of_numbers}
 use Rattle.arbitrary_core.proofs.shifting.unsigned.UIntShl.shl.Goals as goal
+
+pub to_amount-requires-clause-high : goal.to_amount-requires-clause-high
+to_amount-requires-clause-high g c =
+    let high = c.requires.1 in
+    let fits = c.value.ensures.width.1 in
+    let width = g.met.T.Storage.width_law.1 in
+    omega (arith, ints)
+
+pub shl-requires-clause-within : goal.shl-requires-clause-within
+shl-requires-clause-within g c = let high = c.requires.1 in let same = c.to_amount.ensures in omega (arith, ints)
 
 pub returns : goal.returns
 returns g c =
@@ -13,7 +24,7 @@ returns g c =
     let k : c.to_amount.result ≡ unsigned_abs (g.S.ShiftAmount.amount c.args.amount) = ap unsigned_abs c.to_amount.ensures in
     let l : unsigned_abs (g.S.ShiftAmount.amount c.args.amount) < g.row.BITS =
     let low = c.requires.0 in let high = c.requires.1 in let a = c.to_amount.ensures in omega (arith, ints) in
-    let e : c.new.result ≡ val g.T.Storage.SIGNED (shl (bits g.row.BITS c.args.self) (unsigned_abs (g.S.ShiftAmount.amount c.args.amount))) = cc in
+    let e = of_numbers (λ x n. val g.T.Storage.SIGNED (shl (bits g.row.BITS x) n)) c.value.ensures.number k c.shl.ensures.value c.new.ensures in
     record {
       operation = e ∙ sym (left-is _ _ _ _);
       bits = e;

@@ -6,7 +6,18 @@ use Rattle.std.proofs.lemmas.Int.{ints}
 use Rattle.arbitrary_base.specs.BitList.{bits, val, fill, shr}
 use Rattle.arbitrary_base.proofs.operations.ShiftAsProduct.{shr-quotient}
 use Rattle.arbitrary_base.proofs.operations.Definition.{right-is}
+use Rattle.arbitrary_core.proofs.Results.{of_numbers}
 use Rattle.arbitrary_core.proofs.shifting.unsigned.UIntShr.shr.Goals as goal
+
+pub to_amount-requires-clause-high : goal.to_amount-requires-clause-high
+to_amount-requires-clause-high g c =
+    let high = c.requires.1 in
+    let fits = c.value.ensures.width.1 in
+    let width = g.met.T.Storage.width_law.1 in
+    omega (arith, ints)
+
+pub shr-requires-clause-within : goal.shr-requires-clause-within
+shr-requires-clause-within g c = let high = c.requires.1 in let same = c.to_amount.ensures in omega (arith, ints)
 
 pub returns : goal.returns
 returns g c =
@@ -15,7 +26,7 @@ returns g c =
     let k : c.to_amount.result ≡ unsigned_abs (g.S.ShiftAmount.amount c.args.amount) = ap unsigned_abs c.to_amount.ensures in
     let l : unsigned_abs (g.S.ShiftAmount.amount c.args.amount) < g.row.BITS =
     let low = c.requires.0 in let high = c.requires.1 in let a = c.to_amount.ensures in omega (arith, ints) in
-    let e : c.new.result ≡ val g.T.Storage.SIGNED (shr (bits g.row.BITS c.args.self) (unsigned_abs (g.S.ShiftAmount.amount c.args.amount)) (fill g.T.Storage.SIGNED (bits g.row.BITS c.args.self))) = cc in
+    let e = of_numbers (λ x n. let list = bits g.row.BITS x in val g.T.Storage.SIGNED (shr list n (fill g.T.Storage.SIGNED list))) c.value.ensures.number k c.shr.ensures.value c.new.ensures in
     record {
       operation = e ∙ sym (right-is _ _ _ _);
       bits = e;

@@ -1,0 +1,6 @@
+use Rattle.std.proofs.Common.{◌∙◌}
+use Rattle.arbitrary_base.proofs.storages.CheckedSum.{wrap-zero}
+use Rattle.arbitrary_core.proofs.integer.signed.IntInteger.zero.Goals as goal
+
+pub returns : goal.returns
+returns g c = c.new.ensures ∙ c.from_low_bits.ensures.value ∙ wrap-zero _ _ (c.requires.0)

@@ -1,0 +1,11 @@
+use Rattle.std.specs.Prelude.{◌-ℤ◌}
+use Rattle.arbitrary_base.specs.Residue.{wrap}
+use Rattle.arbitrary_base.proofs.modular.ExactOrCongruent.{wrapped-exact}
+use Rattle.arbitrary_core.proofs.Results.{of_numbers}
+use Rattle.arbitrary_core.proofs.operators.unsigned.UIntSub.sub.Goals as goal
+
+pub returns : goal.returns
+returns g c =
+    let f = c.value.ensures.self_in_range in
+    let h = c.value-2.ensures.self_in_range in
+    (wrapped-exact _ _ _ _ c.value.ensures.width.0 (c.requires f h) (of_numbers (λ x y. wrap g.T.Storage.SIGNED g.row.BITS (x -ℤ y)) c.value.ensures.number c.value-2.ensures.number c.sub.ensures.value c.new.ensures), f, h)

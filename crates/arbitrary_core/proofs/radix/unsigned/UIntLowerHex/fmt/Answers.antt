@@ -1,0 +1,11 @@
+use Rattle.std.proofs.Common.{sym}
+use Rattle.arbitrary_base.proofs.bit_lists.StdBitwise.{not_below_zero}
+use Rattle.arbitrary_core.proofs.radix.unsigned.UIntLowerHex.fmt.Goals as goal
+
+pub returns : goal.returns
+returns g c =
+    let natural = not_below_zero _ _ _ g.met.T.UnsignedStorage.unsigned_law c.value.ensures.self_in_range in
+    rw (sym c.value.ensures.number) (record {
+      pattern = c.lower_hex.ensures.pattern;
+      natural = λ w. c.lower_hex.ensures.natural w (rw c.value.ensures.number natural);
+    })
