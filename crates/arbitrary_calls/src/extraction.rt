@@ -7,11 +7,22 @@ ghost use Rattle.arbitrary_base.specs.BitList.{bits, val};
 
 use crate::stored::Stored;
 use arbitrary_base::extraction;
+use arbitrary_base::storage::Storage;
+
+/// The value of the `BITS` bits of `source` from place `start_bit` on. The width is valid.
+fn extracted<S: Storage, N: Stored>(source: S, start_bit: usize) -> N
+    requires width { N.valid }
+    requires within { start_bit + N.BITS ≤ S.WIDTH }
+    ensures value { let list = bits S.WIDTH (S.number source) in
+        N.number result ≡ val N.IS_SIGNED (take N.BITS (drop start_bit list)) }
+    ensures some { 1 ≤ N.BITS }
+{
+    N::from_storage(extraction::extract(source, start_bit, N::BITS))
+}
 
 /// Every integer of fixed width is read out of the words of the ten primitives.
 pub trait Extraction: Stored {
     /// The value of the `BITS` bits of `value` from place `start_bit` on, all among its 8. The width is valid.
-    #[tactic(auto, using(arbitrary_base::proofs::bit_lists::ExtractedField::fields))]
     final fn extract_u8(value: u8, start_bit: usize) -> Self
         requires width { Self.valid }
         requires within { start_bit + Self.BITS ≤ 8 }
@@ -23,11 +34,10 @@ pub trait Extraction: Stored {
         ensures wrapped { let taken = field value start_bit Self.BITS in
             Self.number result ≡ wrap Self.IS_SIGNED Self.BITS taken }
     {
-        Self::from_storage(extraction::extract(value, start_bit, Self::BITS))
+        extracted(value, start_bit)
     }
 
     /// The value of the `BITS` bits of `value` from place `start_bit` on, all among its 16. The width is valid.
-    #[tactic(auto, using(arbitrary_base::proofs::bit_lists::ExtractedField::fields))]
     final fn extract_u16(value: u16, start_bit: usize) -> Self
         requires width { Self.valid }
         requires within { start_bit + Self.BITS ≤ 16 }
@@ -39,11 +49,10 @@ pub trait Extraction: Stored {
         ensures wrapped { let taken = field value start_bit Self.BITS in
             Self.number result ≡ wrap Self.IS_SIGNED Self.BITS taken }
     {
-        Self::from_storage(extraction::extract(value, start_bit, Self::BITS))
+        extracted(value, start_bit)
     }
 
     /// The value of the `BITS` bits of `value` from place `start_bit` on, all among its 32. The width is valid.
-    #[tactic(auto, using(arbitrary_base::proofs::bit_lists::ExtractedField::fields))]
     final fn extract_u32(value: u32, start_bit: usize) -> Self
         requires width { Self.valid }
         requires within { start_bit + Self.BITS ≤ 32 }
@@ -55,11 +64,10 @@ pub trait Extraction: Stored {
         ensures wrapped { let taken = field value start_bit Self.BITS in
             Self.number result ≡ wrap Self.IS_SIGNED Self.BITS taken }
     {
-        Self::from_storage(extraction::extract(value, start_bit, Self::BITS))
+        extracted(value, start_bit)
     }
 
     /// The value of the `BITS` bits of `value` from place `start_bit` on, all among its 64. The width is valid.
-    #[tactic(auto, using(arbitrary_base::proofs::bit_lists::ExtractedField::fields))]
     final fn extract_u64(value: u64, start_bit: usize) -> Self
         requires width { Self.valid }
         requires within { start_bit + Self.BITS ≤ 64 }
@@ -71,11 +79,10 @@ pub trait Extraction: Stored {
         ensures wrapped { let taken = field value start_bit Self.BITS in
             Self.number result ≡ wrap Self.IS_SIGNED Self.BITS taken }
     {
-        Self::from_storage(extraction::extract(value, start_bit, Self::BITS))
+        extracted(value, start_bit)
     }
 
     /// The value of the `BITS` bits of `value` from place `start_bit` on, all among its 128. The width is valid.
-    #[tactic(auto, using(arbitrary_base::proofs::bit_lists::ExtractedField::fields))]
     final fn extract_u128(value: u128, start_bit: usize) -> Self
         requires width { Self.valid }
         requires within { start_bit + Self.BITS ≤ 128 }
@@ -87,11 +94,10 @@ pub trait Extraction: Stored {
         ensures wrapped { let taken = field value start_bit Self.BITS in
             Self.number result ≡ wrap Self.IS_SIGNED Self.BITS taken }
     {
-        Self::from_storage(extraction::extract(value, start_bit, Self::BITS))
+        extracted(value, start_bit)
     }
 
     /// The value of the `BITS` bits of `value` from place `start_bit` on, all among its 8. The width is valid.
-    #[tactic(auto, using(arbitrary_base::proofs::bit_lists::ExtractedField::fields, arbitrary_base::proofs::storages::Primitive::signed_laws))]
     final fn extract_i8(value: i8, start_bit: usize) -> Self
         requires width { Self.valid }
         requires within { start_bit + Self.BITS ≤ 8 }
@@ -99,11 +105,10 @@ pub trait Extraction: Stored {
             ≡ val Self.IS_SIGNED (take Self.BITS (drop start_bit (bits 8 value))) }
         ensures field { IsField start_bit Self.BITS value (Self.number result) }
     {
-        Self::from_storage(extraction::extract(value, start_bit, Self::BITS))
+        extracted(value, start_bit)
     }
 
     /// The value of the `BITS` bits of `value` from place `start_bit` on, all among its 16. The width is valid.
-    #[tactic(auto, using(arbitrary_base::proofs::bit_lists::ExtractedField::fields, arbitrary_base::proofs::storages::Primitive::signed_laws))]
     final fn extract_i16(value: i16, start_bit: usize) -> Self
         requires width { Self.valid }
         requires within { start_bit + Self.BITS ≤ 16 }
@@ -111,11 +116,10 @@ pub trait Extraction: Stored {
             ≡ val Self.IS_SIGNED (take Self.BITS (drop start_bit (bits 16 value))) }
         ensures field { IsField start_bit Self.BITS value (Self.number result) }
     {
-        Self::from_storage(extraction::extract(value, start_bit, Self::BITS))
+        extracted(value, start_bit)
     }
 
     /// The value of the `BITS` bits of `value` from place `start_bit` on, all among its 32. The width is valid.
-    #[tactic(auto, using(arbitrary_base::proofs::bit_lists::ExtractedField::fields, arbitrary_base::proofs::storages::Primitive::signed_laws))]
     final fn extract_i32(value: i32, start_bit: usize) -> Self
         requires width { Self.valid }
         requires within { start_bit + Self.BITS ≤ 32 }
@@ -123,11 +127,10 @@ pub trait Extraction: Stored {
             ≡ val Self.IS_SIGNED (take Self.BITS (drop start_bit (bits 32 value))) }
         ensures field { IsField start_bit Self.BITS value (Self.number result) }
     {
-        Self::from_storage(extraction::extract(value, start_bit, Self::BITS))
+        extracted(value, start_bit)
     }
 
     /// The value of the `BITS` bits of `value` from place `start_bit` on, all among its 64. The width is valid.
-    #[tactic(auto, using(arbitrary_base::proofs::bit_lists::ExtractedField::fields, arbitrary_base::proofs::storages::Primitive::signed_laws))]
     final fn extract_i64(value: i64, start_bit: usize) -> Self
         requires width { Self.valid }
         requires within { start_bit + Self.BITS ≤ 64 }
@@ -135,11 +138,10 @@ pub trait Extraction: Stored {
             ≡ val Self.IS_SIGNED (take Self.BITS (drop start_bit (bits 64 value))) }
         ensures field { IsField start_bit Self.BITS value (Self.number result) }
     {
-        Self::from_storage(extraction::extract(value, start_bit, Self::BITS))
+        extracted(value, start_bit)
     }
 
     /// The value of the `BITS` bits of `value` from place `start_bit` on, all among its 128. The width is valid.
-    #[tactic(auto, using(arbitrary_base::proofs::bit_lists::ExtractedField::fields, arbitrary_base::proofs::storages::Primitive::signed_laws))]
     final fn extract_i128(value: i128, start_bit: usize) -> Self
         requires width { Self.valid }
         requires within { start_bit + Self.BITS ≤ 128 }
@@ -147,7 +149,7 @@ pub trait Extraction: Stored {
             ≡ val Self.IS_SIGNED (take Self.BITS (drop start_bit (bits 128 value))) }
         ensures field { IsField start_bit Self.BITS value (Self.number result) }
     {
-        Self::from_storage(extraction::extract(value, start_bit, Self::BITS))
+        extracted(value, start_bit)
     }
 }
 

@@ -60,7 +60,6 @@ pub trait Numbered: Copy + Sealed {
     // otherwise the search would not compare a byte of a signed number.
     /// The number that is congruent to that of `value` modulo `2 ^ BITS`: high bits are dropped,
     /// and the sign is extended. Requires a valid width.
-    #[tactic(auto, using(crate::proofs::Conversion::conversions))]
     final fn masked_new<T: Numbered>(value: T) -> Self
         requires { valid }
         ensures value { number result ≡ wrap IS_SIGNED BITS (T.number value) }
@@ -192,7 +191,6 @@ pub trait Numbered: Copy + Sealed {
     }
 
     /// The low 8 bits, as a signed number.
-    #[tactic(auto, using(crate::proofs::Conversion::wider_types))]
     final fn as_i8(self) -> i8
         ensures value { result ≡ wrap true 8 (number self) }
         ensures exact { InRange true 8 (number self) → result ≡ number self }
@@ -209,7 +207,6 @@ pub trait Numbered: Copy + Sealed {
     }
 
     /// The low 16 bits, as a signed number.
-    #[tactic(auto, using(crate::proofs::Conversion::wider_types))]
     final fn as_i16(self) -> i16
         ensures value { result ≡ wrap true 16 (number self) }
         ensures exact { InRange true 16 (number self) → result ≡ number self }
@@ -226,7 +223,6 @@ pub trait Numbered: Copy + Sealed {
     }
 
     /// The low 32 bits, as a signed number.
-    #[tactic(auto, using(crate::proofs::Conversion::wider_types))]
     final fn as_i32(self) -> i32
         ensures value { result ≡ wrap true 32 (number self) }
         ensures exact { InRange true 32 (number self) → result ≡ number self }
@@ -243,7 +239,6 @@ pub trait Numbered: Copy + Sealed {
     }
 
     /// The low 64 bits, as a signed number.
-    #[tactic(auto, using(crate::proofs::Conversion::wider_types))]
     final fn as_i64(self) -> i64
         ensures value { result ≡ wrap true 64 (number self) }
         ensures exact { InRange true 64 (number self) → result ≡ number self }
@@ -260,7 +255,6 @@ pub trait Numbered: Copy + Sealed {
     }
 
     /// The low 128 bits, as a signed number.
-    #[tactic(auto, using(crate::proofs::Conversion::wider_types))]
     final fn as_i128(self) -> i128
         ensures value { result ≡ wrap true 128 (number self) }
         ensures exact { InRange true 128 (number self) → result ≡ number self }
@@ -277,7 +271,6 @@ pub trait Numbered: Copy + Sealed {
     }
 
     /// The low 64 bits, as a signed number.
-    #[tactic(auto, using(crate::proofs::Conversion::wider_types))]
     final fn as_isize(self) -> isize
         ensures value { result ≡ wrap true 64 (number self) }
         ensures exact { InRange true 64 (number self) → result ≡ number self }

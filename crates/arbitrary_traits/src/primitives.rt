@@ -199,13 +199,11 @@ where
         self
     }
 
-    #[tactic(auto, using(crate::proofs::Conversion::counterparts))]
     fn to_unsigned(self) -> T::Unsigned {
         let _pattern = self.pattern();
         cast(self, T::WIDTH)
     }
 
-    #[tactic(auto, using(crate::proofs::Conversion::counterparts))]
     fn from_unsigned(value: T::Unsigned) -> T {
         cast(value, T::WIDTH)
     }

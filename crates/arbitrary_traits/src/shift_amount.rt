@@ -20,7 +20,6 @@ pub trait ShiftAmount: Sealed + Copy {
 impl<T: Primitive> ShiftAmount for T {
     ghost amount = { T.number };
 
-    #[tactic(auto, using(crate::proofs::Conversion::amounts))]
     fn to_amount(self) -> usize {
         self.pattern() as usize
     }

@@ -2,7 +2,7 @@
 use Rattle.std.specs.Bool.{beq}
 use Rattle.std.specs.Int.{int_div_euclid, int_rem_euclid}
 use Rattle.std.specs.List.{count_by, prefix_len, suffix_len}
-use Rattle.std.specs.Prelude.{Bool, false, neg_ℤ, negsuc, pos, suc, true, unsigned_abs, zero, ℕ, ℤ, ◌%◌, ◌*ℤ◌, ◌+◌, ◌-ℤ◌, ◌-◌, ◌<ℤ◌, ◌<◌, ◌==◌, ◌^◌, ◌∷◌, ◌≡◌, ◌≢◌, ◌≤ℤ◌, ◌≤◌}
+use Rattle.std.specs.Prelude.{Bool, false, neg_ℤ, negsuc, pos, suc, true, unsigned_abs, zero, ℕ, ℤ, ◌%◌, ◌+◌, ◌-ℤ◌, ◌-◌, ◌<ℤ◌, ◌<◌, ◌==◌, ◌^◌, ◌∷◌, ◌≡◌, ◌≢◌, ◌≤ℤ◌, ◌≤◌}
 use Rattle.std.proofs.Common.{ap, arith, refl, sym, ◌∙◌}
 use Rattle.std.proofs.lemmas.Int.{ints}
 use Rattle.std.proofs.lemmas.Nat.{pow_pos}
@@ -14,7 +14,7 @@ use Rattle.arbitrary_base.proofs.bit_lists.StdBitwise.{not-signed, not-unsigned}
 use Rattle.arbitrary_base.proofs.modular.Congruence.{pow_half, pow_le}
 use Rattle.arbitrary_base.proofs.operations.Definition.{not-in_range, not-is}
 use Rattle.arbitrary_base.proofs.operations.PopulationAndRuns.{front_zeros-of_not, popcount-of_not, tail_zeros-of_not}
-use Rattle.arbitrary_calls.proofs.counts.EndCounts.{front-of_minus_one, no_ones-of_zero, popcount-of_highest, popcount-of_minus_one, tail-of_minus_one}
+use Rattle.arbitrary_calls.proofs.counts.EndCounts.{front-of_minus_one, popcount-of_minus_one, tail-of_minus_one}
 use Rattle.arbitrary_calls.proofs.counts.ZeroRunBounds.{leading-found, leading-high, leading-low, leading-negative, leading-none, popcount-some, trailing-found}
 
 -- ---- the complement
@@ -161,12 +161,3 @@ trailing_ones-minus_one B x e = ap (λ (z : ℤ). prefix_len (beq true) (bits B 
 
 pub popcount-minus_one : (B : ℕ) (x : ℤ) → x ≡ neg_ℤ (pos 1) → count_by (λ b. b) (bits B x) ≡ B
 popcount-minus_one B x e = ap (λ (z : ℤ). count_by (λ b. b) (bits B z)) e ∙ popcount-of_minus_one B
-
--- what the calls on counts ensure besides the value
-pub ruleset ones_ends = (popcount-of_highest, popcount-minus_one, zeros-some)
-
-pub ruleset zeros_ends = (no_ones-of_zero, popcount-some, popcount-of_highest, popcount-minus_one, zeros-some)
-
-pub ruleset trailing_ends = (trailing_ones-found, trailing_ones-even, trailing_ones-odd, trailing_ones-lowest_clear, trailing_ones-lowest_set)
-
-pub ruleset lowest_bit = (trailing_zeros-odd, trailing_zeros-even, trailing_zeros-lowest_set, trailing_zeros-lowest_clear)

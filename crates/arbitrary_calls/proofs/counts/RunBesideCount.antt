@@ -46,5 +46,3 @@ front_ones-below_ones B x = front-ones_ones (bits B x)
 
 pub tail_ones-below_ones : (B : ℕ) (x : ℤ) → suffix_len (beq true) (bits B x) ≤ count_by (λ b. b) (bits B x)
 tail_ones-below_ones B x = omega (arith, front-ones_ones (reverse (bits B x)), reverse-ones (bits B x))
-
-pub ruleset zeros_beside_ones = (front_zeros-beside_ones, front_ones-below_ones)

@@ -138,5 +138,3 @@ module _ (s : Bool) (B : ℕ) (x : ℤ) (h : 1 ≤ B) (g : B ≤ 128) (f : InRan
       by-sign true (negsuc n) f = let t = f.low in let p = pow_half B h in let q = pow_pos (B - 1) in counted (negsuc n) (omega arith) (omega (arith, ints))
       by-sign false (pos (suc m)) f = let t = f.high in let q = pow_pos B in counted (pos (suc m)) (omega arith) (omega (arith, ints))
       by-sign false (negsuc n) f = let t = f.low in absurd (omega (arith, ints))
-
-pub ruleset trailing_count = (trailing-by_count)

@@ -18,7 +18,7 @@ use Rattle.arbitrary_base.proofs.modular.Congruence.{Congruent-by_times, Congrue
 use Rattle.arbitrary_base.proofs.modular.Residue.{residue-congruent, residue-lt, wrap-unique}
 use Rattle.arbitrary_base.proofs.modular.Truncation.{residue-wrap}
 use Rattle.arbitrary_base.proofs.storages.Primitive.{residue-pos}
-use Rattle.arbitrary_calls.proofs.counts.EndCounts.{front-of_zero, no_ones-of_zero, tail-of_zero, zero-of_no_ones}
+use Rattle.arbitrary_calls.proofs.counts.EndCounts.{front-of_zero, tail-of_zero, zero-of_no_ones}
 
 -- ---- the residue of a number in range
 
@@ -231,8 +231,3 @@ popcount-some s B x h f d = elim (cases_lt (count_by (λ b. b) (bits B x)) 1) [
   | inl none ↦ absurd (d (zero-of_no_ones s B x h f (let e : count_by (λ b. b) (bits B x) ≡ 0 = omega arith in e)))
   | inr some ↦ some
 ]
-
--- what the calls on counts ensure besides the value
-pub ruleset trailing_bounds = (trailing-none, trailing-found, trailing-low, trailing-odd)
-
-pub ruleset ones_bounds = (popcount-some, no_ones-of_zero)

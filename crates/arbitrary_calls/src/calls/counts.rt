@@ -17,7 +17,6 @@ use arbitrary_base::truncation::masked;
 /// In the contracts `bits` are the bits of a value's number, the lowest first.
 pub trait CountCalls: Stored + LowBits {
     /// How many of the bits are one.
-    #[tactic(auto, using(arbitrary_base::proofs::bit_lists::ResultOfPattern::count_laws, crate::proofs::counts::ZeroRunBounds::ones_bounds, crate::proofs::counts::OneRunBounds::ones_ends))]
     final fn count_ones(self) -> u32
         ensures value { result ≡ count_by (λ b. b) (bits Self.BITS (Self.number self)) }
         ensures plain { let number = Self.number self in
@@ -35,7 +34,6 @@ pub trait CountCalls: Stored + LowBits {
     }
 
     /// How many of the bits are zero.
-    #[tactic(auto, using(arbitrary_base::proofs::bit_lists::ResultOfPattern::count_laws, crate::proofs::counts::OneRunBounds::zeros_ends))]
     final fn count_zeros(self) -> u32
         ensures value { result ≡ Self.BITS - count_by (λ b. b) (bits Self.BITS (Self.number self)) }
         ensures plain { let number = Self.number self in
@@ -99,7 +97,6 @@ pub trait CountCalls: Stored + LowBits {
     }
 
     /// How many bits at the low end are one before the first that is zero, or all of them.
-    #[tactic(auto, using(arbitrary_base::proofs::bit_lists::ResultOfPattern::count_laws, crate::proofs::counts::OneRunBounds::trailing_ends, crate::proofs::counts::RunBesideCount::zeros_beside_ones))]
     final fn trailing_ones(self) -> u32
         ensures value { result ≡ prefix_len (beq true) (bits Self.BITS (Self.number self)) }
         ensures bound { result ≤ Self.BITS }
@@ -117,7 +114,6 @@ pub trait CountCalls: Stored + LowBits {
     }
 
     /// How many bits at the low end are zero before the first that is one, or all of them.
-    #[tactic(auto, using(arbitrary_base::proofs::bit_lists::ResultOfPattern::count_laws, crate::proofs::counts::ZeroRunBounds::trailing_bounds, crate::proofs::counts::OneRunBounds::lowest_bit, crate::proofs::counts::RunBesideCount::zeros_beside_ones, crate::proofs::counts::RunsByDigits::trailing_count))]
     final fn trailing_zeros(self) -> u32
         ensures value { result ≡ prefix_len (beq false) (bits Self.BITS (Self.number self)) }
         ensures bound { result ≤ Self.BITS }

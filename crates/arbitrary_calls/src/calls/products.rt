@@ -100,7 +100,6 @@ pub trait ProductCalls: Stored {
     }
 
     /// The quotient, wrapped. The divisor is not zero.
-    #[tactic(auto, using(arbitrary_base::proofs::modular::ExactOrCongruent::wrapped))]
     final fn wrapping_div(self, rhs: Self) -> Self
         requires { Self.number rhs ≢ pos 0 }
         ensures value { let quotient = int_div (Self.number self) (Self.number rhs) in
@@ -162,7 +161,6 @@ pub trait ProductCalls: Stored {
     }
 
     /// The quotient, wrapped, and whether the exact one is out of range. The divisor is not zero.
-    #[tactic(auto, using(arbitrary_base::proofs::modular::ExactOrCongruent::wrapped))]
     final fn overflowing_div(self, rhs: Self) -> (Self, bool)
         requires { Self.number rhs ≢ pos 0 }
         ensures value { let quotient = int_div (Self.number self) (Self.number rhs) in

@@ -1,20 +1,30 @@
+use Rattle.std.proofs.Common.{◌∙◌}
 use Rattle.arbitrary_base.proofs.LawProof.{out-of_range_tested}
 use Rattle.arbitrary_base.proofs.modular.ExactOrCongruent.{wrapped-exact}
 use Rattle.arbitrary_base.proofs.operations.PowerAndQuotient.{wrapped-itself, wrapped-of_least}
 use Rattle.arbitrary_calls.proofs.calls.products.ProductCalls.overflowing_div.Goals as goal
 
-pub returns-clause-flag : goal.returns-clause-flag
-returns-clause-flag g c = let t = g.met.Self.Stored.sign_law in let e = out-of_range_tested _ _ _ _ c.div-quotient.ensures.overflow in cc
+pub div-quotient-requires : goal.div-quotient-requires
+div-quotient-requires g c =
+    let s = c.to_storage.ensures in let r = c.to_storage-2.ensures in
+    rw c.BITS.ensures (record { width = s.some; storage = s.storage; x_in_range = rw s.number s.self_in_range; y_in_range = rw r.number r.self_in_range; divisor = rw r.number c.requires })
 
-pub returns-clause-exact : goal.returns-clause-exact
-returns-clause-exact g c f = let t = g.met.Self.Stored.sign_law in wrapped-exact _ _ _ _ c.to_storage.ensures.some f (cc)
-
-pub returns-clause-of_least : goal.returns-clause-of_least
-returns-clause-of_least g c d n =
+pub returns : goal.returns
+returns g c =
     let t = g.met.Self.Stored.sign_law in
-    wrapped-of_least _ _ _ _ _ c.to_storage.ensures.some c.to_storage.ensures.self_in_range c.to_storage-2.ensures.self_in_range (cc) (cc) n
-
-pub returns-clause-itself : goal.returns-clause-itself
-returns-clause-itself g c f d =
-    let t = g.met.Self.Stored.sign_law in
-    wrapped-itself g.Self.Numbered.IS_SIGNED _ _ _ _ c.to_storage.ensures.some (cc) c.requires f d
+    let o = c.to_storage.ensures.some in
+    let m = rw (t, c.BITS.ensures, c.to_storage.ensures.number, c.to_storage-2.ensures.number) at c.div-quotient.ensures in
+    let e = c.from_storage.ensures ∙ m.value in
+    let r = rw t at c.to_storage.ensures.self_in_range in
+    let q = rw t at c.to_storage-2.ensures.self_in_range in
+    record {
+      value = e;
+      overflow = m.overflow;
+      flag = out-of_range_tested _ _ _ _ m.overflow;
+      exact = λ f. wrapped-exact _ _ _ _ o f e;
+      of_least = λ d n. wrapped-of_least _ _ _ _ _ o r q e d n;
+      itself = λ f d. wrapped-itself _ _ _ _ _ o e c.requires f d;
+      self_in_range = r;
+      rhs_in_range = q;
+      width = c.to_storage.ensures.width;
+    }

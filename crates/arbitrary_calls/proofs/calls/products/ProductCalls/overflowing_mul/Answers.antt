@@ -4,17 +4,19 @@ use Rattle.arbitrary_base.proofs.modular.ExactOrCongruent.{wrapped-congruent, wr
 use Rattle.arbitrary_base.proofs.operations.Definition.{product-is}
 use Rattle.arbitrary_calls.proofs.calls.products.ProductCalls.overflowing_mul.Goals as goal
 
-pub returns-clause-value : goal.returns-clause-value
-returns-clause-value g c = let t = g.met.Self.Stored.sign_law in cc
-
-pub returns-clause-operation : goal.returns-clause-operation
-returns-clause-operation g c = returns-clause-value g c ∙ sym (product-is _ _ _ _)
-
-pub returns-clause-flag : goal.returns-clause-flag
-returns-clause-flag g c = let t = g.met.Self.Stored.sign_law in let e = out-of_range_tested _ _ _ _ c.mul-product.ensures.overflow in cc
-
-pub returns-clause-exact : goal.returns-clause-exact
-returns-clause-exact g c f = wrapped-exact _ _ _ _ c.to_storage.ensures.some f (returns-clause-value g c)
-
-pub returns-clause-congruent : goal.returns-clause-congruent
-returns-clause-congruent g c = wrapped-congruent _ _ _ _ (returns-clause-value g c)
+pub returns : goal.returns
+returns g c =
+    let t = g.met.Self.Stored.sign_law in
+    let m = rw (t, c.BITS.ensures, c.to_storage.ensures.number, c.to_storage-2.ensures.number) at c.mul-product.ensures in
+    let e = c.from_storage.ensures ∙ m.value in
+    record {
+      operation = e ∙ sym (product-is _ _ _ _);
+      value = e;
+      overflow = m.overflow;
+      flag = out-of_range_tested _ _ _ _ m.overflow;
+      exact = λ f. wrapped-exact _ _ _ _ c.to_storage.ensures.some f e;
+      congruent = wrapped-congruent _ _ _ _ e;
+      self_in_range = rw (← t) c.to_storage.ensures.self_in_range;
+      rhs_in_range = rw (← t) c.to_storage-2.ensures.self_in_range;
+      width = c.to_storage.ensures.width;
+    }

@@ -1,17 +1,24 @@
-use Rattle.arbitrary_base.proofs.storages.Clamp.{clamp-InRange, clamped-above, clamped-below, clamped-exact}
+use Rattle.std.proofs.Common.{◌∙◌}
+use Rattle.arbitrary_base.proofs.storages.Clamp.{clamped-above, clamped-below, clamped-exact}
 use Rattle.arbitrary_calls.proofs.calls.sums.SumCalls.saturating_sub.Goals as goal
 
-pub returns-clause-value : goal.returns-clause-value
-returns-clause-value g c = let t = g.met.Self.Stored.sign_law in cc
+pub sub-requires : goal.sub-requires
+sub-requires g c =
+    let s = c.to_storage.ensures in let r = c.to_storage-2.ensures in
+    rw c.BITS.ensures (record { width = s.some; storage = s.storage; x_in_range = rw s.number s.self_in_range; y_in_range = rw r.number r.self_in_range })
 
-pub returns-clause-exact : goal.returns-clause-exact
-returns-clause-exact g c f = clamped-exact _ _ _ _ f (returns-clause-value g c)
-
-pub returns-clause-above : goal.returns-clause-above
-returns-clause-above g c f = clamped-above _ _ _ _ c.to_storage.ensures.some f (returns-clause-value g c)
-
-pub returns-clause-below : goal.returns-clause-below
-returns-clause-below g c f = clamped-below _ _ _ _ f (returns-clause-value g c)
-
-pub returns-clause-result_in_range : goal.returns-clause-result_in_range
-returns-clause-result_in_range g c = clamp-InRange _ _ _ _ c.to_storage.ensures.some (returns-clause-value g c)
+pub returns : goal.returns
+returns g c =
+    let t = g.met.Self.Stored.sign_law in
+    let m = rw (t, c.BITS.ensures, c.to_storage.ensures.number, c.to_storage-2.ensures.number) at c.sub.ensures in
+    let e = c.from_storage.ensures ∙ m.value in
+    record {
+      value = e;
+      exact = λ f. clamped-exact _ _ _ _ f e;
+      above = λ f. clamped-above _ _ _ _ c.to_storage.ensures.some f e;
+      below = λ f. clamped-below _ _ _ _ f e;
+      result_in_range = rw c.from_storage.ensures m.result_in_range;
+      self_in_range = rw (← t) c.to_storage.ensures.self_in_range;
+      rhs_in_range = rw (← t) c.to_storage-2.ensures.self_in_range;
+      width = c.to_storage.ensures.width;
+    }

@@ -1,0 +1,13 @@
+use Rattle.std.proofs.Common.{to_z-of_z}
+use Rattle.std.specs.Int.{w128}
+use Rattle.arbitrary_base.proofs.bit_lists.ExtractedField.{items-field}
+use Rattle.arbitrary_base.proofs.storages.Primitive.{signed-in_range}
+use Rattle.arbitrary_calls.proofs.extraction.Extraction.extract_i128.Goals as goal
+
+pub returns : goal.returns
+returns g c =
+    let x = rw (to_z-of_z {w = w128} c.ranges.value) at c.extracted.ensures in
+    record {
+      value = x.value;
+      field = rw x.value (items-field _ _ 128 _ _ x.some c.requires.within (signed-in_range w128 _ c.ranges.value));
+    }
