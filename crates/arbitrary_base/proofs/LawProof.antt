@@ -4,20 +4,12 @@ use Rattle.std.specs.Ordering.{int_eq}
 use Rattle.std.specs.List.{fold, last_or, scan}
 use Rattle.std.proofs.Common.{arith, refl, ap, sym, ◌∙◌}
 use Rattle.std.proofs.lemmas.Int.{ints}
-use Rattle.std.proofs.lemmas.List.{reverse-reverse}
-use Rattle.std.proofs.lemmas.List.Sums.{prefix_len-le-length}
 use Rattle.std.proofs.Math.IntN.{*ℤ_comm}
 use Rattle.arbitrary_base.specs.Range.{InRange, in_range, lo}
 use Rattle.arbitrary_base.specs.Residue.{Congruent, wrap}
 use Rattle.arbitrary_base.proofs.integers.Ring.{add-mul_z, mul_assoc_z}
 use Rattle.arbitrary_base.proofs.modular.Congruence.{Congruent-refl, Congruent-add, Congruent-mul}
 use Rattle.arbitrary_base.proofs.modular.Residue.{residue-lt, wrap-of_in_range, wrap-in_range, wrap-congruent, wrap-unique, wrap-same}
-use Rattle.arbitrary_base.proofs.bit_lists.Movement.{rotr-rotl, items-items}
-use Rattle.arbitrary_base.proofs.bit_lists.Count.{popcount-not, tail-le}
-use Rattle.arbitrary_base.proofs.bit_lists.UnsignedNumber.{length-bits}
-use Rattle.arbitrary_base.proofs.bit_lists.TwosComplement.{val-bits_in_range, bits-val, num-bits_residue}
-use Rattle.arbitrary_base.proofs.storages.Clamp.{clamp-fits, clamp-above, clamp-below}
-use Rattle.arbitrary_base.proofs.bit_lists.ExtractedField.{field-items}
 
 pub wrap-within : (s : Bool) (B : ℕ) (x : ℤ) → InRange s B (wrap s B x)
 unfolding wrap
@@ -27,8 +19,6 @@ wrap-within s (suc k) x = wrap-in_range s (suc k) x (omega arith)
 
 pub is-wrap : (s : Bool) (B : ℕ) (x y : ℤ) → 1 ≤ B → InRange s B y → Congruent B y x → y ≡ wrap s B x
 is-wrap s B x y h f c = sym (wrap-unique s B x y h f c)
-
-pub ruleset wrap_rules = (wrap-within, wrap-congruent, is-wrap, wrap-of_in_range)
 
 -- what is added, or multiplied by, may wrap first
 sum-left : (s : Bool) (B : ℕ) (x y : ℤ) → wrap s B (wrap s B x +ℤ y) ≡ wrap s B (x +ℤ y)
@@ -61,8 +51,6 @@ products-distribute s B x y z =
     product-right s B x (y +ℤ z) ∙ ap (wrap s B) e
     ∙ sym (sum-left s B (x *ℤ y) (wrap s B (x *ℤ z)) ∙ sum-right s B (x *ℤ y) (x *ℤ z))
 
-pub ruleset wrapped_arithmetic_rules = (sums-commute, sums-associate, products-commute, products-associate, products-distribute)
-
 pub checked-by_overflow : (s : Bool) (B : ℕ) (x : ℤ) (checked : Option ℤ) (wrapped : ℤ) (overflow : Bool) → 1 ≤ B
     → SomeIff checked (InRange s B x) x → wrapped ≡ wrap s B x → (IsTrue overflow ↔ ¬ (InRange s B x))
     → checked ≡ (if overflow then None else Some wrapped)
@@ -90,8 +78,6 @@ checked-quotient_by_overflow s B x y checked w overflow h e f = by_divisor (int_
     by_divisor false p None e = let n = other-is p in rw p (checked-by_overflow s B (int_div x y) None w overflow h (λ i. e (n, i)) (f n).0 (f n).1)
     by_divisor false p (Some q) e = let n = other-is p in rw p (checked-by_overflow s B (int_div x y) (Some q) w overflow h (e.0.1, e.1) (f n).0 (f n).1)
 
-pub ruleset checked_rules = (checked-by_overflow, checked-quotient_by_overflow)
-
 pub in_range-decides : (s : Bool) (B : ℕ) (x : ℤ) → IsTrue (in_range s B x) ↔ InRange s B x
 unfolding in_range
 in_range-decides s B x = ((λ t. record { low = grind (arith, ints); high = grind (arith, ints) }), (λ f. let l = f.low in let h = f.high in grind (arith, ints)))
@@ -99,10 +85,6 @@ in_range-decides s B x = ((λ t. record { low = grind (arith, ints); high = grin
 -- the flag of a number out of range is the negated test
 pub out-of_range_tested : (b s : Bool) (B : ℕ) (x : ℤ) → IsTrue b ↔ ¬ (InRange s B x) → b ≡ not (in_range s B x)
 out-of_range_tested b s B x t = let f = in_range-decides s B x in grind (arith, t, f)
-
-pub ruleset range_rules = (in_range-decides, clamp-fits, clamp-above, clamp-below)
-
-pub ruleset bit_list_rules = (length-bits, num-bits_residue, field-items, val-bits_in_range, bits-val, rotr-rotl, reverse-reverse, popcount-not, prefix_len-le-length, tail-le, items-items)
 
 pub last-partials : (op : ℤ → ℤ → ℤ) (o : Option ℤ) (first : ℤ) (l : List ℤ) → last_or o (first ∷ scan op op first l) ≡ Some (fold op first l)
 last-partials op o first [] = refl

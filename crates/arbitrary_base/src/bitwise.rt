@@ -10,7 +10,6 @@ use crate::storage::Storage;
 use crate::truncation::{from_low_bits, low_bits};
 
 /// The bits that are one in both numbers.
-#[tactic(auto, using(crate::proofs::bit_lists::ResultOfPattern::item_laws))]
 pub fn and<T: Storage>(x: T, y: T, bits: usize) -> T
     requires width { 1 ≤ bits }
     requires storage { bits ≤ T.WIDTH }
@@ -25,7 +24,6 @@ pub fn and<T: Storage>(x: T, y: T, bits: usize) -> T
 }
 
 /// The bits that are one in at least one of the numbers.
-#[tactic(auto, using(crate::proofs::bit_lists::ResultOfPattern::item_laws))]
 pub fn or<T: Storage>(x: T, y: T, bits: usize) -> T
     requires width { 1 ≤ bits }
     requires storage { bits ≤ T.WIDTH }
@@ -40,7 +38,6 @@ pub fn or<T: Storage>(x: T, y: T, bits: usize) -> T
 }
 
 /// The bits in which the numbers differ.
-#[tactic(auto, using(crate::proofs::bit_lists::ResultOfPattern::item_laws))]
 pub fn xor<T: Storage>(x: T, y: T, bits: usize) -> T
     requires width { 1 ≤ bits }
     requires storage { bits ≤ T.WIDTH }
@@ -55,7 +52,6 @@ pub fn xor<T: Storage>(x: T, y: T, bits: usize) -> T
 }
 
 /// The complement: each of the `bits` bits is inverted.
-#[tactic(auto, using(crate::proofs::bit_lists::ResultOfPattern::item_laws))]
 pub fn not<T: Storage>(x: T, bits: usize) -> T
     requires width { 1 ≤ bits }
     requires storage { bits ≤ T.WIDTH }

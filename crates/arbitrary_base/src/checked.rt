@@ -12,7 +12,6 @@ use crate::{raised, small, wrapping};
 // A signed sum overflows exactly if its sign differs from the signs of both numbers. If the storage has a spare bit, its unsigned sum is in
 // range exactly if the exact sum is. Without one, a sum that overflows is below `x`. The compiler uses vector instructions for these tests,
 // and could not for the processor's flag.
-#[tactic(auto, using(crate::proofs::storages::CheckedSum::arithmetic))]
 pub fn add<T: Storage>(x: T, y: T, bits: usize) -> Option<T>
     requires width { 1 ≤ bits }
     requires storage { bits ≤ T.WIDTH }
@@ -47,7 +46,6 @@ pub fn add<T: Storage>(x: T, y: T, bits: usize) -> Option<T>
 
 /// The difference, or `None` if it is out of range.
 // As in `add`: a signed `x` is the sum of `y` and the difference.
-#[tactic(auto, using(crate::proofs::storages::CheckedSum::arithmetic))]
 pub fn sub<T: Storage>(x: T, y: T, bits: usize) -> Option<T>
     requires width { 1 ≤ bits }
     requires storage { bits ≤ T.WIDTH }
@@ -84,7 +82,6 @@ pub fn sub<T: Storage>(x: T, y: T, bits: usize) -> Option<T>
 // In 64 bits the product of two small numbers is exact, and the compiler uses vector instructions. Otherwise the storage
 // multiplies once. A wide signed number with a spare bit is shifted up to the storage's end, so that the processor's flag is
 // the only test.
-#[tactic(auto, using(crate::proofs::storages::CheckedSum::arithmetic))]
 pub fn mul<T: Storage>(x: T, y: T, bits: usize) -> Option<T>
     requires width { 1 ≤ bits }
     requires storage { bits ≤ T.WIDTH }

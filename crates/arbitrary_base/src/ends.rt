@@ -83,7 +83,6 @@ pub(crate) fn is_across_zero<T: Storage>(x: T, left: T, right: T) -> bool
 
 /// Whether the number is in the range of `bits` bits, by comparison with both ends.
 // `truncation::is_in_range` truncates and compares. This costs less if nothing else needs the truncated number.
-#[tactic(auto, using(crate::proofs::storages::CheckedSum::ends))]
 pub(crate) fn is_within<T: Storage>(x: &T, bits: usize) -> bool
     requires width { 1 ≤ bits }
     requires storage { bits ≤ T.WIDTH }

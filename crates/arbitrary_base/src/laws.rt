@@ -3,7 +3,6 @@
 ghost use Rattle.arbitrary_base.specs.Laws.{WrapIsInRange, WrapIsCongruent, WrapIsUnique, WrappedSumsCommute, WrappedSumsAssociate, WrappedProductsCommute, WrappedProductsAssociate, WrappedProductsDistribute, CheckedTellsOverflow, CheckedQuotientTellsOverflow, ValueOfBits, BitsOfValue, RotationsUndo, ReversalUndoesItself, OnesAddUp, FrontRunsFit, EndRunsFit, ExtractionComposes, SumsKeepLowBits, DifferencesKeepLowBits, ProductsKeepLowBits, AndKeepsLowBits, OrKeepsLowBits, XorKeepsLowBits, ComplementsKeepLowBits, LeftShiftsKeepLowBits, WrapKeeps, TestTellsRange, ClampKeeps, ClampEndsAbove, ClampEndsBelow, LengthOfBits, NumberOfBits, FieldIsExtracted, ByteReversalUndoesItself, ValueOfBytes, BytesAreUnique, BorshIsCanonical, ValueOfBorsh, BorshIsUnique, TotalIsTheLastPartial, NumberOfPattern, PatternOfNumber, BitsOfPattern};
 
 /// `wrap` returns the one number of the type that is congruent modulo `2 ^ bits`.
-#[tactic(auto, using(crate::proofs::LawProof::wrap_rules))]
 pub fn wrap_laws()
     ensures in_range { WrapIsInRange }
     ensures congruent { WrapIsCongruent }
@@ -13,7 +12,6 @@ pub fn wrap_laws()
 
 /// `in_range` tests whether a number is in range, and `clamp` moves a number that is out of range
 /// to the nearest end.
-#[tactic(auto, using(crate::proofs::LawProof::range_rules))]
 pub fn range_laws()
     ensures test { TestTellsRange }
     ensures keeps { ClampKeeps }
@@ -23,7 +21,6 @@ pub fn range_laws()
 
 /// Sums and products that wrap are commutative and associative, and the products distribute over
 /// the sums.
-#[tactic(auto, using(crate::proofs::LawProof::wrapped_arithmetic_rules))]
 pub fn wrapped_arithmetic_laws()
     ensures sums_commute { WrappedSumsCommute }
     ensures sums_associate { WrappedSumsAssociate }
@@ -34,7 +31,6 @@ pub fn wrapped_arithmetic_laws()
 
 /// A checked call has a result exactly if no divisor is zero and its overflowing call has no flag.
 /// Both results are the same number.
-#[tactic(auto, using(crate::proofs::LawProof::checked_rules))]
 pub fn checked_laws()
     ensures results { CheckedTellsOverflow }
     ensures quotients { CheckedQuotientTellsOverflow }
@@ -43,7 +39,6 @@ pub fn checked_laws()
 /// A number in range and its bits determine each other. Rotations and reversals undo each other. A
 /// count is at most the length of the list. A part of a part is a part, and an extracted number is
 /// a field of the word.
-#[tactic(auto, using(crate::proofs::LawProof::bit_list_rules))]
 pub fn bit_list_laws()
     ensures length { LengthOfBits }
     ensures number { NumberOfBits }
@@ -60,7 +55,6 @@ pub fn bit_list_laws()
 
 /// The result of a low-bit operation at a wide type, wrapped to a narrow one, is its result at the
 /// narrow type on wrapped operands. The signs may differ.
-#[tactic(auto, using(crate::proofs::modular::LowBitOperation::low_bit_rules))]
 pub fn low_bit_laws()
     ensures sums { SumsKeepLowBits }
     ensures differences { DifferencesKeepLowBits }
@@ -74,7 +68,6 @@ pub fn low_bit_laws()
 
 /// Bytes that are reversed twice do not change. A number in range and its bytes determine each
 /// other, also in a stream, and these bytes are canonical.
-#[tactic(auto, using(crate::proofs::bytes::NumberOfBytes::byte_rules))]
 pub fn byte_laws()
     ensures reversal { ByteReversalUndoesItself }
     ensures value_of_bytes { ValueOfBytes }
@@ -91,7 +84,6 @@ pub fn total_laws()
 
 /// A number in range and its pattern, which is its residue, determine each other and have the same
 /// bits.
-#[tactic(auto, using(crate::proofs::modular::RoundTrip::pattern_rules))]
 pub fn pattern_laws()
     ensures number { NumberOfPattern }
     ensures pattern { PatternOfNumber }

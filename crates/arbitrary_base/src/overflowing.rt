@@ -11,7 +11,6 @@ use crate::truncation::{cast, is_in_range, truncated};
 use crate::{checked, raised, small, wrapping};
 
 /// The sum, wrapped, and whether the exact sum is out of range.
-#[tactic(auto, using(crate::proofs::storages::Clamp::overflow_laws))]
 pub fn add<T: Storage>(x: T, y: T, bits: usize) -> (T, bool)
     requires width { 1 ≤ bits }
     requires storage { bits ≤ T.WIDTH }
@@ -26,7 +25,6 @@ pub fn add<T: Storage>(x: T, y: T, bits: usize) -> (T, bool)
 }
 
 /// The difference, wrapped, and whether the exact difference is out of range.
-#[tactic(auto, using(crate::proofs::storages::Clamp::overflow_laws))]
 pub fn sub<T: Storage>(x: T, y: T, bits: usize) -> (T, bool)
     requires width { 1 ≤ bits }
     requires storage { bits ≤ T.WIDTH }
@@ -42,7 +40,6 @@ pub fn sub<T: Storage>(x: T, y: T, bits: usize) -> (T, bool)
 
 /// The product, wrapped, and whether the exact product is out of range.
 // `checked::mul` explains the cases.
-#[tactic(auto, using(crate::proofs::storages::Clamp::overflow_laws))]
 pub fn mul<T: Storage>(x: T, y: T, bits: usize) -> (T, bool)
     requires width { 1 ≤ bits }
     requires storage { bits ≤ T.WIDTH }
@@ -69,7 +66,6 @@ pub fn mul<T: Storage>(x: T, y: T, bits: usize) -> (T, bool)
 
 /// The quotient, wrapped, and whether the exact quotient is out of range. Requires a divisor other
 /// than zero.
-#[tactic(auto, using(crate::proofs::storages::Clamp::overflow_laws))]
 pub fn div<T: Storage>(x: T, y: T, bits: usize) -> (T, bool)
     requires width { 1 ≤ bits }
     requires storage { bits ≤ T.WIDTH }

@@ -117,7 +117,6 @@ fn is_power_below_zero<T: Storage>(x: &T, exp: u32) -> bool
 }
 
 /// The number, or the nearest end of the range of `bits` bits.
-#[tactic(auto, using(crate::proofs::integers::Squaring::ends))]
 fn clamped<T: Storage>(x: T, bits: usize) -> T
     requires width { 1 ≤ bits }
     requires storage { bits ≤ T.WIDTH }

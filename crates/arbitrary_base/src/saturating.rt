@@ -9,7 +9,6 @@ use crate::storage::Storage;
 use crate::{checked, raised, small};
 
 /// The number, or the nearest end of the range of `bits` bits.
-#[tactic(auto, using(crate::proofs::storages::Clamp::two_tests))]
 fn clamped<T: Storage>(x: T, bits: usize) -> T
     requires width { 1 ≤ bits }
     requires storage { bits ≤ T.WIDTH }
@@ -29,7 +28,6 @@ fn clamped<T: Storage>(x: T, bits: usize) -> T
 /// The sum, or the nearest end of the range.
 // The processor saturates small signed numbers at the storage's ends. If the storage has a spare bit, it has the sum, but past 32 bits the
 // comparison with both ends costs more than the test for an overflow.
-#[tactic(auto, using(crate::proofs::storages::Clamp::clamped_sums))]
 pub fn add<T: Storage>(x: T, y: T, bits: usize) -> T
     requires width { 1 ≤ bits }
     requires storage { bits ≤ T.WIDTH }
@@ -52,7 +50,6 @@ pub fn add<T: Storage>(x: T, y: T, bits: usize) -> T
 
 /// The difference, or the nearest end of the range.
 // The same holds for a signed difference. An unsigned difference below 0 wraps.
-#[tactic(auto, using(crate::proofs::storages::Clamp::clamped_differences))]
 pub fn sub<T: Storage>(x: T, y: T, bits: usize) -> T
     requires width { 1 ≤ bits }
     requires storage { bits ≤ T.WIDTH }
@@ -74,7 +71,6 @@ pub fn sub<T: Storage>(x: T, y: T, bits: usize) -> T
 }
 
 /// The product, or the nearest end of the range.
-#[tactic(auto, using(crate::proofs::storages::Clamp::clamps))]
 pub fn mul<T: Storage>(x: T, y: T, bits: usize) -> T
     requires width { 1 ≤ bits }
     requires storage { bits ≤ T.WIDTH }
@@ -92,7 +88,6 @@ pub fn mul<T: Storage>(x: T, y: T, bits: usize) -> T
 }
 
 /// The quotient, or the nearest end of the range. Requires a divisor other than zero.
-#[tactic(auto, using(crate::proofs::storages::Clamp::clamps))]
 pub fn div<T: Storage>(x: T, y: T, bits: usize) -> T
     requires width { 1 ≤ bits }
     requires storage { bits ≤ T.WIDTH }

@@ -30,7 +30,6 @@ pub(crate) fn product<T: Storage>(x: T, y: T) -> i64
 }
 
 /// Whether the number is in the range of `bits` bits over the storage.
-#[tactic(auto, using(crate::proofs::storages::SixteenBits::tests))]
 pub(crate) fn is_number_of<T: Storage>(x: i64, bits: usize) -> bool
     requires small { T.WIDTH ≤ 16 }
     requires width { 1 ≤ bits }
@@ -41,7 +40,6 @@ pub(crate) fn is_number_of<T: Storage>(x: i64, bits: usize) -> bool
 }
 
 /// The storage's value of a number that fits in it.
-#[tactic(auto, using(crate::proofs::storages::CheckedSum::fitting))]
 pub(crate) fn from_i64<T: Storage>(x: i64) -> T
     requires x_in_range { InRange T.SIGNED T.WIDTH x }
     ensures { T.number result ≡ x }

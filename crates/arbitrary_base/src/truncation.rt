@@ -71,7 +71,6 @@ pub fn truncated<T: Storage>(x: T, bits: usize) -> T
 }
 
 /// The residue of the number modulo `2 ^ bits`.
-#[tactic(auto, using(crate::proofs::modular::Truncation::low_laws))]
 pub fn low_bits<T: Storage>(x: T, bits: usize) -> u128
     requires width { 1 ≤ bits }
     requires storage { bits ≤ T.WIDTH }
@@ -114,7 +113,6 @@ pub fn to_u128_bits<T: Storage>(x: T) -> u128
 }
 
 /// The number of one storage, truncated to `bits` bits over another storage.
-#[tactic(auto, using(crate::proofs::modular::Truncation::conversions))]
 pub fn cast<S: Storage, T: Storage>(x: S, bits: usize) -> T
     requires width { 1 ≤ bits }
     requires storage { bits ≤ T.WIDTH }
@@ -125,7 +123,6 @@ pub fn cast<S: Storage, T: Storage>(x: S, bits: usize) -> T
 }
 
 /// Whether the number is in the range of `bits` bits.
-#[tactic(auto, using(crate::proofs::storages::CheckedSum::range_tests))]
 pub fn is_in_range<T: Storage>(x: T, bits: usize) -> bool
     requires width { 1 ≤ bits }
     requires storage { bits ≤ T.WIDTH }

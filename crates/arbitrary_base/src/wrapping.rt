@@ -9,7 +9,6 @@ use crate::storage::Storage;
 use crate::truncation::truncated;
 
 /// The sum, wrapped.
-#[tactic(auto, using(crate::proofs::storages::CheckedSum::arithmetic))]
 pub fn add<T: Storage>(x: T, y: T, bits: usize) -> T
     requires width { 1 ≤ bits }
     requires storage { bits ≤ T.WIDTH }
@@ -20,7 +19,6 @@ pub fn add<T: Storage>(x: T, y: T, bits: usize) -> T
 }
 
 /// The difference, wrapped.
-#[tactic(auto, using(crate::proofs::storages::CheckedSum::arithmetic))]
 pub fn sub<T: Storage>(x: T, y: T, bits: usize) -> T
     requires width { 1 ≤ bits }
     requires storage { bits ≤ T.WIDTH }
@@ -31,7 +29,6 @@ pub fn sub<T: Storage>(x: T, y: T, bits: usize) -> T
 }
 
 /// The product, wrapped.
-#[tactic(auto, using(crate::proofs::storages::CheckedSum::arithmetic))]
 pub fn mul<T: Storage>(x: T, y: T, bits: usize) -> T
     requires width { 1 ≤ bits }
     requires storage { bits ≤ T.WIDTH }
@@ -42,7 +39,6 @@ pub fn mul<T: Storage>(x: T, y: T, bits: usize) -> T
 }
 
 /// The quotient, rounded toward zero and wrapped. Requires a divisor other than zero.
-#[tactic(auto, using(crate::proofs::storages::CheckedSum::arithmetic))]
 pub fn div<T: Storage>(x: T, y: T, bits: usize) -> T
     requires width { 1 ≤ bits }
     requires storage { bits ≤ T.WIDTH }

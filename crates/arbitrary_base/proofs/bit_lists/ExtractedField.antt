@@ -83,5 +83,3 @@ field-of start B x z c =
 
 pub items-field : (s : Bool) (B W start : ℕ) (x : ℤ) → 1 ≤ B → start + B ≤ W → InRange true W x → IsField start B x (val s (take B (drop start (bits W x))))
 items-field s B W start x h g r = field-of start B x _ (wrapped-congruent s B (int_shr x start) _ (items-wrap s B W start x _ h g r refl))
-
-pub ruleset fields = (items-congruent, items-plain, items-field, items-wrapped)

@@ -5,7 +5,6 @@ use Rattle.std.proofs.Common.{ap, arith, length-drop, refl, sym, ◌∙◌}
 use Rattle.std.proofs.lemmas.List.{length-reverse, take-append-le}
 use Rattle.arbitrary_base.specs.BitList.{bits, bits_and, bits_or, bits_xor, num, shl, shr, val}
 use Rattle.arbitrary_base.specs.Residue.{residue, wrap}
-use Rattle.arbitrary_base.proofs.bit_lists.Count.{front-fits, popcount-fit, tail-fits}
 use Rattle.arbitrary_base.proofs.bit_lists.Movement.{length-items, length-rotl, length-rotr, length-shr, rotr}
 use Rattle.arbitrary_base.proofs.bit_lists.SignBit.{val-shl}
 use Rattle.arbitrary_base.proofs.bit_lists.TwosComplement.{bits-residue, bits-val, num-bits_residue, val-num}
@@ -48,8 +47,6 @@ pub not-value : (s : Bool) (B p q : ℕ) (x z : ℤ) → p ≡ residue B x → q
     → z ≡ wrap s B (pos q) → z ≡ val s (map not (bits B x))
 not-value s B p q x z = of_one s B p q x z (map not) (length-not (bits B x) ∙ length-bits B x)
 
-pub ruleset item_laws = (and-value, or-value, xor-value, not-value)
-
 -- ---- in another order
 
 pub rotl-value : (s : Bool) (B p q k : ℕ) (x z : ℤ) → p ≡ residue B x → q ≡ num (slice_rotate_right (bits B (pos p)) k)
@@ -75,10 +72,6 @@ shl-narrow s B W k x y z f e h g l =
     ∙ wrap-wrap s B W _ h g
     ∙ wrap-same s B _ _ (Congruent-mul_left B (pos (residue W x)) (pos (residue B x)) (pos (2 ^ k)) c)
     ∙ sym (val-shl s B k (residue B x) x h (omega arith) refl)
-
--- ---- counts
-
-pub ruleset count_laws = (bits-residue, popcount-fit, front-fits, tail-fits)
 
 -- ---- parts
 

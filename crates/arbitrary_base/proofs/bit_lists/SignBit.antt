@@ -126,5 +126,3 @@ signed-shr w x n f g =
     ∙ sym (val-shr true (width_of w) n x (bits_some w) (omega arith) r)
 
 pub ruleset unsigned_shifts = (unsigned-shl, unsigned-shr)
-
-pub ruleset signed_shifts = (signed-shl, signed-shr)

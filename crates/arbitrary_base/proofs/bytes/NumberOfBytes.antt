@@ -4,7 +4,7 @@ use Rattle.std.specs.Prelude.{negsuc, true, unsigned_abs}
 use Rattle.std.proofs.Common.{Bool, List, [], ap, arith, drop, false, get_or, length, mod-eq_of_lt, pos, refl, subst, suc, sym, take, zero, ℕ, ℤ, ◌%◌, ◌*◌, ◌+◌, ◌/◌, ◌<◌, ◌^◌, ◌∙◌, ◌∷◌, ◌≡◌, ◌≤◌}
 use Rattle.std.proofs.Math.Nat.{div-div-eq-div-mul, div-one, mod-one, pow-suc}
 use Rattle.std.proofs.lemmas.Int.{ints}
-use Rattle.std.proofs.lemmas.List.{get_or-drop, length-drop, reverse-reverse}
+use Rattle.std.proofs.lemmas.List.{get_or-drop, length-drop}
 use Rattle.std.proofs.lemmas.Nat.{mod-pow-add, pow-add, pow_pos}
 use Rattle.arbitrary_base.specs.BitList.{bits, num}
 use Rattle.arbitrary_base.specs.ByteLists.{BorshBytes, Canonical, bytes, bytes_number}
@@ -229,5 +229,3 @@ wrap-Borsh s B x h f =
 pub Borsh-unique : (s : Bool) (B : ℕ) (x y : ℤ) → 1 ≤ B → InRange s B x → InRange s B y → BorshBytes B x ≡ BorshBytes B y → x ≡ y
 Borsh-unique s B x y h f g e =
     sym (wrap-Borsh s B x h f) ∙ ap (λ (l : List ℕ). wrap s B (pos (bytes_number l))) e ∙ wrap-Borsh s B y h g
-
-pub ruleset byte_rules = (reverse-reverse, wrap-bytes_number, bytes-unique, wrap-Borsh, Borsh-unique)

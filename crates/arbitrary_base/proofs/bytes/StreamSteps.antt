@@ -1,8 +1,10 @@
 -- What one more read or write changes, for the loops of src/streams.rt.
-use Rattle.std.proofs.Common.{◌≡◌, ℕ, ◌+◌, ◌-◌, ◌≤◌, List, ◌++◌, length, take, drop, Option, sym, ap, ◌∙◌, subst, arith, length-append, length-take, take-add, take_all, length-drop, min}
-use Rattle.std.specs.Io.KnownBytes.{Appends, Consumes}
+use Rattle.std.proofs.Common.{◌≡◌, ℕ, ◌+◌, ◌-◌, ◌≤◌, ◌<◌, inr, List, ◌++◌, length, take, drop, Option, sym, ap, ◌∙◌, subst, arith, length-append, length-take, take-add, take_all, length-drop, min}
+use Rattle.std.specs.Io.KnownBytes.{Appends, Consumes, IsAtEnd, Keeps}
+use Rattle.std.specs.Prelude.{false, Result, Ok, Err, OnOk, OnErr, IfSome, None, Some, ◌⊎◌}
+use Rattle.std.specs.Result.{is_err, IsErr}
 use Rattle.arbitrary_base.specs.Streams.{AppendsBeginning}
-use Rattle.arbitrary_base.specs.Watched.{NoFailure}
+use Rattle.arbitrary_base.specs.Watched.{NoFailure, Failure}
 use Rattle.arbitrary_base.specs.declared.watched.Watched.{Watched}
 use Rattle.std.proofs.KnownBytes.{Appends-trans, Consumes-trans}
 use Rattle.std.proofs.lemmas.List.{take-append-le, take_min}
@@ -29,6 +31,47 @@ room_left old new post at n h k = omega (arith, length-append (take at old) (new
 -- no call failed, and then none again
 pub none_failed : {D : Type 0} (a b c : Watched D) → NoFailure a b → NoFailure b c → NoFailure a c
 none_failed a b c p q = (q.0 ∙ p.0, q.1 ∙ p.1)
+
+-- no call failed, and then one did
+pub failed_after : {D : Type 0} (a b c : Watched D) → NoFailure a b → Failure b c → Failure a c
+failed_after a b c p q = (q.0, λ e. q.1 (e ∙ sym p.1))
+
+-- a clause on the value holds of an error, and one on the error where its fact holds
+pub on_ok-of_err : {A E : Type 0} (r : Result A E) (P : Type 0) → IsErr r → OnOk r P
+on_ok-of_err (Ok x) P e = cc
+on_ok-of_err (Err x) P e = tt
+
+pub on_err : {A E P : Type 0} (r : Result A E) → P → OnErr r P
+on_err (Ok x) p = tt
+on_err (Err x) p = p
+
+pub on_ok : {A E P : Type 0} (r : Result A E) → P → OnOk r P
+on_ok (Ok x) p = p
+on_ok (Err x) p = tt
+
+pub on_err-of_ok : {A E : Type 0} (r : Result A E) (P : Type 0) → is_err r ≡ false → OnErr r P
+on_err-of_ok (Ok x) P e = tt
+on_err-of_ok (Err x) P e = cc
+
+-- a failed write keeps the beginning that was written
+pub begun_keeps : (a b c : Option (List ℕ)) (text : List ℕ) (at : ℕ) → Appends a b (take at text) → Keeps b c → AppendsBeginning a c text
+begun_keeps None b c text at p k = (at, tt)
+begun_keeps (Some xs) None c text at p k = absurd p
+begun_keeps (Some xs) (Some ys) None text at p k = absurd k
+begun_keeps (Some xs) (Some ys) (Some zs) text at p k = (at, k ∙ p)
+
+pub if_some : {A : Type 0} {P : A → Type 0} (o : Option A) → ((x : A) → P x) → IfSome o P
+if_some None p = tt
+if_some (Some x) p = p x
+
+-- a read that gives nothing is at the end, so the input is shorter than what is read
+pub short_input : (a b c : Option (List ℕ)) (F : Type 0) (old new : List ℕ) (at n m : ℕ) → Consumes a b (take at old) → Consumes b c (take n new) → n ≡ 0 → IsAtEnd c
+    → at < length old → length old ≡ m → IfSome a (λ held. F ⊎ (length held < m))
+short_input None b c F old new at n m p q z e h l = tt
+short_input (Some xs) None c F old new at n m p q z e h l = absurd p
+short_input (Some xs) (Some ys) None F old new at n m p q z e h l = absurd q
+short_input (Some xs) (Some ys) (Some zs) F old new at n m p q z e h l =
+    inr (omega (arith, ap length p, ap length q, ap length e, length-append (take at old) ys, length-append (take n new) zs, length-take at old, length-take n new))
 
 -- what is at the front
 pub take-at_front : (n : ℕ) (xs ys rest : List ℕ) → n ≡ length ys → xs ≡ ys → take n (xs ++ rest) ≡ ys

@@ -1,5 +1,5 @@
 -- The laws of a ring that std's ℤ lacks.
-use Rattle.std.specs.Prelude.{◌≡◌, ℕ, ℤ, pos, negsuc, neg_ℤ, ◌+ℤ◌, ◌-ℤ◌, ◌*ℤ◌, ◌≤ℤ◌, ◌<ℤ◌, ◌*◌, unsigned_abs}
+use Rattle.std.specs.Prelude.{◌≡◌, ℕ, ℤ, pos, negsuc, neg_ℤ, ◌+ℤ◌, ◌-ℤ◌, ◌*ℤ◌, ◌≤ℤ◌, ◌<ℤ◌, ◌+◌, ◌*◌, unsigned_abs}
 use Rattle.std.proofs.Common.{arith, refl, ap, sym, ◌∙◌}
 use Rattle.std.proofs.lemmas.Int.{ints}
 use borrow.Author.Differences.{up, down, sum_is_lem, product_is}
@@ -11,19 +11,22 @@ add-mul_z a b c =
     let d = ap (λ (n : ℕ). n * down c) s in
     omega (arith, ints)
 
+-- a number has a part up and a part down, and a product has the parts that `product_is` says
+by_parts : (x y : ℤ) → up x ≡ up y → down x ≡ down y → x ≡ y
+by_parts x y e f = omega (arith, ints)
+
+parts : (a b c d e f : ℕ) → (a * c + b * d) * e + (a * d + b * c) * f ≡ a * (c * e + d * f) + b * (c * f + d * e)
+parts a b c d e f = omega arith
+
 pub mul_assoc_z : (a b c : ℤ) → (a *ℤ b) *ℤ c ≡ a *ℤ (b *ℤ c)
 mul_assoc_z a b c =
     let p = product_is a b in
     let q = product_is b c in
-    let p0 = ap (λ (n : ℕ). n * up c) p.0 in
-    let p1 = ap (λ (n : ℕ). n * down c) p.0 in
-    let p2 = ap (λ (n : ℕ). n * up c) p.1 in
-    let p3 = ap (λ (n : ℕ). n * down c) p.1 in
-    let q0 = ap (λ (n : ℕ). up a * n) q.0 in
-    let q1 = ap (λ (n : ℕ). down a * n) q.0 in
-    let q2 = ap (λ (n : ℕ). up a * n) q.1 in
-    let q3 = ap (λ (n : ℕ). down a * n) q.1 in
-    omega (arith, ints)
+    let r = product_is (a *ℤ b) c in
+    let s = product_is a (b *ℤ c) in
+    by_parts _ _
+    (r.0 ∙ (λ i. p.0 i * up c + p.1 i * down c) ∙ parts (up a) (down a) (up b) (down b) (up c) (down c) ∙ sym (s.0 ∙ (λ i. up a * q.0 i + down a * q.1 i)))
+    (r.1 ∙ (λ i. p.0 i * down c + p.1 i * up c) ∙ parts (up a) (down a) (up b) (down b) (down c) (up c) ∙ sym (s.1 ∙ (λ i. up a * q.1 i + down a * q.0 i)))
 
 zero-mul_z : (b : ℤ) → pos 0 *ℤ b ≡ pos 0
 zero-mul_z b = omega (arith, ints)

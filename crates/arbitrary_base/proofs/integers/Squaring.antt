@@ -99,6 +99,9 @@ begun x p e h is = record {
   counted = omega arith;
 }
 
+pub begun-more : (x p : ℤ) (e : ℕ) → 1 < e → p ≡ pos 1 → Squaring x e p x e 0
+begun-more x p e h is = begun x p e (omega arith) is
+
 squared : (b d : ℤ) (left : ℕ) → d ≡ b *ℤ b → int_pow d (left / 2) ≡ int_pow b (left / 2 + left / 2)
 squared b d left is = ap (λ (z : ℤ). int_pow z (left / 2)) is ∙ power-square b (left / 2)
 
@@ -148,6 +151,13 @@ even-turn {x} {p} {b} {e} {left} {count} q d c s h o is square add =
       counted = let t = digits-step left s.some in let k = s.counted in omega arith;
     }
 
+pub half-less : (n : ℕ) → 1 < n → n / 2 < n
+half-less n h = omega arith
+
+-- one multiplication, where an odd turn may have two
+pub once : (old new count : ℕ) → old ≡ count → new ≡ old + 1 → new ≤ count + 1 + 1
+once old new count a d = omega arith
+
 -- the last digit is one
 pub last-turn : {x p b : ℤ} {e left count : ℕ} → Squaring x e p b left count → left ≤ 1 → p *ℤ b ≡ int_pow x e
 last-turn {x} {p} {b} {e} {left} {count} s h =
@@ -179,12 +189,21 @@ unit-odd x d e two o square one =
 
 -- ---- the count
 
-pub room : {x p b : ℤ} {e left count : ℕ} → Squaring x e p b left count → e < 2 ^ 32 → count + 1 < 64
+-- before and after one multiplication, and before and after another
+pub room : {x p b : ℤ} {e left count : ℕ} → Squaring x e p b left count → e < 2 ^ 32 → count < 64
 room {x} {p} {b} {e} {left} {count} s h =
     let t = digits-step left s.some in let k = s.counted in let f = few_digits e h in omega arith
 
-pub spent : {x p b : ℤ} {e left count : ℕ} → Squaring x e p b left count → count + 1 + 1 ≤ 2 * length (digits_of 2 e)
-spent {x} {p} {b} {e} {left} {count} s =
+pub spent : {x p b : ℤ} {e left count : ℕ} (old new : ℕ) → Squaring x e p b left count → old ≡ count → new ≡ old + 1 → new ≤ 2 * length (digits_of 2 e)
+spent {x} {p} {b} {e} {left} {count} old new s a d =
+    let t = digits-step left s.some in let k = s.counted in omega arith
+
+pub room-again : {x p b : ℤ} {e left count : ℕ} (new : ℕ) → Squaring x e p b left count → e < 2 ^ 32 → new ≡ count + 1 → new < 64
+room-again {x} {p} {b} {e} {left} {count} new s h a =
+    let t = digits-step left s.some in let k = s.counted in let f = few_digits e h in omega arith
+
+pub spent-again : {x p b : ℤ} {e left count : ℕ} (old new : ℕ) → Squaring x e p b left count → old ≡ count + 1 → new ≡ old + 1 → new ≤ 2 * length (digits_of 2 e)
+spent-again {x} {p} {b} {e} {left} {count} old new s a d =
     let t = digits-step left s.some in let k = s.counted in omega arith
 
 pub count-bound : (e count : ℕ) → e < 2 ^ 32 → count ≤ 2 * length (digits_of 2 e) → count ≤ 64
@@ -292,5 +311,3 @@ far-end s A B x z b h l f e w =
         (clamp-in_range true A (negsuc n) (lo true A) i (let q : lo true A ≡ negsuc n = omega (arith, ints) in q))
 
 pub ruleset one_laws = (wrap-one)
-
-pub ruleset ends = (nearest-end, clamp-in_range)

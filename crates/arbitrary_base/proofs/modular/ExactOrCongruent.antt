@@ -28,5 +28,3 @@ low_mask-unsigned false B W z d h g e =
     let o = pow_pos B in
     let p = pow_le B W g in
     wrapped-exact false W (pos (2 ^ B) -ℤ pos 1) z (omega arith) (record { low = omega (arith, ints); high = omega (arith, ints) }) e
-
-pub ruleset wrapped = (wrap-of_in_range, wrap-congruent)

@@ -110,5 +110,3 @@ low-shl s t A B k x g l =
     let n = length-bits B x in
     wrap-val s t A B (shl (bits B x) k) (omega arith) g (length-shl (bits B x) k (omega arith) ∙ n)
     ∙ ap (val s) (take-shl A k (bits B x) (omega arith) (omega arith) ∙ ap (λ (m : List Bool). shl m k) (take-bits A B x (omega arith) g ∙ sym (bits-wrap s A x)))
-
-pub ruleset low_bit_rules = (low-sum, low-difference, low-product, low-and, low-or, low-xor, low-not, low-shl)

@@ -30,5 +30,3 @@ residue-of_number s B p h f = ap unsigned_abs (pattern-stays s false B (pos p) r
 
 pub bits-of_residue : (B : ℕ) (x : ℤ) → bits B (pos (residue B x)) ≡ bits B x
 bits-of_residue B x = bits-residue B (residue B x) x refl
-
-pub ruleset pattern_rules = (number-of_residue, residue-of_number, bits-of_residue)

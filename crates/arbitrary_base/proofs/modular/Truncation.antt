@@ -103,8 +103,6 @@ masked-number false B W p q x z t h g e f n =
 pub below_residue : (B p : ℕ) (x : ℤ) → p ≡ residue B x → p < 2 ^ B
 below_residue B p x e = subst (λ (n : ℕ). n < 2 ^ B) (sym e) (residue-lt B x)
 
-pub ruleset low_laws = (masked-residue, below_residue)
-
 -- a number from 0 up is its residue at each width that has it
 pub residue-same : (s : Bool) (B W p : ℕ) (x : ℤ) → s ≡ false → 1 ≤ B → B ≤ W → InRange s B x → p ≡ residue W x → p ≡ residue B x
 residue-same s B W p x e h g i f =
@@ -128,8 +126,6 @@ pub wrap-residue : (s : Bool) (B p : ℕ) (x z : ℤ) → 1 ≤ B → B ≤ 128 
 wrap-residue s B p x z h g e f =
     f ∙ ap (λ (n : ℕ). wrap s B (pos n)) e
     ∙ wrap-same s B (pos (residue 128 x)) x (Congruent-narrower B 128 _ x g (residue-congruent 128 x))
-
-pub ruleset conversions = (wrap-residue)
 
 -- the bits of a number, and the number of its bits
 pub pattern-of_number : (s : Bool) (B : ℕ) (x y z : ℤ) → s ≡ false → 1 ≤ B → y ≡ x → z ≡ wrap s B y → z ≡ pos (residue B x)

@@ -1,5 +1,5 @@
 -- Why the checked sums and differences are right.
-use Rattle.std.specs.Prelude.{◌≡◌, ◌↔◌, ◌⊎◌, ℕ, ℤ, Bool, true, false, not, ◌&&◌, pos, neg_ℤ, ◌+ℤ◌, ◌-ℤ◌, ◌≤ℤ◌, ◌<ℤ◌, ◌-◌, ◌^◌, ◌≤◌, int_lt, IsTrue}
+use Rattle.std.specs.Prelude.{◌≡◌, ◌↔◌, ◌⊎◌, ℕ, ℤ, Bool, true, false, not, pos, neg_ℤ, ◌+ℤ◌, ◌-ℤ◌, ◌≤ℤ◌, ◌<ℤ◌, ◌-◌, ◌^◌, ◌≤◌, int_lt, IsTrue}
 use Rattle.std.proofs.Common.{arith, refl, sym, subst, ◌∙◌, inl, inr, ⊎_elim}
 use Rattle.std.specs.Ordering.{int_eq}
 use Rattle.std.proofs.lemmas.Bool.Decides.{Decides-int_eq}
@@ -10,7 +10,6 @@ use Rattle.arbitrary_base.specs.Range.{lo, hi, InRange}
 use Rattle.arbitrary_base.specs.Residue.{wrap}
 use Rattle.arbitrary_base.proofs.modular.Congruence.{span, pow_half, Congruent-from_apart, Congruent-narrower}
 use Rattle.arbitrary_base.proofs.modular.Residue.{wrap-unique, wrap-same, wrap-in_range, wrap-congruent, wrap-of_in_range}
-use Rattle.arbitrary_base.proofs.modular.Truncation.{InRange-wider}
 
 -- to wrap at more bits first changes nothing
 pub wrap-wrap : (s : Bool) (A B : ℕ) (x : ℤ) → 1 ≤ A → A ≤ B → wrap s A (wrap s B x) ≡ wrap s A x
@@ -75,12 +74,6 @@ add-checks s B x y w h f g e t = ⊎_elim
     absurd (omega (arith, ints))))
     (three_ways s B (x +ℤ y))
 
-pub add-refuses : (s : Bool) (B : ℕ) (x y w : ℤ) → 1 ≤ B → w ≡ wrap s B (x +ℤ y)
-    → ¬ ((w <ℤ x) ↔ (y <ℤ pos 0)) → ¬ (InRange s B (x +ℤ y))
-add-refuses s B x y w h e t i =
-    let q : w ≡ x +ℤ y = e ∙ wrap-of_in_range s B (x +ℤ y) h i in
-    t ((λ a. omega (arith, ints)), (λ a. omega (arith, ints)))
-
 pub sub-checks : (s : Bool) (B : ℕ) (x y w : ℤ) → 1 ≤ B → InRange s B x → InRange s B y → w ≡ wrap s B (x -ℤ y)
     → ((x <ℤ w) ↔ (y <ℤ pos 0)) → InRange s B (x -ℤ y) × (w ≡ x -ℤ y)
 sub-checks s B x y w h f g e t = ⊎_elim
@@ -96,12 +89,6 @@ sub-checks s B x y w h f g e t = ⊎_elim
     absurd (omega (arith, ints))))
     (three_ways s B (x -ℤ y))
 
-pub sub-refuses : (s : Bool) (B : ℕ) (x y w : ℤ) → 1 ≤ B → w ≡ wrap s B (x -ℤ y)
-    → ¬ ((x <ℤ w) ↔ (y <ℤ pos 0)) → ¬ (InRange s B (x -ℤ y))
-sub-refuses s B x y w h e t i =
-    let q : w ≡ x -ℤ y = e ∙ wrap-of_in_range s B (x -ℤ y) h i in
-    t ((λ a. omega (arith, ints)), (λ a. omega (arith, ints)))
-
 -- tests that hold in the same cases do not differ
 same_tests : (b z : Bool) → beq b z ≡ false → (b ≡ true → z ≡ true) → (z ≡ true → b ≡ true) → ⊥
 same_tests true true t m n = cc
@@ -109,7 +96,14 @@ same_tests true false t m n = let k = m refl in cc
 same_tests false true t m n = let k = n refl in cc
 same_tests false false t m n = cc
 
--- the same, by the tests that the code makes
+-- and tests that do not differ hold in the same cases
+pub same_cases : (w x y : ℤ) (b z : Bool) → b ≡ int_lt w x → z ≡ int_lt y (pos 0) → beq b z ≡ true → (w <ℤ x) ↔ (y <ℤ pos 0)
+same_cases w x y true true p q t = ((λ a. grind (arith, ints)), (λ a. grind (arith, ints)))
+same_cases w x y true false p q t = cc
+same_cases w x y false true p q t = cc
+same_cases w x y false false p q t = ((λ a. absurd (grind (arith, ints))), (λ a. absurd (grind (arith, ints))))
+
+-- where the tests differ, the sum is out of range
 pub add-refuses_test : (s : Bool) (B : ℕ) (x y w : ℤ) (b z : Bool) → 1 ≤ B → w ≡ wrap s B (x +ℤ y)
     → b ≡ int_lt w x → z ≡ int_lt y (pos 0) → beq b z ≡ false → InRange s B (x +ℤ y) → ⊥
 add-refuses_test s B x y w b z h e p q t i =
@@ -129,18 +123,14 @@ range_test s B x w b h e p =
       (λ i. subst (λ (c : Bool). IsTrue c) (sym p) (d.1 (e ∙ wrap-of_in_range s B x h i))),
     )
 
-pub ruleset range_tests = (range_test)
+-- in range, by both ends, of which the lower one is tested first
+pub below_test : (s : Bool) (B : ℕ) (x l : ℤ) (a : Bool) → l ≡ lo s B → a ≡ int_lt x l → a ≡ true → IsTrue (not a) ↔ InRange s B x
+below_test s B x l true e p t = ((λ u. cc), (λ i. let k = i.low in absurd (grind (arith, ints))))
+below_test s B x l false e p t = cc
 
--- in range, by both ends
-pub end_tests : (s : Bool) (B : ℕ) (x l h : ℤ) (a b : Bool) → l ≡ lo s B → h ≡ hi s B → a ≡ int_lt x l → b ≡ int_lt h x
-    → IsTrue (not a && not b) ↔ InRange s B x
-end_tests s B x l h true b e f p q = ((λ t. cc), (λ i. let k = i.low in absurd (grind (arith, ints))))
-end_tests s B x l h false true e f p q = ((λ t. cc), (λ i. let k = i.high in absurd (grind (arith, ints))))
-end_tests s B x l h false false e f p q = ((λ t. record { low = grind (arith, ints); high = grind (arith, ints) }), (λ i. refl))
-
-pub ruleset ends = (end_tests)
-
-pub ruleset arithmetic = (range_test, wrap-wrap, wrap-in_range, wrap-zero, wrap-of_in_range, in_range-of_wrap, InRange-wider, add-checks, add-refuses, sub-checks, sub-refuses)
+pub above_test : (s : Bool) (B : ℕ) (x l h : ℤ) (a b : Bool) → l ≡ lo s B → h ≡ hi s B → a ≡ int_lt x l → a ≡ false → b ≡ int_lt h x → IsTrue (not b) ↔ InRange s B x
+above_test s B x l h a true e f p t q = ((λ u. cc), (λ i. let k = i.high in absurd (grind (arith, ints))))
+above_test s B x l h a false e f p t q = ((λ u. record { low = grind (arith, ints); high = grind (arith, ints) }), (λ i. refl))
 
 pub ruleset zeros = (wrap-zero)
 

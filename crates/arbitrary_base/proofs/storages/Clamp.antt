@@ -62,8 +62,6 @@ clamped-high s B x h b one e f t = let u : hi s B <ℤ x = grind (arith, ints) i
 pub clamped-between : (s : Bool) (B : ℕ) (x l h : ℤ) (a b : Bool) → l ≡ lo s B → h ≡ hi s B → a ≡ int_lt x l → a ≡ false → b ≡ int_lt h x → b ≡ false → x ≡ clamp s B x
 clamped-between s B x l h a b d e f t g u = clamp-in_range s B x x (record { low = grind (arith, ints); high = grind (arith, ints) }) refl
 
-pub ruleset two_tests = (clamped-low, clamped-high, clamped-between)
-
 -- a number out of range, on the side that the flag gives
 pub clamp-out : (s : Bool) (B : ℕ) (x : ℤ) (low : Bool) → 1 ≤ B → (InRange s B x → ⊥) → (low ≡ true → x ≤ℤ pos 0) → (low ≡ false → lo s B ≤ℤ x)
     → range_end s B low ≡ clamp s B x
@@ -160,15 +158,3 @@ clamp-InRange s B x y h e = subst (λ (z : ℤ). InRange s B z) (sym e) (within 
     within true b p q = rw p (let m = ends in record { low = omega (arith, ints); high = omega (arith, ints) })
     within false true p q = rw (p, q) (let m = ends in record { low = omega (arith, ints); high = omega (arith, ints) })
     within false false p q = rw (p, q) (record { low = grind (arith, ints); high = grind (arith, ints) })
-
-pub end-InRange : (s : Bool) (B : ℕ) (y : ℤ) (b : Bool) → 1 ≤ B → y ≡ range_end s B b → InRange s B y
-end-InRange s B y true h e = let a = span s B h in let p = pow_pos B in record { low = omega (arith, ints); high = omega (arith, ints) }
-end-InRange s B y false h e = let a = span s B h in let p = pow_pos B in record { low = omega (arith, ints); high = omega (arith, ints) }
-
-pub ruleset overflow_laws = (overflows)
-
-pub ruleset clamped_sums = (clamp-in_range, add-saturates)
-
-pub ruleset clamped_differences = (clamp-in_range, sub-saturates)
-
-pub ruleset clamps = (clamp-in_range, mul-saturates, div-saturates)

@@ -1,9 +1,9 @@
 -- Why each primitive meets the laws of `Storage`. The impls in src/storage cite these lemmas.
-use Rattle.std.specs.Prelude.{◌≡◌, ◌↔◌, ℕ, ℤ, Bool, true, false, suc, pos, negsuc, ◌+ℤ◌, ◌-ℤ◌, ◌*ℤ◌, ◌+◌, ◌*◌, ◌-◌, ◌/◌, ◌%◌, ◌^◌, ◌≤◌, ◌<◌, FitsSigned, IsTrue, Option, Some, None}
+use Rattle.std.specs.Prelude.{◌≡◌, ◌↔◌, ℕ, ℤ, Bool, true, false, suc, pos, negsuc, ◌+ℤ◌, ◌-ℤ◌, ◌*ℤ◌, ◌+◌, ◌*◌, ◌-◌, ◌/◌, ◌%◌, ◌^◌, ◌≤◌, ◌<◌, FitsSigned, IsTrue, Option, Some, None, option_map}
 use Rattle.std.specs.Int.{Width, w8, w16, w32, w64, w128, int_wrap, cast_signed, cast_unsigned, int_wrapping_add, int_wrapping_sub, int_wrapping_mul}
 use Rattle.std.specs.Bool.{FalseIff}
 use Rattle.std.specs.Option.{SomeIff}
-use Rattle.std.proofs.Common.{arith, refl, ap, sym, ◌∙◌, mod-lt, to_z-of_z}
+use Rattle.std.proofs.Common.{arith, refl, ap, sym, subst, ◌∙◌, mod-lt, to_z, of_z, to_z-of_z}
 use Rattle.std.proofs.Math.Nat.{div-add-mod', mod-eq_of_lt}
 use Rattle.std.proofs.lemmas.Int.{ints, wrapping_add_is, wrapping_sub_is, wrapping_mul_is, SFits-int_wrap}
 use Rattle.std.proofs.lemmas.Nat.{pow_pos}
@@ -124,7 +124,7 @@ signed-from_small w p h = ap (cast_signed w) (sym (mod-eq_of_lt h)) ∙ signed-f
 
 -- ---- checked results
 
-pub signed-checks : (w : Width) (x : ℤ) (r : Option ℤ) → SomeIff r (FitsSigned w x) x → SomeIff r (InRange true (bits w) x) x
+signed-checks : (w : Width) (x : ℤ) (r : Option ℤ) → SomeIff r (FitsSigned w x) x → SomeIff (option_map (λ (z : ℤ). z) r) (InRange true (bits w) x) x
 signed-checks w x None h = λ f. h (signed-fits w x f)
 signed-checks w x (Some y) h = (signed-in_range w x h.0, h.1)
 
@@ -134,11 +134,29 @@ pub unsigned-flag : (B n : ℕ) (b : Bool) → FalseIff b (n < 2 ^ B) → IsTrue
 unsigned-flag B n true h = ((λ t i. h (let k = i.high in let p = pow_pos B in omega (arith, ints))), (λ t. refl))
 unsigned-flag B n false h = ((λ t. cc), (λ t. absurd (t (unsigned-in_range B n h))))
 
-pub signed-flag : (w : Width) (x : ℤ) (b : Bool) → FalseIff b (FitsSigned w x) → IsTrue b ↔ ¬ (InRange true (bits w) x)
+signed-flag : (w : Width) (x : ℤ) (b : Bool) → FalseIff b (FitsSigned w x) → IsTrue b ↔ ¬ (InRange true (bits w) x)
 signed-flag w x true h = ((λ t i. h (signed-fits w x i)), (λ t. refl))
 signed-flag w x false h = ((λ t. cc), (λ t. absurd (t (signed-in_range w x h))))
+
+-- a product of numbers as the primitive's call reads them
+pub signed-overflowing_mul : (w : Width) (a b r : ℤ) (o : Bool) → FitsSigned w a → FitsSigned w b → r ≡ int_wrapping_mul w (to_z w (of_z w a)) (to_z w (of_z w b))
+    → FalseIff o (FitsSigned w (to_z w (of_z w a) *ℤ to_z w (of_z w b))) → (r ≡ wrap true (bits w) (a *ℤ b)) × (IsTrue o ↔ ¬ (InRange true (bits w) (a *ℤ b)))
+signed-overflowing_mul w a b r o f g e h =
+    let x = to_z-of_z {w = w} {z = a} f in
+    let y = to_z-of_z {w = w} {z = b} g in (
+      e ∙ (λ i. int_wrapping_mul w (x i) (y i)) ∙ signed-wrapping_mul w a b f g,
+      signed-flag w (a *ℤ b) o (subst (λ (z : ℤ). FalseIff o (FitsSigned w z)) (λ i. x i *ℤ y i) h),
+    )
+
+pub signed-checked_mul : (w : Width) (a b : ℤ) (r : Option ℤ) → FitsSigned w a → FitsSigned w b
+    → SomeIff r (FitsSigned w (to_z w (of_z w a) *ℤ to_z w (of_z w b))) (to_z w (of_z w a) *ℤ to_z w (of_z w b))
+    → SomeIff (option_map (λ (z : ℤ). z) r) (InRange true (bits w) (a *ℤ b)) (a *ℤ b)
+signed-checked_mul w a b r f g h =
+    let x = to_z-of_z {w = w} {z = a} f in
+    let y = to_z-of_z {w = w} {z = b} g in
+    signed-checks w (a *ℤ b) r (subst (λ (z : ℤ). SomeIff r (FitsSigned w z) z) (λ i. x i *ℤ y i) h)
 
 -- what the impls ask of these
 pub ruleset unsigned_laws = (residue-pos, wrap-pos, unsigned-in_range, unsigned-sub, unsigned-flag)
 
-pub ruleset signed_laws = (to_z-of_z, cast_unsigned-residue, signed-from_bits, signed-from_small, signed-wrapping_add, signed-wrapping_sub, signed-wrapping_mul, signed-in_range, signed-checks, signed-flag)
+pub ruleset signed_laws = (to_z-of_z, cast_unsigned-residue, signed-from_bits, signed-from_small, signed-wrapping_add, signed-wrapping_sub, signed-wrapping_mul, signed-in_range)

@@ -1,5 +1,5 @@
 -- Numbers of at most 16 bits, stored in 64.
-use Rattle.std.specs.Prelude.{◌≡◌, ◌↔◌, ℕ, ℤ, Bool, true, false, ◌&&◌, pos, negsuc, neg_ℤ, ◌+ℤ◌, ◌-ℤ◌, ◌*ℤ◌, ◌≤ℤ◌, ◌<ℤ◌, ◌-◌, ◌≤◌, int_lt, int_le, IsTrue, unsigned_abs, FitsSigned}
+use Rattle.std.specs.Prelude.{◌≡◌, ◌↔◌, ℕ, ℤ, Bool, true, false, pos, negsuc, neg_ℤ, ◌+ℤ◌, ◌-ℤ◌, ◌*ℤ◌, ◌≤ℤ◌, ◌-◌, ◌≤◌, int_lt, int_le, IsTrue, unsigned_abs, FitsSigned}
 use Rattle.std.specs.Int.{w64}
 use Rattle.std.proofs.Common.{arith, sym, subst, ◌∙◌, lit≤}
 use Rattle.std.proofs.lemmas.Int.{ints, fits_signed_mul}
@@ -49,15 +49,16 @@ small-product s W x y a b h g i j e f =
 
 pub ruleset products = (small-product)
 
--- in range, by both ends
-pub within_test : (s : Bool) (B : ℕ) (x l h : ℤ) → l ≡ lo s B → h ≡ hi s B → IsTrue (int_le l x && int_le x h) ↔ InRange s B x
-within_test s B x l h e f =
-    ((λ t. record { low = grind (arith, ints); high = grind (arith, ints) }), (λ i. let a = i.low in let b = i.high in grind (arith, ints)))
+-- in range, by both ends, of which the lower one is tested first
+-- the code reads the numbers x, l and h as a, b and c
+pub below_end : (s : Bool) (B : ℕ) (x l a b : ℤ) → a ≡ x → b ≡ l → l ≡ lo s B → int_le b a ≡ false → IsTrue (int_le b a) ↔ InRange s B x
+below_end s B x l a b k m e t = ((λ u. cc), (λ i. let p = i.low in absurd (grind (arith, ints))))
 
-pub ruleset tests = (within_test)
+pub up_to_end : (s : Bool) (B : ℕ) (x l h a b c : ℤ) → a ≡ x → b ≡ l → c ≡ h → l ≡ lo s B → h ≡ hi s B → int_le b a ≡ true → IsTrue (int_le a c) ↔ InRange s B x
+up_to_end s B x l h a b c k m n e f t =
+    ((λ u. record { low = grind (arith, ints); high = grind (arith, ints) }), (λ i. let p = i.high in grind (arith, ints)))
 
 -- clamped, by the tests that the code makes
--- the code reads the numbers x, l and h as a, b and c
 pub end-low : (s : Bool) (B : ℕ) (x l a b : ℤ) → a ≡ x → b ≡ l → l ≡ lo s B → int_lt a b ≡ true → b ≡ clamp s B x
 end-low s B x l a b k m e p = m ∙ e ∙ sym (clamp-below s B x (let t : int_lt x l ≡ true = rw (← k, ← m) p in grind (arith, ints)))
 

@@ -14,6 +14,9 @@ use Rattle.arbitrary_base.proofs.storages.CheckedSum.{three_ways, wrap-above, wr
 abbrev pub Determines : Bool → ℕ → ℤ → ℤ → Type 0
 Determines s B e w = (InRange s B w → InRange s B e × (w ≡ e)) × (InRange s B e → w ≡ e)
 
+pub equal-determines : (s : Bool) (B : ℕ) (e w : ℤ) → w ≡ e → Determines s B e w
+equal-determines s B e w k = ((λ i. (subst (λ (v : ℤ). InRange s B v) k i, k)), (λ i. k))
+
 twice : (B W : ℕ) → 1 ≤ B → B < W → 2 * 2 ^ B ≤ 2 ^ W
 twice B W h g = let p = pow_le (suc B) W (omega arith) in omega arith
 
@@ -26,7 +29,7 @@ spare-determines s B W e w h g l m n =
     let z = (InRange-wider s B W (lo s B) h (omega arith) (record { low = omega (arith, ints); high = omega (arith, ints) })).low in
     let y = (InRange-wider s B W (hi s B) h (omega arith) (record { low = omega (arith, ints); high = omega (arith, ints) })).high in
     ⊎_elim
-    (λ i. let k : w ≡ e = n ∙ wrap-of_in_range s W e (omega arith) i in ((λ j. (subst (λ (v : ℤ). InRange s B v) k j, k)), (λ j. k)))
+    (λ i. equal-determines s B e w (n ∙ wrap-of_in_range s W e (omega arith) i))
     (⊎_elim
     (λ b. let k : w ≡ e +ℤ pos (2 ^ W) = n ∙ wrap-below s W e (omega arith) b (omega (arith, ints)) in
     ((λ j. let u = j.high in absurd (omega (arith, ints))), (λ j. let u = j.low in absurd (omega (arith, ints)))))
@@ -69,15 +72,6 @@ difference-stays true B W x y w t h g i j n =
 pub wrap-stays : (s : Bool) (B W : ℕ) (e w n : ℤ) → 1 ≤ B → B ≤ W → n ≡ wrap s B w → w ≡ wrap s W e → n ≡ wrap s B e
 wrap-stays s B W e w n h g p q = p ∙ ap (wrap s B) q ∙ wrap-wrap s B W e h g
 
--- a product is out of range where the storage says so, and where what it keeps is
-pub product-overflow : (s : Bool) (B W : ℕ) (e w : ℤ) (o b : Bool) → 1 ≤ B → B ≤ W → w ≡ wrap s W e → (IsTrue o ↔ ¬ (InRange s W e)) → (IsTrue b ↔ InRange s B w)
-    → IsTrue (o || not b) ↔ ¬ (InRange s B e)
-product-overflow s B W e w true b h g m p q = ((λ t i. p.0 refl (InRange-wider s B W e h g i)), (λ t. refl))
-product-overflow s B W e w false true h g m p q =
-    ((λ t. cc), (λ n. p.1 (λ i. n (subst (λ (v : ℤ). InRange s B v) (m ∙ wrap-of_in_range s W e (omega arith) i) (q.0 refl)))))
-product-overflow s B W e w false false h g m p q =
-    ((λ t i. let u : IsTrue false = q.1 (subst (λ (v : ℤ). InRange s B v) (sym (m ∙ wrap-of_in_range s W e (omega arith) (InRange-wider s B W e h g i))) i) in cc), (λ t. refl))
-
 -- the checked result, by the flag of an overflow
 pub flag-exact : (s : Bool) (B : ℕ) (e z : ℤ) (b : Bool) → 1 ≤ B → z ≡ wrap s B e → (IsTrue b ↔ ¬ (InRange s B e)) → b ≡ false → InRange s B e × (z ≡ e)
 flag-exact s B e z b h m f n =
@@ -89,6 +83,17 @@ flag-exact s B e z b h m f n =
 pub flag-none : (s : Bool) (B : ℕ) (e : ℤ) (b : Bool) → (IsTrue b ↔ ¬ (InRange s B e)) → b ≡ true → InRange s B e → ⊥
 flag-none s B e b f n i = f.0 (subst (λ (c : Bool). IsTrue c) (sym n) refl) i
 
--- a product that the storage has, and that is in range there
-pub mul-stays : (s : Bool) (B W : ℕ) (e w : ℤ) (o : Bool) → 1 ≤ B → B ≤ W → w ≡ wrap s W e → (IsTrue o ↔ ¬ (InRange s W e)) → o ≡ false → InRange s B w → InRange s B e × (w ≡ e)
-mul-stays s B W e w o h g m p n i = let k = (flag-exact s W e w o (omega arith) m p n).1 in (subst (λ (v : ℤ). InRange s B v) k i, k)
+-- the number has its test b, and the exact one is w too
+pub out-unless : (s : Bool) (B : ℕ) (e w : ℤ) (b : Bool) → w ≡ e → (IsTrue b ↔ InRange s B w) → IsTrue (not b) ↔ ¬ (InRange s B e)
+out-unless s B e w true k q = ((λ t. cc), (λ n. absurd (n (subst (λ (v : ℤ). InRange s B v) k (q.0 refl)))))
+out-unless s B e w false k q = ((λ t i. let u : IsTrue false = q.1 (subst (λ (v : ℤ). InRange s B v) (sym k) i) in cc), (λ t. refl))
+
+-- a product is out of range where the storage says so, and where what it keeps is
+pub product-overflow : (s : Bool) (B W : ℕ) (e w : ℤ) (o b : Bool) → 1 ≤ B → B ≤ W → w ≡ wrap s W e → (IsTrue o ↔ ¬ (InRange s W e)) → (IsTrue b ↔ InRange s B w)
+    → IsTrue (o || not b) ↔ ¬ (InRange s B e)
+product-overflow s B W e w true b h g m p q = ((λ t i. p.0 refl (InRange-wider s B W e h g i)), (λ t. refl))
+product-overflow s B W e w false b h g m p q = out-unless s B e w b (flag-exact s W e w false (omega arith) m p refl).1 q
+
+-- a product that the storage has
+pub product-determines : (s : Bool) (B W : ℕ) (e w : ℤ) (o : Bool) → 1 ≤ B → B ≤ W → w ≡ wrap s W e → (IsTrue o ↔ ¬ (InRange s W e)) → o ≡ false → Determines s B e w
+product-determines s B W e w o h g m p n = equal-determines s B e w (flag-exact s W e w o (omega arith) m p n).1

@@ -157,12 +157,10 @@ impl Storage for i128 {
         self.cast_unsigned()
     }
 
-    #[tactic(auto, using(crate::proofs::bit_lists::SignBit::signed_shifts))]
     fn shl_by(self, n: usize) -> Self {
         self << n
     }
 
-    #[tactic(auto, using(crate::proofs::bit_lists::SignBit::signed_shifts))]
     fn shr_by(self, n: usize) -> Self {
         self >> n
     }

@@ -144,12 +144,10 @@ impl Storage for i16 {
         self.cast_unsigned() as u128
     }
 
-    #[tactic(auto, using(crate::proofs::bit_lists::SignBit::signed_shifts))]
     fn shl_by(self, n: usize) -> Self {
         self << n
     }
 
-    #[tactic(auto, using(crate::proofs::bit_lists::SignBit::signed_shifts))]
     fn shr_by(self, n: usize) -> Self {
         self >> n
     }

@@ -1,5 +1,5 @@
 use Rattle.std.proofs.Common.{arith, sym, ◌∙◌, ◌<◌}
-use Rattle.arbitrary_base.proofs.storages.CheckedSum.{add-refuses_test}
+use Rattle.arbitrary_base.proofs.storages.CheckedSum.{same_cases, add-checks, add-refuses_test}
 use Rattle.arbitrary_base.proofs.storages.SpareBit.{sum-determines, flag-exact, flag-none, none-out_of_range}
 use Rattle.arbitrary_base.proofs.storages.SignTest.{add-across}
 use Rattle.arbitrary_base.proofs.checked.add.Goals as goal
@@ -28,6 +28,11 @@ returns-else-is_within g c =
     none-out_of_range g.T.Storage.SIGNED c.args.bits _ _ _
     (sum-determines g.T.Storage.SIGNED c.args.bits g.T.Storage.WIDTH _ _ _ c.requires.width room c.requires.x_in_range c.requires.y_in_range c.wrapping_add-sum.ensures)
     c.is_within.ensures c.if-is_within.false
+
+pub returns-then-is_below-is_below_zero : goal.returns-then-is_below-is_below_zero
+returns-then-is_below-is_below_zero g c =
+    add-checks g.T.Storage.SIGNED c.args.bits _ _ _ c.requires.width c.requires.x_in_range c.requires.y_in_range c.add-sum-else-bits-WIDTH.ensures.value
+    (same_cases _ _ _ _ _ c.is_below.ensures c.is_below_zero.ensures c.if-is_below-is_below_zero.true)
 
 pub returns-else-is_below-is_below_zero : goal.returns-else-is_below-is_below_zero
 returns-else-is_below-is_below_zero g c =

@@ -1,5 +1,11 @@
-use Rattle.arbitrary_base.proofs.LawProof.{wrap-within}
+use Rattle.arbitrary_base.proofs.LawProof.{wrap-within, is-wrap}
+use Rattle.arbitrary_base.proofs.modular.Residue.{wrap-congruent, wrap-of_in_range}
 use Rattle.arbitrary_base.proofs.laws.wrap_laws.Goals as goal
 
-pub returns-clause-in_range : goal.returns-clause-in_range
-returns-clause-in_range c = wrap-within
+pub returns : goal.returns
+returns c = record {
+  in_range = wrap-within;
+  congruent = wrap-congruent;
+  unique = is-wrap;
+  keeps = wrap-of_in_range;
+}

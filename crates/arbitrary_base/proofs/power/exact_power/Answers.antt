@@ -1,7 +1,7 @@
-use Rattle.std.proofs.Common.{◌≡◌, ◌/◌, ◌*ℤ◌, arith, ap, sym, ◌∙◌}
+use Rattle.std.proofs.Common.{◌≡◌, ◌/◌, ◌*ℤ◌, ◌+◌, ℕ, arith, ap, le_of_eq, le_of_lt, lit≤, refl, sym, ◌∙◌}
 use Rattle.std.specs.Prelude.{pos}
 use Rattle.arbitrary_base.specs.Range.{InRange}
-use Rattle.arbitrary_base.proofs.integers.Squaring.{Squaring, power-none, one-times, begun, odd-turn, even-turn, last-turn, equal-numbers, idempotent-power, unit-odd, unit-even, room, spent, product-beyond, square-beyond, last-product, one-in_range, InRange-equal}
+use Rattle.arbitrary_base.proofs.integers.Squaring.{Squaring, power-none, once, one-times, begun, begun-more, odd-turn, even-turn, last-turn, equal-numbers, half-less, idempotent-power, unit-odd, unit-even, room, room-again, spent, spent-again, product-beyond, square-beyond, last-product, one-in_range, InRange-equal}
 use Rattle.arbitrary_base.proofs.power.exact_power.Goals as goal
 use Rattle.arbitrary_base.proofs.power.exact_power.Goals.{then-exp-eq1, else-exp-eq1, then-exp-gt1+in_ok-square+else-equal+else-equal-2, else-exp-gt1, then-exp-eq1-2, else-exp-eq1-2, then-left-eq1+in_ok-product, else-left-eq1}
 
@@ -10,18 +10,24 @@ returns-then-exp-eq0-clause-value g c = power-none _ _ _ c.one-product.ensures c
 
 -- ---- the first turn
 
+pub multiply-requires : goal.multiply-requires
+multiply-requires g c = record { width = le_of_lt c.requires.some; storage = c.requires.storage; x_in_range = c.requires.x_in_range; room = rw c.requires.started (lit≤ tt) }
+
+pub returns-in_err-square-clause-counted : goal.returns-in_err-square-clause-counted
+returns-in_err-square-clause-counted g c = spent _ _ (begun-more (g.T.Storage.number c.args.x) _ c.args.exp c.if-exp-gt1.true c.one-product.ensures) c.requires.started c.in_err-square.ensures.counted
+
 pub returns-in_err-square-clause-value : goal.returns-in_err-square-clause-value
 returns-in_err-square-clause-value g c =
     let n = g.T.Storage.number in
-    let first = begun (n c.args.x) _ c.args.exp (omega arith) c.one-product.ensures in
+    let first = begun-more (n c.args.x) _ c.args.exp c.if-exp-gt1.true c.one-product.ensures in
     rw c.from_residual.ensures (square-beyond _ _ first c.if-exp-gt1.true c.requires.x_in_range c.in_err-square.ensures.product)
 
 pub returns-then-equal-clause-value : goal.returns-then-equal-clause-value
 returns-then-equal-clause-value g c =
-    idempotent-power _ _ (omega arith) (sym c.in_ok-square.ensures.product.1 ∙ equal-numbers _ _ c.if-equal.ensures)
+    idempotent-power _ _ (le_of_lt c.if-exp-gt1.true) (sym c.in_ok-square.ensures.product.1 ∙ equal-numbers _ _ c.if-equal.ensures)
 
 pub returns-then-equal-clause-counted : goal.returns-then-equal-clause-counted
-returns-then-equal-clause-counted g c = let k = spent (begun (g.T.Storage.number c.args.x) _ c.args.exp (omega arith) c.one-product.ensures) in omega arith
+returns-then-equal-clause-counted g c = spent _ _ (begun-more (g.T.Storage.number c.args.x) _ c.args.exp c.if-exp-gt1.true c.one-product.ensures) c.requires.started c.in_ok-square.ensures.counted
 
 pub returns-then-equal-2-clause-value : goal.returns-then-equal-2-clause-value
 returns-then-equal-2-clause-value g c =
@@ -34,9 +40,12 @@ returns-then-equal-2-clause-value g c =
     ]
 
 pub returns-then-equal-2-clause-counted : goal.returns-then-equal-2-clause-counted
-returns-then-equal-2-clause-counted g c = let k = spent (begun (g.T.Storage.number c.args.x) _ c.args.exp (omega arith) c.one-product.ensures) in omega arith
+returns-then-equal-2-clause-counted g c = spent _ _ (begun-more (g.T.Storage.number c.args.x) _ c.args.exp c.if-exp-gt1.true c.one-product.ensures) c.requires.started c.in_ok-square.ensures.counted
 
 -- ---- the loop
+
+pub loop-left-smaller : goal.loop-left-smaller
+loop-left-smaller g c = half-less _ c.loop-left-test.true
 
 pub loop-left-init : goal.loop-left-init
 loop-left-init g c =
@@ -50,11 +59,11 @@ loop-left-init g c =
           let next : Squaring (n c.args.x) c.args.exp (n w.if-exp-eq1-2.product) (n w.in_ok-square.square) (c.args.exp / 2) w.multiply.new.count × InRange g.T.Storage.SIGNED c.args.bits (n w.if-exp-eq1-2.product) =
           elim w.if-exp-eq1-2.branch [
             | then-exp-eq1-2 v ↦ (
-              odd-turn _ _ _ first w.if-exp-gt1.true v.if-exp-eq1-2.true (ap n v.product-is ∙ one-times _ _ one) square.1 (omega arith),
+              odd-turn _ _ _ first w.if-exp-gt1.true v.if-exp-eq1-2.true (ap n v.product-is ∙ one-times _ _ one) square.1 (once _ _ 0 c.requires.started w.in_ok-square.ensures.counted),
               InRange-equal {x = n c.args.x} (ap n v.product-is) c.requires.x_in_range,
             )
             | else-exp-eq1-2 v ↦ (
-              even-turn _ _ _ first w.if-exp-gt1.true v.if-exp-eq1-2.false (ap n v.product-is) square.1 (omega arith),
+              even-turn _ _ _ first w.if-exp-gt1.true v.if-exp-eq1-2.false (ap n v.product-is) square.1 (w.in_ok-square.ensures.counted ∙ ap (λ (k : ℕ). k + 1) c.requires.started),
               InRange-equal {x = n c.one-product.result} (ap n v.product-is) one_in,
             )
           ] in
@@ -66,8 +75,9 @@ loop-left-init g c =
       | else-exp-gt1 w ↦ rw (w.count-is, w.product-is, w.base-is, w.left-is, c.requires.started) record { squaring = first; product_in = one_in; base_in = c.requires.x_in_range }
     ]
 
-pub multiply-requires-in-loop-left-clause-room : goal.multiply-requires-in-loop-left-clause-room
-multiply-requires-in-loop-left-clause-room g c = let k = room c.loop-left.invariant.squaring c.ranges.exp.fits in omega arith
+pub multiply-requires-in-loop-left : goal.multiply-requires-in-loop-left
+multiply-requires-in-loop-left g c =
+    let i = c.loop-left.invariant in record { width = le_of_lt c.requires.some; storage = c.requires.storage; x_in_range = i.base_in; room = room i.squaring c.ranges.exp.fits }
 
 pub returns-in_err-square-2-clause-value : goal.returns-in_err-square-2-clause-value
 returns-in_err-square-2-clause-value g c =
@@ -75,10 +85,11 @@ returns-in_err-square-2-clause-value g c =
     rw c.from_residual-in_err-square-2.ensures (square-beyond _ _ i.squaring c.loop-left-test.true i.base_in c.in_err-square-2.ensures.product)
 
 pub returns-in_err-square-2-clause-counted : goal.returns-in_err-square-2-clause-counted
-returns-in_err-square-2-clause-counted g c = let k = spent c.loop-left.invariant.squaring in omega arith
+returns-in_err-square-2-clause-counted g c = spent _ _ c.loop-left.invariant.squaring refl c.in_err-square-2.ensures.counted
 
-pub multiply-requires-then-left-eq1-clause-room : goal.multiply-requires-then-left-eq1-clause-room
-multiply-requires-then-left-eq1-clause-room g c = let k = room c.loop-left.invariant.squaring c.ranges.exp.fits in omega arith
+pub multiply-requires-then-left-eq1 : goal.multiply-requires-then-left-eq1
+multiply-requires-then-left-eq1 g c =
+    let i = c.loop-left.invariant in record { width = le_of_lt c.requires.some; storage = c.requires.storage; x_in_range = i.product_in; room = room-again _ i.squaring c.ranges.exp.fits c.in_ok-square-2.ensures.counted }
 
 pub returns-in_err-product-clause-value : goal.returns-in_err-product-clause-value
 returns-in_err-product-clause-value g c =
@@ -86,7 +97,7 @@ returns-in_err-product-clause-value g c =
     rw c.from_residual-in_err-product.ensures (product-beyond _ _ i.squaring i.product_in i.base_in c.in_err-product.ensures.product)
 
 pub returns-in_err-product-clause-counted : goal.returns-in_err-product-clause-counted
-returns-in_err-product-clause-counted g c = let k = spent c.loop-left.invariant.squaring in omega arith
+returns-in_err-product-clause-counted g c = spent-again _ _ c.loop-left.invariant.squaring c.in_ok-square-2.ensures.counted c.in_err-product.ensures.counted
 
 pub loop-left-preserved : goal.loop-left-preserved
 loop-left-preserved g c =
@@ -98,11 +109,11 @@ loop-left-preserved g c =
       | then-left-eq1+in_ok-product w ↦
           (let product = w.in_ok-product.ensures.product in
           let is : n c.if-left-eq1.product ≡ n c.loop-left.product *ℤ n c.loop-left.base = rw w.product-is product.1 in (
-            odd-turn _ _ _ i.squaring c.loop-left-test.true w.if-left-eq1.true is square.1 (omega arith),
+            odd-turn _ _ _ i.squaring c.loop-left-test.true w.if-left-eq1.true is square.1 (le_of_eq (w.count-is ∙ w.in_ok-product.ensures.counted ∙ ap (λ (k : ℕ). k + 1) c.in_ok-square-2.ensures.counted)),
             InRange-equal {x = n c.loop-left.product *ℤ n c.loop-left.base} is product.0,
           ))
       | else-left-eq1 w ↦ (
-        even-turn _ _ _ i.squaring c.loop-left-test.true w.if-left-eq1.false (ap n w.product-is) square.1 (omega arith),
+        even-turn _ _ _ i.squaring c.loop-left-test.true w.if-left-eq1.false (ap n w.product-is) square.1 (w.count-is ∙ c.in_ok-square-2.ensures.counted),
         InRange-equal {x = n c.loop-left.product} (ap n w.product-is) i.product_in,
       )
     ] in
@@ -112,8 +123,9 @@ loop-left-preserved g c =
       base_in = InRange-equal {x = n c.loop-left.base *ℤ n c.loop-left.base} square.1 square.0;
     }
 
-pub multiply-requires-2-clause-room : goal.multiply-requires-2-clause-room
-multiply-requires-2-clause-room g c = let k = room c.loop-left.invariant.squaring c.ranges.exp.fits in omega arith
+pub multiply-requires-2 : goal.multiply-requires-2
+multiply-requires-2 g c =
+    let i = c.loop-left.invariant in record { width = le_of_lt c.requires.some; storage = c.requires.storage; x_in_range = i.product_in; room = room i.squaring c.ranges.exp.fits }
 
 pub returns-clause-value : goal.returns-clause-value
 returns-clause-value g c =
@@ -121,4 +133,4 @@ returns-clause-value g c =
     last-product g.T.Storage.number _ _ c.multiply-2.result i.squaring i.product_in i.base_in (last-turn i.squaring c.loop-left-test.false) c.multiply-2.ensures.product
 
 pub returns-clause-counted : goal.returns-clause-counted
-returns-clause-counted g c = let k = spent c.loop-left.invariant.squaring in omega arith
+returns-clause-counted g c = spent _ _ c.loop-left.invariant.squaring refl c.multiply-2.ensures.counted

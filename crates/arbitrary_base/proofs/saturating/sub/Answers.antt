@@ -1,21 +1,37 @@
-use Rattle.std.proofs.Common.{arith, ap, sym, ◌∙◌, ◌<◌, to_z-of_z}
+use Rattle.std.proofs.Common.{◌≡◌, ℤ, arith, sym, subst, ◌∙◌, ◌<◌, to_z-of_z}
 use Rattle.std.specs.Int.{w64}
 use Rattle.std.specs.Prelude.{◌-ℤ◌, ◌-◌}
 use Rattle.arbitrary_base.specs.Saturating.{clamp}
-use Rattle.arbitrary_base.proofs.storages.Clamp.{clamp-InRange}
+use Rattle.arbitrary_base.proofs.storages.Clamp.{clamp-InRange, clamp-in_range, sub-saturates}
 use Rattle.arbitrary_base.proofs.storages.RaisedNumber.{nearest-raised, raised-difference}
 use Rattle.arbitrary_base.proofs.storages.SixteenBits.{small-sum}
 use Rattle.arbitrary_base.proofs.storages.SpareBit.{difference-stays}
 use Rattle.arbitrary_base.proofs.saturating.sub.Goals as goal
 
-pub returns-then-WIDTH-le32-clause-value : goal.returns-then-WIDTH-le32-clause-value
-returns-then-WIDTH-le32-clause-value g c =
+pub returns-then-WIDTH-le32 : goal.returns-then-WIDTH-le32
+returns-then-WIDTH-le32 g c =
     let room : c.args.bits < g.T.Storage.WIDTH = omega (arith, c.WIDTH-then-SIGNED-2.ensures, c.if-bits-WIDTH.true) in
-    c.clamped-then-WIDTH-le32.ensures ∙ ap (clamp g.T.Storage.SIGNED c.args.bits)
-    (difference-stays g.T.Storage.SIGNED c.args.bits g.T.Storage.WIDTH _ _ _ (sym c.SIGNED-else-SIGNED.ensures ∙ c.if-SIGNED-2.true) c.requires.width room c.requires.x_in_range c.requires.y_in_range c.wrapping_sub.ensures)
+    let exact = difference-stays g.T.Storage.SIGNED c.args.bits g.T.Storage.WIDTH _ _ _ (sym c.SIGNED-else-SIGNED.ensures ∙ c.if-SIGNED-2.true) c.requires.width room c.requires.x_in_range c.requires.y_in_range c.wrapping_sub.ensures in
+    record {
+      value = subst (λ (v : ℤ). g.T.Storage.number c.clamped-then-WIDTH-le32.result ≡ clamp g.T.Storage.SIGNED c.args.bits v) exact c.clamped-then-WIDTH-le32.ensures;
+      result_in_range = clamp-InRange g.T.Storage.SIGNED c.args.bits _ _ c.requires.width c.clamped-then-WIDTH-le32.ensures;
+    }
 
-pub returns-then-WIDTH-le32-clause-result_in_range : goal.returns-then-WIDTH-le32-clause-result_in_range
-returns-then-WIDTH-le32-clause-result_in_range g c = clamp-InRange g.T.Storage.SIGNED c.args.bits _ _ c.requires.width c.clamped-then-WIDTH-le32.ensures
+pub returns-in-Some : goal.returns-in-Some
+returns-in-Some g c =
+    let e = clamp-in_range g.T.Storage.SIGNED c.args.bits _ _ c.in-Some.ensures.0 c.in-Some.ensures.1 in
+    record { value = e; result_in_range = clamp-InRange _ _ _ _ c.requires.width e }
+
+pub returns-in-None : goal.returns-in-None
+returns-in-None g c =
+    let e = sub-saturates g.T.Storage.SIGNED c.args.bits _ _ _ _ c.requires.width c.requires.x_in_range c.requires.y_in_range c.in-None.ensures c.is_below_zero.ensures c.end.ensures in
+    record { value = e; result_in_range = clamp-InRange _ _ _ _ c.requires.width e }
+
+pub number-requires : goal.number-requires
+number-requires g c = record { small = omega (arith, c.WIDTH.ensures, c.if-WIDTH-le16.true); width = c.requires.width; storage = c.requires.storage; x_in_range = c.requires.x_in_range }
+
+pub number-requires-then-WIDTH-le16 : goal.number-requires-then-WIDTH-le16
+number-requires-then-WIDTH-le16 g c = record { small = omega (arith, c.WIDTH.ensures, c.if-WIDTH-le16.true); width = c.requires.width; storage = c.requires.storage; x_in_range = c.requires.y_in_range }
 
 pub overflow_sub-number : goal.overflow_sub-number
 overflow_sub-number g c =
@@ -23,14 +39,23 @@ overflow_sub-number g c =
     (to_z-of_z {w = w64} {z = c.number.result} (record { sfits = c.number.type_inv }))
     (to_z-of_z {w = w64} {z = c.number-then-WIDTH-le16.result} (record { sfits = c.number-then-WIDTH-le16.type_inv }))).1
 
-pub returns-then-WIDTH-le16-clause-value : goal.returns-then-WIDTH-le16-clause-value
-returns-then-WIDTH-le16-clause-value g c =
+pub returns-then-WIDTH-le16 : goal.returns-then-WIDTH-le16
+returns-then-WIDTH-le16 g c =
     let a = to_z-of_z {w = w64} {z = c.number.result} (record { sfits = c.number.type_inv }) in
     let b = to_z-of_z {w = w64} {z = c.number-then-WIDTH-le16.result} (record { sfits = c.number-then-WIDTH-le16.type_inv }) in
-    nearest-raised g.T.Storage.SIGNED c.args.bits g.T.Storage.WIDTH (g.T.Storage.number c.args.x -ℤ g.T.Storage.number c.args.y) _ _ c.requires.width c.requires.storage
+    let e = nearest-raised g.T.Storage.SIGNED c.args.bits g.T.Storage.WIDTH (g.T.Storage.number c.args.x -ℤ g.T.Storage.number c.args.y) _ _ c.requires.width c.requires.storage
     (raised-difference (g.T.Storage.WIDTH - c.args.bits) _ _ _ _ _ (a ∙ c.number.ensures.value) (b ∙ c.number-then-WIDTH-le16.ensures.value)
-    (to_z-of_z {w = w64} (overflow_sub-number g c.before))) c.clamped.ensures
+    (to_z-of_z {w = w64} (overflow_sub-number g c.before))) c.clamped.ensures in
+    record { value = e; result_in_range = clamp-InRange _ _ _ _ c.requires.width e }
 
-pub returns-then-WIDTH-le16-clause-result_in_range : goal.returns-then-WIDTH-le16-clause-result_in_range
-returns-then-WIDTH-le16-clause-result_in_range g c =
-    clamp-InRange g.T.Storage.SIGNED c.args.bits _ _ c.requires.width (returns-then-WIDTH-le16-clause-value g c)
+pub clamped-requires : goal.clamped-requires
+clamped-requires g c = record { small = omega (arith, c.WIDTH.ensures, c.if-WIDTH-le16.true); width = c.requires.width; storage = c.requires.storage }
+
+pub clamped-requires-then-WIDTH-le32 : goal.clamped-requires-then-WIDTH-le32
+clamped-requires-then-WIDTH-le32 g c = record { width = c.requires.width; storage = c.requires.storage }
+
+pub sub-requires : goal.sub-requires
+sub-requires g c = c.requires
+
+pub end-requires : goal.end-requires
+end-requires g c = record { width = c.requires.width; storage = c.requires.storage }

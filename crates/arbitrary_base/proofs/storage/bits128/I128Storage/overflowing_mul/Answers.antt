@@ -2,6 +2,7 @@ use Rattle.std.proofs.Common.{◌∙◌, ◌≡◌, ℤ, ◌*◌, ◌%◌, ◌^�
 use Rattle.std.specs.Prelude.{unsigned_abs, int_lt}
 use Rattle.std.specs.Int.{w128}
 use Rattle.arbitrary_base.proofs.integers.SignAndMagnitude.{mul-by_sizes}
+use Rattle.arbitrary_base.proofs.storages.Primitive.{signed-overflowing_mul}
 use Rattle.arbitrary_base.proofs.storage.bits128.I128Storage.overflowing_mul.Goals as goal
 
 pub returns-clause-value : goal.returns-clause-value
@@ -14,3 +15,7 @@ returns-clause-value c =
     ∙ mul-by_sizes c.args.self c.args.other c.with_sign.result c.overflowing_mul-size.result.0 _ _
     (c.overflowing_mul-size.ensures.value ∙ (λ i. (a i * b i) % 2 ^ 128)) (ap (λ (z : ℤ). int_lt z (pos 0)) x) (ap (λ (z : ℤ). int_lt z (pos 0)) y)
     c.with_sign.ensures
+
+pub returns-clause-overflow : goal.returns-clause-overflow
+returns-clause-overflow c =
+    (signed-overflowing_mul w128 _ _ _ _ c.ranges.self c.ranges.other c.overflowing_mul-overflow.ensures.value c.overflowing_mul-overflow.ensures.overflow).1

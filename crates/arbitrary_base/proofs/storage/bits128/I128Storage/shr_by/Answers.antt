@@ -1,0 +1,6 @@
+use Rattle.std.specs.Int.{w128}
+use Rattle.arbitrary_base.proofs.bit_lists.SignBit.{signed-shr}
+use Rattle.arbitrary_base.proofs.storage.bits128.I128Storage.shr_by.Goals as goal
+
+pub returns : goal.returns
+returns c = signed-shr w128 c.args.self c.args.n c.ranges.self c.requires

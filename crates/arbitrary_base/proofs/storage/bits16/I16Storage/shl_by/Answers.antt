@@ -1,0 +1,6 @@
+use Rattle.std.specs.Int.{w16}
+use Rattle.arbitrary_base.proofs.bit_lists.SignBit.{signed-shl}
+use Rattle.arbitrary_base.proofs.storage.bits16.I16Storage.shl_by.Goals as goal
+
+pub returns : goal.returns
+returns c = signed-shl w16 c.args.self c.args.n c.ranges.self c.requires

@@ -1,0 +1,8 @@
+use Rattle.std.specs.Int.{w64}
+use Rattle.arbitrary_base.proofs.storages.Primitive.{signed-overflowing_mul}
+use Rattle.arbitrary_base.proofs.storage.bits64.I64Storage.overflowing_mul.Goals as goal
+
+pub returns : goal.returns
+returns c =
+    let e = signed-overflowing_mul w64 _ _ _ _ c.ranges.self c.ranges.other c.overflowing_mul.ensures.value c.overflowing_mul.ensures.overflow in
+    record { value = e.0; overflow = e.1 }

@@ -1,0 +1,6 @@
+use Rattle.std.specs.Int.{w8}
+use Rattle.arbitrary_base.proofs.storages.Primitive.{signed-checked_mul}
+use Rattle.arbitrary_base.proofs.storage.bits8.I8Storage.checked_mul.Goals as goal
+
+pub returns : goal.returns
+returns c = signed-checked_mul w8 _ _ _ c.ranges.self c.ranges.other c.checked_mul.ensures
