@@ -42,26 +42,26 @@ pub fn wrapped_total<T: UnsignedStorage, const BITS: usize>(
     x.wrapping_add(y)
 }
 
-pub fn one_of_two<V: FixedWidth>(a: V, b: V) -> V
+pub fn one_of_two<V: Integer>(a: V, b: V) -> V
     ensures left { V.number a <ℤ V.number b → V.number result ≡ V.number b }
 {
     a.max(b)
 }
 
-pub fn step_down<V: FixedWidth>(x: V, step: V) -> V
+pub fn step_down<V: SumCalls>(x: V, step: V) -> V
     requires { pos 0 ≤ℤ V.number step }
     ensures { V.number result ≤ℤ V.number x }
 {
     x.saturating_sub(step)
 }
 
-pub fn power_in_range<V: FixedWidth>(x: V) -> V
+pub fn power_in_range<V: ProductCalls>(x: V) -> V
     ensures { InRange V.IS_SIGNED V.BITS (V.number result) }
 {
     x.saturating_pow(3)
 }
 
-pub fn ones_and_zeros<V: FixedWidth>(x: V) -> u32
+pub fn ones_and_zeros<V: CountCalls>(x: V) -> u32
     ensures { result ≡ V.BITS }
 {
     x.count_ones() + x.count_zeros()

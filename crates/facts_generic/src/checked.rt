@@ -6,7 +6,7 @@ ghost use Rattle.arbitrary_int.specs.Range.{InRange};
 
 use arbitrary_int::prelude::*;
 
-pub fn checked_shift_is_some<V: FixedWidth>(x: V, n: u32) -> bool
+pub fn checked_shift_is_some<V: ShiftCalls>(x: V, n: u32) -> bool
     requires { V.valid }
     ensures { IsTrue result }
 {
@@ -41,7 +41,7 @@ pub fn checked_is_wrapping<V: FixedWidth>(x: V, y: V) -> bool
     }
 }
 
-pub fn clamped_sum_and_back<V: FixedWidth + UnsignedInteger>(x: V, y: V) -> bool
+pub fn clamped_sum_and_back<V: SumCalls + UnsignedInteger>(x: V, y: V) -> bool
     requires { V.valid }
     ensures { IsTrue result }
 {

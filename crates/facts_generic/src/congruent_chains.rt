@@ -7,26 +7,26 @@ ghost use Rattle.arbitrary_int.specs.Residue.{Congruent};
 
 use arbitrary_int::prelude::*;
 
-pub fn sum_of_three<V: FixedWidth>(a: V, b: V, c: V) -> V
+pub fn sum_of_three<V: SumCalls>(a: V, b: V, c: V) -> V
     ensures { Congruent V.BITS (V.number result) (V.number a +ℤ V.number b +ℤ V.number c) }
 {
     a.wrapping_add(b).wrapping_add(c)
 }
 
-pub fn moved_by_a_difference<V: FixedWidth>(position: V, to: V, from: V) -> V
+pub fn moved_by_a_difference<V: SumCalls>(position: V, to: V, from: V) -> V
     ensures { Congruent V.BITS (V.number result)
         (V.number position +ℤ V.number to -ℤ V.number from) }
 {
     position.wrapping_add(to.wrapping_sub(from))
 }
 
-pub fn product_and_sum<V: FixedWidth>(a: V, b: V, c: V) -> V
+pub fn product_and_sum<V: SumCalls + ProductCalls>(a: V, b: V, c: V) -> V
     ensures { Congruent V.BITS (V.number result) (V.number a *ℤ V.number b +ℤ V.number c) }
 {
     a.wrapping_mul(b).wrapping_add(c)
 }
 
-pub fn sum_times<V: FixedWidth>(a: V, b: V, c: V) -> V
+pub fn sum_times<V: SumCalls + ProductCalls>(a: V, b: V, c: V) -> V
     ensures { Congruent V.BITS (V.number result) ((V.number a +ℤ V.number b) *ℤ V.number c) }
 {
     a.wrapping_add(b).wrapping_mul(c)
@@ -38,7 +38,7 @@ pub fn product_of_three(a: u24, b: u24, c: u24) -> u24
     a.wrapping_mul(b).wrapping_mul(c)
 }
 
-pub fn polynomial_of_any_type<V: FixedWidth>(a: V, b: V, c: V, x: V) -> V
+pub fn polynomial_of_any_type<V: SumCalls + ProductCalls>(a: V, b: V, c: V, x: V) -> V
     ensures { Congruent V.BITS (V.number result)
         ((V.number a *ℤ V.number x +ℤ V.number b) *ℤ V.number x +ℤ V.number c) }
 {
@@ -48,7 +48,7 @@ pub fn polynomial_of_any_type<V: FixedWidth>(a: V, b: V, c: V, x: V) -> V
         .wrapping_add(c)
 }
 
-pub fn checksum_of_five<V: FixedWidth>(a: V, b: V, c: V, d: V, e: V) -> V
+pub fn checksum_of_five<V: SumCalls>(a: V, b: V, c: V, d: V, e: V) -> V
     ensures { Congruent V.BITS (V.number result)
         (V.number a +ℤ V.number b +ℤ V.number c +ℤ V.number d +ℤ V.number e) }
 {

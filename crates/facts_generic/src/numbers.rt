@@ -15,33 +15,33 @@ pub fn narrowed<A: Integer, B: Integer>(x: A) -> B
     x.as_::<B>()
 }
 
-pub fn added<V: FixedWidth>(a: V, b: V) -> V
+pub fn added<V: SumCalls>(a: V, b: V) -> V
     requires { InRange V.IS_SIGNED V.BITS (V.number a +ℤ V.number b) }
     ensures { V.number result ≡ V.number a +ℤ V.number b }
 {
     a.wrapping_add(b)
 }
 
-pub fn saturated<V: FixedWidth>(a: V, b: V) -> V
+pub fn saturated<V: SumCalls>(a: V, b: V) -> V
     requires { hi V.IS_SIGNED V.BITS <ℤ (V.number a +ℤ V.number b) }
     ensures { V.number result ≡ hi V.IS_SIGNED V.BITS }
 {
     a.saturating_add(b)
 }
 
-pub fn there_and_back<V: FixedWidth>(a: V, b: V) -> V
+pub fn there_and_back<V: SumCalls>(a: V, b: V) -> V
     ensures { V.number result ≡ V.number a }
 {
     a.wrapping_add(b).wrapping_sub(b)
 }
 
-pub fn rotated_back<V: FixedWidth>(a: V, amount: u32) -> V
+pub fn rotated_back<V: ShiftCalls>(a: V, amount: u32) -> V
     ensures { V.number result ≡ V.number a }
 {
     a.rotate_left(amount).rotate_right(amount)
 }
 
-pub fn smaller<V: FixedWidth>(a: V, b: V) -> bool
+pub fn smaller<V: Integer>(a: V, b: V) -> bool
     ensures { IsTrue result ↔ (V.number a <ℤ V.number b) }
 {
     a < b
@@ -104,7 +104,7 @@ pub fn known<V: Integer>(a: V) -> u8
     a.as_u8()
 }
 
-pub fn counted<V: FixedWidth>(a: V) -> u32
+pub fn counted<V: CountCalls>(a: V) -> u32
     ensures { result ≤ V.BITS }
 {
     a.leading_zeros()
