@@ -1,6 +1,6 @@
 //! The words of a step, and the step that they name. `fast` reads the usual form of a line.
 
-ghost use Rattle.std.specs.Prelude.{◌≡◌, ◌∷◌, ◌<◌, ◌^◌, Some, None, IfSome, MatchOption};
+ghost use Rattle.std.specs.Prelude.{◌≡◌, ◌≢◌, ◌∷◌, ◌++◌, ◌<◌, ◌^◌, Some, None, IfSome, MatchOption, All, get_or, codes};
 ghost use Rattle.arbitrary_int.specs.Steps.{StepWithin};
 ghost use Rattle.bitrun_text.specs.Text.{Left};
 ghost use Rattle.bitrun_text.specs.Numeral.{first_number};
@@ -22,37 +22,86 @@ pub enum Operation {
 }
 
 /// The operation that a word names.
+// `w`, `s` and `c` have functions of their own, because the check of a `match` takes time with the square of its cases.
 #[tactic(auto, unfolding(crate::specs::Operation::operation_named))]
 #[inline(always)]
 pub fn operation_named(word: &[u8]) -> Option<Operation>
     ensures { result ≡ operation_named word.now }
 {
     match word {
-        b"wadd" => Some(Operation::Two(TwoOp::WrappingAdd)),
-        b"wsub" => Some(Operation::Two(TwoOp::WrappingSub)),
-        b"wmul" => Some(Operation::Two(TwoOp::WrappingMul)),
-        b"wdiv" => Some(Operation::Two(TwoOp::WrappingDiv)),
-        b"sadd" => Some(Operation::Two(TwoOp::SaturatingAdd)),
-        b"ssub" => Some(Operation::Two(TwoOp::SaturatingSub)),
-        b"smul" => Some(Operation::Two(TwoOp::SaturatingMul)),
-        b"sdiv" => Some(Operation::Two(TwoOp::SaturatingDiv)),
-        b"cadd" => Some(Operation::Two(TwoOp::CheckedAdd)),
-        b"csub" => Some(Operation::Two(TwoOp::CheckedSub)),
-        b"cmul" => Some(Operation::Two(TwoOp::CheckedMul)),
-        b"cdiv" => Some(Operation::Two(TwoOp::CheckedDiv)),
+        [b'w', rest @ ..] => wrapping_named(rest),
+        [b's', rest @ ..] => saturating_named(rest),
+        [b'c', rest @ ..] => checked_named(rest),
+        _ => other_named(word),
+    }
+}
+
+/// The operation named by a `w` and the rest of a word.
+#[tactic(auto, unfolding(crate::specs::Operation::operation_named))]
+#[inline(always)]
+fn wrapping_named(rest: &[u8]) -> Option<Operation>
+    ensures { result ≡ operation_named (codes "w" ++ rest.now) }
+{
+    match rest {
+        b"add" => Some(Operation::Two(TwoOp::WrappingAdd)),
+        b"sub" => Some(Operation::Two(TwoOp::WrappingSub)),
+        b"mul" => Some(Operation::Two(TwoOp::WrappingMul)),
+        b"div" => Some(Operation::Two(TwoOp::WrappingDiv)),
+        b"shl" => Some(Operation::By(ByOp::WrappingShl)),
+        b"shr" => Some(Operation::By(ByOp::WrappingShr)),
+        _ => None,
+    }
+}
+
+/// The operation named by an `s` and the rest of a word.
+#[tactic(auto, unfolding(crate::specs::Operation::operation_named))]
+#[inline(always)]
+fn saturating_named(rest: &[u8]) -> Option<Operation>
+    ensures { result ≡ operation_named (codes "s" ++ rest.now) }
+{
+    match rest {
+        b"add" => Some(Operation::Two(TwoOp::SaturatingAdd)),
+        b"sub" => Some(Operation::Two(TwoOp::SaturatingSub)),
+        b"mul" => Some(Operation::Two(TwoOp::SaturatingMul)),
+        b"div" => Some(Operation::Two(TwoOp::SaturatingDiv)),
+        b"pow" => Some(Operation::By(ByOp::SaturatingPow)),
+        _ => None,
+    }
+}
+
+/// The operation named by a `c` and the rest of a word.
+#[tactic(auto, unfolding(crate::specs::Operation::operation_named))]
+#[inline(always)]
+fn checked_named(rest: &[u8]) -> Option<Operation>
+    ensures { result ≡ operation_named (codes "c" ++ rest.now) }
+{
+    match rest {
+        b"add" => Some(Operation::Two(TwoOp::CheckedAdd)),
+        b"sub" => Some(Operation::Two(TwoOp::CheckedSub)),
+        b"mul" => Some(Operation::Two(TwoOp::CheckedMul)),
+        b"div" => Some(Operation::Two(TwoOp::CheckedDiv)),
+        b"shl" => Some(Operation::By(ByOp::CheckedShl)),
+        b"shr" => Some(Operation::By(ByOp::CheckedShr)),
+        _ => None,
+    }
+}
+
+/// The operation that a word with another first letter names.
+#[tactic(auto, unfolding(crate::specs::Operation::operation_named))]
+#[inline(always)]
+fn other_named(word: &[u8]) -> Option<Operation>
+    requires { All (λ letter. get_or word.now 0 0 ≢ letter) (codes "wsc") }
+    ensures { result ≡ operation_named word.now }
+{
+    match word {
         b"and" => Some(Operation::Two(TwoOp::And)),
         b"or" => Some(Operation::Two(TwoOp::Or)),
         b"xor" => Some(Operation::Two(TwoOp::Xor)),
         b"not" => Some(Operation::One(OneOp::Not)),
         b"rev" => Some(Operation::One(OneOp::ReverseBits)),
         b"neg" => Some(Operation::One(OneOp::WrappingNeg)),
-        b"wshl" => Some(Operation::By(ByOp::WrappingShl)),
-        b"wshr" => Some(Operation::By(ByOp::WrappingShr)),
-        b"cshl" => Some(Operation::By(ByOp::CheckedShl)),
-        b"cshr" => Some(Operation::By(ByOp::CheckedShr)),
         b"rotl" => Some(Operation::By(ByOp::RotateLeft)),
         b"rotr" => Some(Operation::By(ByOp::RotateRight)),
-        b"spow" => Some(Operation::By(ByOp::SaturatingPow)),
         _ => None,
     }
 }
