@@ -11,8 +11,7 @@ use arbitrary_base::truncation::low_mask;
 use arbitrary_core::signed::Int;
 use arbitrary_widths::HasWidth;
 
-/// The number with these bits, of which at most the highest is one if they are not those of the greatest number: 0, or an
-/// end of the range.
+/// The number with these bits: 0, the least or the greatest number.
 const fn of_bits<T: SignedStorage, const BITS: usize, U: UnsignedOf<T>>(bits: U) -> Int<T, BITS, U>
     requires width { IsInRange 1 T.WIDTH BITS }
     requires low { pos 0 ≤ℤ U.number bits }
