@@ -49,7 +49,7 @@ FIGURES = [
     (r'ten functions takes (\d+) seconds', *source(MEASURED, r'its first check \| (\d+)')),
     (r'and (\d+) after an edit', *source(MEASURED, r'after an edit of one function \| (\d+)')),
     (r'or (\d+) processor\s+minutes', *source(MEASURED, r'minutes of that \| \d+ \| (\d+)')),
-    (r'in (\d+) more\s+minutes', *source(MEASURED, r'bitrun\.sh` after .*? \| (\d+)')),
+    (r'then takes (\d+) more', *source(MEASURED, r'bitrun\.sh` after .*? \| (\d+)')),
     (r'wrong bodies: (\d+) minutes', *source(MEASURED, r'test\.sh`, .*?\| (\d+) \|')),
     (r'took (\d+) minutes, and', *source(MEASURED, r'test\.sh`, .*?\| (\d+) \|')),
     (r'and (\d+) minutes of processor time', *source(MEASURED, r'test\.sh`, .*?\| \d+ \| (\d+)')),
